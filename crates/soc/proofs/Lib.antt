@@ -1,0 +1,3 @@
+pub mod FigureLaws
+pub mod PlaceLaws
+pub mod TestLaws

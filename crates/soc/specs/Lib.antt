@@ -1,0 +1,5 @@
+pub mod Limits
+pub mod Places
+pub mod Record
+pub mod Rules
+pub mod Planned
