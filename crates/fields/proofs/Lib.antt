@@ -1,8 +1,11 @@
+pub mod BackLaws
 pub mod CountLaws
 pub mod FieldLaws
+pub mod FormLaws
 pub mod LineLaws
 pub mod NameLaws
 pub mod NumberLaws
 pub mod ReaderLaws
+pub mod SizeLaws
 pub mod TestLaws
 pub mod WrittenLaws

@@ -3,3 +3,4 @@ pub mod Places
 pub mod Record
 pub mod Rules
 pub mod Planned
+pub mod Sized

@@ -1,0 +1,4 @@
+pub mod BoundLaws
+pub mod HeadLaws
+pub mod LevelLaws
+pub mod PartLaws

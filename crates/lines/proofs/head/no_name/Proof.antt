@@ -1,0 +1,12 @@
+-- `lines::head::no_name` meets its contract: the answer is written out. Assumes nothing.
+use mathlib.Core.Path.{refl}
+use Rattle.lines.specs.Answers.{nameAnswer}
+use Rattle.lines.proofs.head.no_name.Statement.{statement}
+use Rattle.lines.proofs.head.no_name.Tie as tie
+
+returns : tie.Need-returns
+unfolding nameAnswer
+returns c = refl
+
+pub no-name-spec : {M : Type 1} → statement M
+no-name-spec = tie.close (tie.spec returns)

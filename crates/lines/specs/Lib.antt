@@ -1,0 +1,4 @@
+pub mod Parts
+pub mod Kinds
+pub mod Answers
+pub mod Written
