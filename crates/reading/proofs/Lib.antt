@@ -1,0 +1,4 @@
+pub mod AnswerLaws
+pub mod StepLaws
+pub mod CountLaws
+pub mod ModulesLaws

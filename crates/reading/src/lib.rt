@@ -1,0 +1,9 @@
+// A SOC text read to its record, or to its first refusal (document 01, "The SOC text").
+mod block;
+mod head;
+mod place;
+mod read;
+
+pub use read::SocRead;
+pub use read::TEXT_MAX;
+pub use read::read_soc;

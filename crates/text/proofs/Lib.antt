@@ -1,0 +1,11 @@
+pub mod Acceptance
+pub mod Accepted
+pub mod Described
+pub mod GoodLaws
+pub mod LineBack
+pub mod LineOnly
+pub mod LineRefuses
+pub mod Refused
+pub mod RoundTrip
+pub mod TextLaws
+pub mod WrittenForm

@@ -1,0 +1,12 @@
+-- What it is to put bytes into a buffer at a place: they stand there, all else keeps its value, and the answer is the place behind them.
+use Prim.Native.Nat.{ℕ, _+_}
+use mathlib.Core.Path.{_≡_}
+use mathlib.Core.List.{List, _++_}
+use lib.ListN.{length, take, drop}
+
+unfoldable pub putAt : List ℕ → ℕ → List ℕ → List ℕ
+putAt w at buf = take at buf ++ w ++ drop (at + length w) buf
+
+pub record Put (w : List ℕ) (at : ℕ) (before after : List ℕ) (r : ℕ) : Type 0 where
+  pub behind : r ≡ at + length w
+  pub holds : after ≡ putAt w at before
