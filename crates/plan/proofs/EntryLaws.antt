@@ -1,0 +1,215 @@
+-- Laws of the planner's entry: the busy figures, the buses and the placed modules as loops fill them, and that what is made of the plan that the search
+-- finds over the tables is that plan's record. Assumes nothing.
+use Prim.Native.Nat.{ℕ, zero, suc, _+_, _-_, _≤_, _<_}
+use mathlib.Core.Path.{_≡_, refl, ap, _∙_}
+use mathlib.Core.Bool.{cond}
+use mathlib.Core.List.{List, [], _∷_, _++_}
+use native.Mathlib.Omega.{arith}
+use native.Mathlib.Nat.{add-zero, zero-add}
+use native.Mathlib.Numerals.{add-one}
+use lib.ListN.{length, getD, take, set}
+use lib.Seq.{take-suc, length-take-le}
+use lib.Dec.{eqb}
+use borrow.Author.Tests.{eq-eqb, ne-eqb}
+use Rattle.soc.specs.Limits.{modulesMax}
+use Rattle.soc.specs.Places.{padded}
+use Rattle.soc.specs.Planned.{plannedOf, plannedIs}
+use Rattle.soc.specs.declared.planned.Planned.{Planned}
+use Rattle.soc.specs.declared.record.Soc.{Soc}
+use Rattle.soc.proofs.PlaceLaws.{padded-take, padded-set}
+use Rattle.wrapper.specs.Answers.{wires, cycles}
+use Rattle.plans.specs.Plans.{Plan, IsPlan, sum, busyFrom, busies}
+use Rattle.plans.specs.Listed.{bestPlan}
+use Rattle.plans.proofs.Demand.{best-is}
+use Rattle.plan.specs.Search.{tableTime, foundOf}
+use Rattle.plan.specs.Answers.{limitMax, plannedMax, timeIn, noBus, noPlaced, busRecords, moduleRecords, bestFor, planRecord}
+use Rattle.plan.specs.Records.{IsFound, busesIs, placedAt, placedFrom, modulesIs}
+use Rattle.plan.specs.Tables.{TablesAre}
+use Rattle.plan.specs.declared.record.Bus.{Bus}
+use Rattle.plan.specs.declared.record.BusPlan.{BusPlan}
+use Rattle.plan.specs.declared.record.PlacedModule.{PlacedModule}
+use Rattle.plan.specs.declared.tables.Tables.{Tables}
+use Rattle.plan.specs.declared.widths.Found.{Found}
+use Rattle.plan.proofs.SearchLaws.{busy-append, length-busies}
+use Rattle.plan.proofs.TableLaws.{padded-at, table-time, table-wires, busies-same, time-same, best-same}
+
+-- an array is filled at the place behind those in use
+fill-step : {A : Type 0} (n : ℕ) (z v : A) (list xs : List A) (i : ℕ) → list ≡ padded n z xs → length xs ≡ i → i < n → set list i v ≡ padded n z (xs ++ v ∷ [])
+fill-step n z v list xs i e l h = rw (e, ← l) (padded-set n z v xs (omega arith))
+
+records-end : (ws bs : List ℕ) (w b : ℕ) → length bs ≡ length ws → busRecords (ws ++ w ∷ []) (bs ++ b ∷ []) ≡ busRecords ws bs ++ record { width = wires w; busy = cycles b } ∷ []
+unfolding busRecords
+records-end [] [] w b e = refl
+records-end [] (y ∷ bs) w b e = absurd (omega arith)
+records-end (x ∷ ws) [] w b e = absurd (omega arith)
+records-end (x ∷ ws) (y ∷ bs) w b e = rw (records-end ws bs w b (omega arith))
+
+pub length-records : (ws bs : List ℕ) → length bs ≡ length ws → length (busRecords ws bs) ≡ length ws
+unfolding busRecords
+length-records [] bs e = refl
+length-records (x ∷ ws) [] e = absurd (omega arith)
+length-records (x ∷ ws) (y ∷ bs) e = ap suc (length-records ws bs (omega arith))
+
+module _ (time : ℕ → ℕ → ℕ) where
+  pub busy-none : (b w : ℕ) (bs : List ℕ) → 0 ≡ busyFrom time 0 b w (take 0 bs)
+  unfolding busyFrom
+  busy-none b w bs = refl
+
+  -- one module more
+  busy-step : (b w : ℕ) (bs : List ℕ) (i : ℕ) → i < length bs → busyFrom time 0 b w (take (i + 1) bs) ≡ busyFrom time 0 b w (take i bs) + cond (eqb (getD bs i 0) b) (time i w) 0
+  unfolding busyFrom
+  busy-step b w bs i h =
+      let k : length (take i bs) ≡ i = length-take-le i bs (omega arith) in
+      rw (add-one, take-suc bs i 0 h, busy-append time 0 b w (take i bs) (getD bs i 0 ∷ []), k, zero-add i) (omega arith)
+
+  pub busy-here : (b w : ℕ) (bs : List ℕ) (i : ℕ) → i < length bs → getD bs i 0 ≡ b → busyFrom time 0 b w (take (i + 1) bs) ≡ busyFrom time 0 b w (take i bs) + time i w
+  busy-here b w bs i h e = rw (busy-step b w bs i h, eq-eqb (getD bs i 0) b e)
+
+  pub busy-else : (b w : ℕ) (bs : List ℕ) (i : ℕ) → i < length bs → (getD bs i 0 ≡ b → ⊥) → busyFrom time 0 b w (take (i + 1) bs) ≡ busyFrom time 0 b w (take i bs)
+  busy-else b w bs i h e = rw (busy-step b w bs i h, ne-eqb (getD bs i 0) b e, add-zero)
+
+  -- one bus more
+  busies-end : (bs : List ℕ) (k w : ℕ) (ws : List ℕ) → busies time bs k (ws ++ w ∷ []) ≡ busies time bs k ws ++ busyFrom time 0 (k + length ws) w bs ∷ []
+  unfolding busies
+  busies-end bs k w [] = let e : k + 0 ≡ k = omega arith in rw e
+  busies-end bs k w (v ∷ ws) = let e : k + suc (length ws) ≡ suc k + length ws = omega arith in rw (e, busies-end bs (suc k) w ws)
+
+  -- the records of the first b buses
+  unfoldable pub busFront : List ℕ → List ℕ → ℕ → List Bus
+  busFront bs ws b = busRecords (take b ws) (busies time bs 1 (take b ws))
+
+  front-length : (bs ws : List ℕ) (b : ℕ) → b ≤ length ws → length (busFront bs ws b) ≡ b
+  unfolding busFront
+  front-length bs ws b h = length-records (take b ws) (busies time bs 1 (take b ws)) (length-busies time 1 (take b ws) bs) ∙ length-take-le b ws h
+
+  pub front-none : (bs ws : List ℕ) → busFront bs ws 0 ≡ []
+  unfolding busFront busRecords
+  front-none bs ws = refl
+
+  front-step : (bs ws : List ℕ) (b : ℕ) → b < length ws
+      → busFront bs ws (b + 1) ≡ busFront bs ws b ++ record { width = wires (getD ws b 0); busy = cycles (busyFrom time 0 (b + 1) (getD ws b 0) bs) } ∷ []
+  unfolding busFront
+  front-step bs ws b h =
+      let k : 1 + length (take b ws) ≡ b + 1 = omega (arith, length-take-le b ws (omega arith)) in
+      let e : take (b + 1) ws ≡ take b ws ++ getD ws b 0 ∷ [] = rw add-one (take-suc ws b 0 h) in
+      rw (e, busies-end bs 1 (getD ws b 0) (take b ws), k)
+      (records-end (take b ws) (busies time bs 1 (take b ws)) (getD ws b 0) (busyFrom time 0 (b + 1) (getD ws b 0) bs) (length-busies time 1 (take b ws) bs))
+
+  pub front-fill : (bs ws : List ℕ) (b : ℕ) (list : List Bus) → b < length ws → b < limitMax → list ≡ padded limitMax noBus (busFront bs ws b)
+      → set list b (record { width = wires (getD ws b 0); busy = cycles (busyFrom time 0 (b + 1) (getD ws b 0) bs) }) ≡ padded limitMax noBus (busFront bs ws (b + 1))
+  front-fill bs ws b list h k e = rw (front-step bs ws b h) (fill-step limitMax noBus _ list (busFront bs ws b) b e (front-length bs ws b (omega arith)) k)
+
+  pub front-all : (f : Found) (n : ℕ) → padded limitMax noBus (busFront (take n (f .buses)) (f .widths) (f .count)) ≡ busesIs time f n
+  unfolding busFront busesIs
+  front-all f n = refl
+
+module _ (p : Planned) (t : Tables) (f : Found) where
+  placed-end : (i : ℕ) (bs : List ℕ) (b : ℕ) → placedFrom p t f i (bs ++ b ∷ []) ≡ placedFrom p t f i bs ++ placedAt p t f (i + length bs) b ∷ []
+  unfolding placedFrom
+  placed-end i [] b = let e : i + 0 ≡ i = omega arith in rw e
+  placed-end i (x ∷ bs) b = let e : i + suc (length bs) ≡ suc i + length bs = omega arith in rw (e, placed-end (suc i) bs b)
+
+  length-placed : (i : ℕ) (bs : List ℕ) → length (placedFrom p t f i bs) ≡ length bs
+  unfolding placedFrom
+  length-placed i [] = refl
+  length-placed i (x ∷ bs) = ap suc (length-placed (suc i) bs)
+
+  placed-length : (i : ℕ) → i ≤ length (f .buses) → length (placedFrom p t f 0 (take i (f .buses))) ≡ i
+  placed-length i h = length-placed 0 (take i (f .buses)) ∙ length-take-le i (f .buses) h
+
+  pub placed-none : placedFrom p t f 0 (take 0 (f .buses)) ≡ []
+  unfolding placedFrom
+  placed-none = refl
+
+  placed-step : (i : ℕ) → i < length (f .buses)
+      → placedFrom p t f 0 (take (i + 1) (f .buses)) ≡ placedFrom p t f 0 (take i (f .buses)) ++ placedAt p t f i (getD (f .buses) i 0) ∷ []
+  placed-step i h =
+      let k : 0 + length (take i (f .buses)) ≡ i = omega (arith, length-take-le i (f .buses) (omega arith)) in
+      let e : take (i + 1) (f .buses) ≡ take i (f .buses) ++ getD (f .buses) i 0 ∷ [] = rw add-one (take-suc (f .buses) i 0 h) in
+      rw (e, placed-end 0 (take i (f .buses)) (getD (f .buses) i 0), k)
+
+  pub placed-fill : (i : ℕ) (list : List PlacedModule) → i < length (f .buses) → i < plannedMax → list ≡ padded plannedMax noPlaced (placedFrom p t f 0 (take i (f .buses)))
+      → set list i (placedAt p t f i (getD (f .buses) i 0)) ≡ padded plannedMax noPlaced (placedFrom p t f 0 (take (i + 1) (f .buses)))
+  placed-fill i list h k e = rw (placed-step i h) (fill-step plannedMax noPlaced _ list (placedFrom p t f 0 (take i (f .buses))) i e (placed-length i (omega arith)) k)
+
+  pub placed-all : padded plannedMax noPlaced (placedFrom p t f 0 (take (p .count) (f .buses))) ≡ modulesIs p t f
+  unfolding modulesIs
+  placed-all = refl
+
+width-most : (ws : List ℕ) (i : ℕ) → getD ws i 0 ≤ sum ws
+unfolding sum
+width-most [] i = omega arith
+width-most (w ∷ ws) zero = omega arith
+width-most (w ∷ ws) (suc i) = omega (arith, width-most ws i)
+
+module _ {W B n : ℕ} {p : Plan} (r : IsPlan W B n p) where
+  width-in : (j : ℕ) → j < length (p .widths) → (1 ≤ getD (p .widths) j 0) × (getD (p .widths) j 0 ≤ W)
+  width-in j h = (r .wide j h, omega (arith, width-most (p .widths) j, r .wires))
+
+  -- what was found keeps the limits of a plan
+  found-is : (time : ℕ → ℕ → ℕ) → W ≤ 64 → B ≤ 3 → IsFound (foundOf time p) n
+  found-is time h k = record {
+    few = omega (arith, r .limit);
+    wide = λ b l. rw (padded-at 3 0 (p .widths) b) (width-in b l .0, omega (arith, width-in b l .1));
+    placed = λ i l. rw (padded-at 12 0 (p .buses) i) (r .low i l, r .high i l);
+  }
+
+  module _ {s : Soc} {t : Tables} (a : TablesAre s W n t) (narrow : W ≤ 64) where
+    buses-are : busesIs (tableTime (t .cycles)) (foundOf (tableTime (t .cycles)) p) n ≡ padded limitMax noBus (busRecords (p .widths) (busies (timeIn s) (p .buses) 1 (p .widths)))
+    unfolding busesIs
+    buses-are =
+        let e : take n (padded 12 0 (p .buses)) ≡ p .buses = rw (← r .placed) (padded-take 12 0 (p .buses)) in
+        rw (padded-take 3 0 (p .widths), e, busies-same (λ i w h k l. table-time a i w h k l narrow) r)
+
+    modules-from : (time : ℕ → ℕ → ℕ) (i : ℕ) (bs : List ℕ) → i + length bs ≤ n → ((j : ℕ) → j < length bs → (1 ≤ getD bs j 0) × (getD bs j 0 ≤ length (p .widths)))
+        → placedFrom (plannedIs (plannedOf s)) t (foundOf time p) i bs ≡ moduleRecords s (p .widths) i bs
+    unfolding placedFrom moduleRecords
+    modules-from time i [] h q = refl
+    modules-from time i (b ∷ bs) h q =
+        let m = q 0 (omega arith) in
+        let l : b - 1 < length (p .widths) = omega arith in
+        let v = width-in (b - 1) l in
+        let k : i < n = omega arith in
+        rw (
+          padded-at modulesMax 0 (plannedOf s) i,
+          padded-at 3 0 (p .widths) (b - 1),
+          table-time a i (getD (p .widths) (b - 1) 0) k (v .0) (v .1) narrow,
+          table-wires a i (getD (p .widths) (b - 1) 0) k (v .0) (v .1) narrow,
+          modules-from time (suc i) bs (omega arith) (λ j g. q (suc j) (omega arith)),
+        )
+
+    modules-are : (time : ℕ → ℕ → ℕ) → n ≡ length (plannedOf s) → modulesIs (plannedIs (plannedOf s)) t (foundOf time p) ≡ padded plannedMax noPlaced (moduleRecords s (p .widths) 0 (p .buses))
+    unfolding modulesIs
+    modules-are time count =
+        let e : take (length (plannedOf s)) (padded 12 0 (p .buses)) ≡ p .buses = rw (← count, ← r .placed) (padded-take 12 0 (p .buses)) in
+        rw (e, modules-from time 0 (p .buses) (omega (arith, r .placed)) (λ j g. (r .low j (omega (arith, r .placed)), r .high j (omega (arith, r .placed)))))
+
+-- the plan that the search finds over the tables of the planned modules
+module _ {s : Soc} {W B : ℕ} {t : Tables} {p : Planned} {f : Found}
+    (a : TablesAre s W (length (plannedOf s)) t) (numbers : p ≡ plannedIs (plannedOf s))
+    (found : f ≡ foundOf (tableTime (t .cycles)) (bestPlan (tableTime (t .cycles)) W B (p .count)))
+    (some : 1 ≤ W) (narrow : W ≤ 64) (limit : 1 ≤ B) (few : B ≤ 3) where
+  count-is : p .count ≡ length (plannedOf s)
+  count-is = ap (λ x. x .count) numbers
+
+  same : (i w : ℕ) → i < length (plannedOf s) → 1 ≤ w → w ≤ W → tableTime (t .cycles) i w ≡ timeIn s i w
+  same i w h k l = table-time a i w h k l narrow
+
+  best-plan : IsPlan W B (length (plannedOf s)) (bestFor s W B)
+  unfolding bestFor
+  best-plan = best-is (timeIn s) W B (length (plannedOf s)) some limit
+
+  found-best : f ≡ foundOf (tableTime (t .cycles)) (bestFor s W B)
+  unfolding bestFor
+  found-best = found ∙ rw (count-is, best-same same B)
+
+  pub found-fits : IsFound f (p .count)
+  found-fits = rw (found-best, count-is) (found-is best-plan (tableTime (t .cycles)) narrow few)
+
+  pub record-is : {buses : List Bus} {modules : List PlacedModule} → buses ≡ busesIs (tableTime (t .cycles)) f (p .count) → modules ≡ modulesIs p t f
+      → _≡_ {A = BusPlan}
+      (record { wires = wires W; limit = B; «bus_count» = f .count; buses = buses; «module_count» = p .count; modules = modules; time = cycles (f .time) })
+      (planRecord s W B (bestFor s W B))
+  unfolding planRecord
+  record-is u v =
+      rw (u, v, found-best, numbers, buses-are best-plan a narrow, modules-are best-plan a narrow (tableTime (t .cycles)) refl, time-same same best-plan)

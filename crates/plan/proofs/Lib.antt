@@ -1,0 +1,9 @@
+pub mod SearchLaws
+pub mod PlaceLaws
+pub mod KeepLaws
+pub mod WidthLaws
+pub mod OverLaws
+pub mod SoughtLaws
+pub mod TableLaws
+pub mod EntryLaws
+pub mod PlanDemand

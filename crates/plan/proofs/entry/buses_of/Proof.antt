@@ -1,0 +1,100 @@
+-- `plan::entry::buses_of` meets its contract. The loop's invariant: the list holds the records of the first b buses, and behind them no bus. The measure
+-- is what is left of the buses. Assumes nothing.
+use borrow.Author.Needs.{needs}
+use native.Mathlib.Omega.{arith}
+use Prim.Native.Nat.{_-_, _≤_, _<_}
+use mathlib.Core.Path.{_≡_, sym, _∙_}
+use lib.ListN.{length, take}
+use Rattle.soc.specs.Places.{padded}
+use Rattle.soc.proofs.PlaceLaws.{padded-none}
+use Rattle.plan.specs.Search.{tableTime}
+use Rattle.plan.specs.Answers.{limitMax, noBus}
+use Rattle.plan.proofs.EntryLaws.{busFront, front-none, front-fill, front-all}
+use Rattle.plan.proofs.entry.buses_of.Statement.{statement}
+use Rattle.plan.proofs.entry.buses_of.Tie as tie
+
+abbrev Inv-loop : tie.InvT-loop
+Inv-loop table n f list₀ b₀ list b = (b ≤ f .count) × (list ≡ padded limitMax noBus (busFront (tableTime table) (take n (f .buses)) (f .widths) b))
+
+abbrev μ-loop : tie.MeasureT-loop
+μ-loop table n f list₀ b₀ list b = f .count - b
+
+len : (c : tie.Start Inv-loop μ-loop) → length (c .args .t2 .widths) ≡ 3
+len c = search needs
+
+no-bus-requires : tie.Need-no-bus-requires Inv-loop μ-loop
+no-bus-requires c κs = search needs
+
+loop-holds : tie.Need-loop-holds Inv-loop μ-loop
+loop-holds c = (omega arith, rw (c .no-bus .ensures, front-none (tableTime (c .before .before .args .table .now)) (take (c .before .before .args .n) (c .before .before .args .t2 .buses)) (c .before .before .args .t2 .widths)) (sym (padded-none limitMax noBus)))
+
+mul-w : tie.Need-mul-w Inv-loop μ-loop
+mul-w c = search needs
+
+element-copy-out-w : tie.Need-element-copy-out-w Inv-loop μ-loop
+element-copy-out-w c = search needs
+
+cast-t15 : tie.Need-cast-t15 Inv-loop μ-loop
+cast-t15 c =
+    let s = c .before .before .before .before .before .before in
+    omega (arith, s .pre .2 .wide (c .before .before .before .loop .b) (c .before .before .loop-test .taken) .1)
+
+add-busy-of : tie.Need-add-busy-of Inv-loop μ-loop
+add-busy-of c = search needs
+
+busy-of-requires : tie.Need-busy-of-requires Inv-loop μ-loop
+busy-of-requires c κs =
+    let s = c .before .before .before .before .before .before in
+    let w = s .pre .2 .wide (c .before .before .before .loop .b) (c .before .before .loop-test .taken) in
+    (s .pre .0, s .pre .1, w .0, w .1)
+
+mul-list : tie.Need-mul-list Inv-loop μ-loop
+mul-list c = search needs
+
+array-set-from-list : tie.Need-array-set-from-list Inv-loop μ-loop
+array-set-from-list c = search needs
+
+add-b : tie.Need-add-b Inv-loop μ-loop
+add-b c = search needs
+
+loop-less : tie.Need-loop-less Inv-loop μ-loop
+loop-less c = search needs
+
+loop-again : tie.Need-loop-again Inv-loop μ-loop
+loop-again c =
+    let l = c .before .before .before .before in
+    let s = l .before .before .before in
+    let b = l .loop .b in
+    let f = s .args .t2 in
+    let h : b < f .count = c .before .before .before .loop-test .taken in
+    let m : b < length (f .widths) = omega (arith, len s, s .pre .2 .few) in (
+      omega arith,
+      rw (c .busy-of .ensures) (front-fill (tableTime (s .args .table .now)) (take (s .args .n) (f .buses)) (f .widths) b (l .loop .list) m (omega (arith, s .pre .2 .few)) (l .loop .inv .1)),
+    )
+
+returns : tie.Need-returns Inv-loop μ-loop
+returns c =
+    let l = c .before .loop in
+    let s = c .before .before .before .before in
+    let e : l .b ≡ s .args .t2 .count = omega (arith, l .inv .0, c .loop-test .left) in
+    l .inv .1 ∙ rw e (front-all (tableTime (s .args .table .now)) (s .args .t2) (s .args .n))
+
+pub buses-of-spec : {M : Type 1} → statement M
+buses-of-spec =
+    tie.close
+    (tie.spec
+    Inv-loop
+    μ-loop
+    no-bus-requires
+    loop-holds
+    mul-w
+    element-copy-out-w
+    cast-t15
+    add-busy-of
+    busy-of-requires
+    mul-list
+    array-set-from-list
+    add-b
+    loop-less
+    loop-again
+    returns)

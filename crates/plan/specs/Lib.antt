@@ -1,0 +1,4 @@
+pub mod Search
+pub mod Answers
+pub mod Tables
+pub mod Records

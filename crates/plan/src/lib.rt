@@ -1,0 +1,12 @@
+// The first planner (document 01, "The plan"): the first plan of least time.
+mod entry;
+mod place;
+mod record;
+mod tables;
+mod widths;
+
+pub use entry::plan;
+pub use record::Bus;
+pub use record::BusPlan;
+pub use record::PlacedModule;
+pub use record::PlanAnswer;

@@ -1,0 +1,314 @@
+-- Laws of a wrapper's layout: every internal chain that the test uses lies in one wrapper chain, the flip-flops of a wrapper chain are the sum of
+-- its internal chains, the cells of all wrapper chains sum to the module's terminals, and the longest scan-in and scan-out are the layout's
+-- longest chains with their cells. Assumes nothing.
+use Prim.Native.Nat.{ℕ, zero, suc, _+_, _-_, _≤_, _<_}
+use mathlib.Core.Path.{_≡_, refl, ap, sym, _∙_}
+use mathlib.Core.Bool.{Bool, true, false, cond}
+use mathlib.Core.List.{List, [], _∷_, _++_, map}
+use native.Mathlib.Omega.{arith}
+use lib.Dec.{eqb, eqb·zero-suc}
+use lib.ListN.{length, getD, drop, set, replicate, length-set, length-take, length-map, length-replicate, List·getD-map, List·getD-eq-default}
+use lib.Seq.{drop-cons, getD-set-same, getD-set-other}
+use borrow.Author.Tests.{eqb-true, eqb-false}
+use Rattle.units.specs.declared.FlipFlops.{FlipFlops}
+use Rattle.soc.specs.Limits.{chainsMax}
+use Rattle.soc.specs.Places.{padded}
+use Rattle.soc.specs.Record.{chainsOf, flipFlops}
+use Rattle.soc.specs.declared.record.Module.{Module}
+use Rattle.wrapper.specs.Fit.{longest, goes, placed, withCells, longestAfter}
+use Rattle.wrapper.specs.Chains.{numberedFrom, ordered, usedChains, Threaded, thread, empty, threaded}
+use Rattle.wrapper.specs.Times.{inputCells, outputCells, scanIn, scanOut}
+use Rattle.wrapper.specs.Answers.{widthMax, gained, layoutOf}
+use Rattle.wrapper.specs.declared.chains.Chain.{Chain}
+use Rattle.wrapper.proofs.FitLaws.{goes-below, placed-length, cells-length, cells-grow, total, total-cells}
+use Rattle.wrapper.proofs.ChainLaws.{Each, withOne, thread-length, thread-places-length}
+use Rattle.wrapper.proofs.ChainOrder.{sumOver, ordered-sum, times, times-here, times-other, times-behind, ordered-once, ordered-none, ordered-few, IsChain, ordered-each-is}
+
+-- where one chain goes
+module _ (c : Chain) (t : Threaded) (j : ℕ) where
+  one-here : c .number ≡ j → j < length (t .places) → getD (withOne c t .places) j 0 ≡ suc (goes (c .length) (t .lengths))
+  one-here e h = rw e (getD-set-same (t .places) j (suc (goes (c .length) (t .lengths))) 0 h)
+
+  one-other : (c .number ≡ j → ⊥) → getD (withOne c t .places) j 0 ≡ getD (t .places) j 0
+  one-other n = getD-set-other (t .places) (c .number) j (suc (goes (c .length) (t .lengths))) 0 (λ e. n (sym e))
+
+-- a wrapper chain from 1 to k
+abbrev Within : ℕ → ℕ → Type 0
+Within k p = (1 ≤ p) × (p ≤ k)
+
+-- an internal chain that is not taken stays where it is
+thread-keeps : (j : ℕ) (cs : List Chain) (t : Threaded) → times j cs ≡ 0 → getD (thread cs t .places) j 0 ≡ getD (t .places) j 0
+unfolding thread
+thread-keeps j [] t e = refl
+thread-keeps j (c ∷ cs) t e =
+    let n : (c .number ≡ j → ⊥) = λ q. omega (arith, times-here j c cs q) in
+    thread-keeps j cs (withOne c t) (sym (times-other j c cs n) ∙ e) ∙ one-other c t j n
+
+module _ (k : ℕ) (pos : 1 ≤ k) (j : ℕ) where
+  one-within : (c : Chain) (t : Threaded) → length (t .lengths) ≡ k → j < length (t .places) → c .number ≡ j → Within k (getD (withOne c t .places) j 0)
+  one-within c t e h q =
+      rw (one-here c t j q h) (omega arith, omega (arith, goes-below (c .length) (t .lengths) (omega arith)))
+
+  -- one that has a place has one after more are taken
+  thread-stays : (cs : List Chain) (t : Threaded) → length (t .lengths) ≡ k → j < length (t .places) → Within k (getD (t .places) j 0) → Within k (getD (thread cs t .places) j 0)
+  unfolding thread
+  thread-stays [] t e h w = w
+  thread-stays (c ∷ cs) t e h w =
+      thread-stays cs (withOne c t) (placed-length (c .length) (t .lengths) ∙ e) (rw (length-set (t .places) (c .number) (suc (goes (c .length) (t .lengths)))) h)
+      (go (eqb (c .number) j) refl)
+    where
+      go : (b : Bool) → eqb (c .number) j ≡ b → Within k (getD (withOne c t .places) j 0)
+      go true q = one-within c t e h (eqb-true (c .number) j q)
+      go false q = rw (one-other c t j (eqb-false (c .number) j q)) w
+
+  -- one that is taken gets a place
+  thread-gets : (cs : List Chain) (t : Threaded) → length (t .lengths) ≡ k → j < length (t .places) → 1 ≤ times j cs → Within k (getD (thread cs t .places) j 0)
+  unfolding thread times sumOver
+  thread-gets [] t e h w = absurd (omega arith)
+  thread-gets (c ∷ cs) t e h w =
+      go (eqb (c .number) j) refl (thread-gets cs (withOne c t) l p)
+    where
+      l : length (withOne c t .lengths) ≡ k
+      l = placed-length (c .length) (t .lengths) ∙ e
+
+      p : j < length (withOne c t .places)
+      p = rw (length-set (t .places) (c .number) (suc (goes (c .length) (t .lengths)))) h
+
+      go : (b : Bool) → eqb (c .number) j ≡ b → (1 ≤ times j cs → Within k (getD (thread cs (withOne c t) .places) j 0)) → Within k (getD (thread cs (withOne c t) .places) j 0)
+      go true q f = thread-stays cs (withOne c t) l p (one-within c t e h (eqb-true (c .number) j q))
+      go false q f = f (omega (arith, times-other j c cs (eqb-false (c .number) j q)))
+
+zeros-at : (n j : ℕ) → getD {A = ℕ} (replicate n 0) j 0 ≡ 0
+zeros-at zero j = refl
+zeros-at (suc n) zero = refl
+zeros-at (suc n) (suc j) = zeros-at n j
+
+module _ (d : Module) (sized : length (d .chains) ≡ chainsMax) (few : d .«chain_count» ≤ chainsMax) where
+  used-count : length (chainsOf d) ≡ d .«chain_count»
+  used-count = length-take (d .«chain_count») (d .chains) ∙ omega arith
+
+  -- "Every internal chain that the test uses lies in exactly one wrapper chain from 1 to k"
+  pub in-one-chain : (k : ℕ) → 1 ≤ k → (j : ℕ) → j < d .«chain_count» → (1 ≤ getD (threaded d true k .places) j 0) × (getD (threaded d true k .places) j 0 ≤ k)
+  unfolding threaded usedChains
+  in-one-chain k pos j h =
+      thread-gets k pos j (ordered (numberedFrom 0 (chainsOf d))) (empty k) (length-replicate {A = ℕ} k 0) (omega arith)
+      (omega (arith, used-count, ordered-once j (chainsOf d) (omega (arith, used-count))))
+
+-- entries past the chains, and those of chains that the test does not use, are 0
+pub in-no-chain : (d : Module) (k j : ℕ) → d .«chain_count» ≤ j → getD (threaded d true k .places) j 0 ≡ 0
+unfolding threaded usedChains
+in-no-chain d k j h =
+    thread-keeps j (ordered (numberedFrom 0 (chainsOf d))) (empty k)
+    (ordered-none j (chainsOf d) (omega (arith, length-take (d .«chain_count») (d .chains))))
+    ∙ zeros-at chainsMax j
+
+pub unused : (d : Module) (k j : ℕ) → getD (threaded d false k .places) j 0 ≡ 0
+unfolding threaded usedChains thread
+unused d k j = zeros-at chainsMax j
+
+-- the lengths of the internal chains that lie in wrapper chain i
+unfoldable pub lengthsIn : ℕ → List ℕ → List FlipFlops → ℕ
+lengthsIn i ps [] = 0
+lengthsIn i [] (f ∷ fs) = 0
+lengthsIn i (p ∷ ps) (f ∷ fs) = cond (eqb p i) (f .0 + lengthsIn i ps fs) (lengthsIn i ps fs)
+
+-- the length of chain c, where it lies in wrapper chain i
+abbrev lengthIn : ℕ → List ℕ → Chain → ℕ
+lengthIn i ps c = cond (eqb (getD ps (c .number) 0) i) (c .length) 0
+
+placed-at : (n : ℕ) (l : List ℕ) (i : ℕ) → 0 < length l → getD (placed n l) i 0 ≡ getD l i 0 + cond (eqb (suc (goes n l)) (suc i)) n 0
+unfolding placed
+placed-at n l i h = go (eqb (suc (goes n l)) (suc i)) refl
+  where
+    go : (b : Bool) → eqb (suc (goes n l)) (suc i) ≡ b → getD (set l (goes n l) (getD l (goes n l) 0 + n)) i 0 ≡ getD l i 0 + cond b n 0
+    go true q =
+        let e : goes n l ≡ i = omega (arith, eqb-true (suc (goes n l)) (suc i) q) in
+        rw (← e) (getD-set-same l (goes n l) (getD l (goes n l) 0 + n) 0 (goes-below n l h))
+    go false q =
+        let e : (i ≡ goes n l → ⊥) = λ r. eqb-false (suc (goes n l)) (suc i) q (ap suc (sym r)) in
+        omega (arith, getD-set-other l (goes n l) i (getD l (goes n l) 0 + n) 0 e)
+
+-- a wrapper chain grows by the chains that lie in it at the end
+thread-sum : (n i : ℕ) (cs : List Chain) (t : Threaded) → 0 < length (t .lengths) → length (t .places) ≡ n → Each (λ c. c .number < n) cs → ((m : ℕ) → times m cs ≤ 1) → getD (thread cs t .lengths) i 0 ≡ getD (t .lengths) i 0 + sumOver (lengthIn (suc i) (thread cs t .places)) cs
+unfolding thread sumOver
+thread-sum n i [] t h e w o = omega arith
+thread-sum n i (c ∷ cs) t h e w o =
+    let u : times (c .number) cs ≡ 0 = omega (arith, o (c .number), times-here (c .number) c cs refl) in
+    let at = thread-keeps (c .number) cs (withOne c t) u ∙ one-here c t (c .number) refl (omega (arith, w .0)) in
+    let l : 0 < length (placed (c .length) (t .lengths)) = rw (placed-length (c .length) (t .lengths)) h in
+    let p = length-set (t .places) (c .number) (suc (goes (c .length) (t .lengths))) ∙ e in
+    let r = thread-sum n i cs (withOne c t) l p (w .1) (λ m. omega (arith, o m, times-behind m c cs)) in
+    rw at (omega (arith, r, placed-at (c .length) (t .lengths) i h))
+
+-- the same sum over the chains in file order
+sum-numbered : (i : ℕ) (ps : List ℕ) (s : ℕ) (fs : List FlipFlops) → s + length fs ≤ length ps → sumOver (lengthIn i ps) (numberedFrom s fs) ≡ lengthsIn i (drop s ps) fs
+unfolding numberedFrom sumOver lengthsIn
+sum-numbered i ps s [] h = refl
+sum-numbered i ps s (f ∷ fs) h =
+    rw (drop-cons ps s 0 (omega arith)) (go (eqb (getD ps s 0) i) (sum-numbered i ps (suc s) fs (omega arith)))
+  where
+    go : (b : Bool) → sumOver (lengthIn i ps) (numberedFrom (suc s) fs) ≡ lengthsIn i (drop (suc s) ps) fs → cond b (f .0) 0 + sumOver (lengthIn i ps) (numberedFrom (suc s) fs) ≡ cond b (f .0 + lengthsIn i (drop (suc s) ps) fs) (lengthsIn i (drop (suc s) ps) fs)
+    go true e = omega arith
+    go false e = omega arith
+
+each-also : {A : Type 0} (P Q : A → Type 0) → ((x : A) → P x → Q x) → (xs : List A) → Each P xs → Each Q xs
+each-also P Q f [] e = tt
+each-also P Q f (x ∷ xs) e = (f x (e .0), each-also P Q f xs (e .1))
+
+none-in : (i n : ℕ) (fs : List FlipFlops) → lengthsIn (suc i) (replicate n 0) fs ≡ 0
+unfolding lengthsIn
+none-in i zero [] = refl
+none-in i zero (f ∷ fs) = refl
+none-in i (suc n) [] = refl
+none-in i (suc n) (f ∷ fs) = rw (eqb·zero-suc i) (none-in i n fs)
+
+-- k wrapper chains and n places, all of them 0
+abbrev zeros : ℕ → ℕ → Threaded
+zeros k n = record { lengths = replicate k 0; places = replicate n 0 }
+
+zeros-sum : (k n i : ℕ) (fs : List FlipFlops) → 1 ≤ k → length fs ≤ n → getD (thread (ordered (numberedFrom 0 fs)) (zeros k n) .lengths) i 0 ≡ lengthsIn (suc i) (thread (ordered (numberedFrom 0 fs)) (zeros k n) .places) fs
+zeros-sum k n i fs pos few =
+    let cs : List Chain = ordered (numberedFrom 0 fs) in
+    let ps : List ℕ = thread cs (zeros k n) .places in
+    let e : length (replicate {A = ℕ} k 0) ≡ k = length-replicate k 0 in
+    let p : length (replicate {A = ℕ} n 0) ≡ n = length-replicate n 0 in
+    let z : getD {A = ℕ} (replicate k 0) i 0 ≡ 0 = zeros-at k i in
+    let w : Each (λ c. c .number < n) cs = each-also (IsChain fs) (λ c. c .number < n) (λ c q. omega (arith, q .0)) cs (ordered-each-is fs) in
+    let a = thread-sum n i cs (zeros k n) (omega arith) p w (λ m. ordered-few m fs) in
+    let b = sum-numbered (suc i) ps 0 fs (omega (arith, thread-places-length cs (zeros k n))) in
+    omega (arith, a, b, ordered-sum (lengthIn (suc i) ps) (numberedFrom 0 fs))
+
+-- "flip-flops of a wrapper chain are the sum of its internal chains"
+pub flip-flops-sum : (d : Module) → length (d .chains) ≡ chainsMax → (scan : Bool) (k : ℕ) → 1 ≤ k → (i : ℕ) → getD (threaded d scan k .lengths) i 0 ≡ lengthsIn (suc i) (threaded d scan k .places) (chainsOf d)
+unfolding threaded usedChains thread
+flip-flops-sum d sized true k pos i = zeros-sum k chainsMax i (chainsOf d) pos (omega (arith, length-take (d .«chain_count») (d .chains)))
+flip-flops-sum d sized false k pos i = zeros-at k i ∙ sym (none-in i chainsMax (chainsOf d))
+
+-- what lengths gained, where each only grew
+gained-length : (xs ys : List ℕ) → length xs ≡ length ys → length (gained xs ys) ≡ length xs
+unfolding gained
+gained-length [] ys e = refl
+gained-length (x ∷ xs) [] e = absurd (omega arith)
+gained-length (x ∷ xs) (y ∷ ys) e = ap suc (gained-length xs ys (omega arith))
+
+gained-add : (xs ys : List ℕ) (i : ℕ) → length xs ≡ length ys → getD xs i 0 ≤ getD ys i 0 → getD xs i 0 + getD (gained xs ys) i 0 ≡ getD ys i 0
+unfolding gained
+gained-add [] [] i e h = omega arith
+gained-add [] (y ∷ ys) i e h = absurd (omega arith)
+gained-add (x ∷ xs) [] i e h = absurd (omega arith)
+gained-add (x ∷ xs) (y ∷ ys) zero e h = omega arith
+gained-add (x ∷ xs) (y ∷ ys) (suc i) e h = gained-add xs ys i (omega arith) h
+
+gained-total : (xs ys : List ℕ) → length xs ≡ length ys → ((i : ℕ) → getD xs i 0 ≤ getD ys i 0) → total xs + total (gained xs ys) ≡ total ys
+unfolding gained total
+gained-total [] [] e h = omega arith
+gained-total [] (y ∷ ys) e h = absurd (omega arith)
+gained-total (x ∷ xs) [] e h = absurd (omega arith)
+gained-total (x ∷ xs) (y ∷ ys) e h = omega (arith, h 0, gained-total xs ys (omega arith) (λ i. h (suc i)))
+
+pub cells-add : (n : ℕ) (l : List ℕ) (i : ℕ) → getD l i 0 + getD (gained l (withCells n l)) i 0 ≡ getD (withCells n l) i 0
+cells-add n l i = gained-add l (withCells n l) i (sym (cells-length n l)) (cells-grow n l i)
+
+pub cells-sum : (n : ℕ) (l : List ℕ) → 0 < length l → total (gained l (withCells n l)) ≡ n
+cells-sum n l h = omega (arith, gained-total l (withCells n l) (sym (cells-length n l)) (λ i. cells-grow n l i), total-cells n l h)
+
+total-zeros : (l : List ℕ) (m : ℕ) → total (l ++ replicate m 0) ≡ total l
+unfolding total
+total-zeros [] zero = refl
+total-zeros [] (suc m) = omega (arith, total-zeros [] m)
+total-zeros (x ∷ l) m = ap (λ n. x + n) (total-zeros l m)
+
+total-padded : (n : ℕ) (l : List ℕ) → total (padded n 0 l) ≡ total l
+unfolding padded
+total-padded n l = total-zeros l (n - length l)
+
+threaded-width : (d : Module) (scan : Bool) (k : ℕ) → length (threaded d scan k .lengths) ≡ k
+unfolding threaded
+threaded-width d scan k = thread-length (usedChains d scan) (empty k) ∙ length-replicate k 0
+
+module _ (d : Module) (scan : Bool) (k : ℕ) (pos : 1 ≤ k) where
+  -- "input cells over all chains sum to inputs + bidirs"
+  pub input-cells-sum : total (layoutOf d (threaded d scan k) .«input_cells») ≡ d .inputs + d .bidirs
+  unfolding layoutOf
+  input-cells-sum =
+      total-padded widthMax (gained (threaded d scan k .lengths) (withCells (inputCells d) (threaded d scan k .lengths)))
+      ∙ cells-sum (inputCells d) (threaded d scan k .lengths) (omega (arith, threaded-width d scan k))
+
+  -- "output cells to outputs + bidirs"
+  pub output-cells-sum : total (layoutOf d (threaded d scan k) .«output_cells») ≡ d .outputs + d .bidirs
+  unfolding layoutOf
+  output-cells-sum =
+      total-padded widthMax (gained (threaded d scan k .lengths) (withCells (outputCells d) (threaded d scan k .lengths)))
+      ∙ cells-sum (outputCells d) (threaded d scan k .lengths) (omega (arith, threaded-width d scan k))
+
+-- what the layout holds of each wrapper chain
+zeros-behind : {A : Type 0} (z : A) (xs : List A) (m i : ℕ) → getD (xs ++ replicate m z) i z ≡ getD xs i z
+zeros-behind z [] zero i = refl
+zeros-behind z [] (suc m) zero = refl
+zeros-behind z [] (suc m) (suc i) = zeros-behind z [] m i
+zeros-behind z (x ∷ xs) m zero = refl
+zeros-behind z (x ∷ xs) m (suc i) = zeros-behind z xs m i
+
+padded-at : {A : Type 0} (n : ℕ) (z : A) (xs : List A) (i : ℕ) → getD (padded n z xs) i z ≡ getD xs i z
+unfolding padded
+padded-at n z xs i = zeros-behind z xs (n - length xs) i
+
+pub layout-flip-flops : (d : Module) → length (d .chains) ≡ chainsMax → (scan : Bool) (k : ℕ) → 1 ≤ k → (i : ℕ) → getD (layoutOf d (threaded d scan k) .«flip_flops») i (flipFlops 0) ≡ flipFlops (lengthsIn (suc i) (layoutOf d (threaded d scan k) .«chain_of») (chainsOf d))
+unfolding layoutOf
+layout-flip-flops d sized scan k pos i =
+    padded-at widthMax (flipFlops 0) (map flipFlops (threaded d scan k .lengths)) i
+    ∙ List·getD-map flipFlops (threaded d scan k .lengths) i 0
+    ∙ ap flipFlops (flip-flops-sum d sized scan k pos i)
+
+-- entries past k are 0
+module _ (d : Module) (scan : Bool) (k i : ℕ) (past : k ≤ i) where
+  pub past-flip-flops : getD (layoutOf d (threaded d scan k) .«flip_flops») i (flipFlops 0) ≡ flipFlops 0
+  unfolding layoutOf
+  past-flip-flops =
+      padded-at widthMax (flipFlops 0) (map flipFlops (threaded d scan k .lengths)) i
+      ∙ List·getD-map flipFlops (threaded d scan k .lengths) i 0
+      ∙ ap flipFlops (List·getD-eq-default (threaded d scan k .lengths) 0 (omega (arith, threaded-width d scan k)))
+
+  past-cells : (n : ℕ) → getD (padded widthMax 0 (gained (threaded d scan k .lengths) (withCells n (threaded d scan k .lengths)))) i 0 ≡ 0
+  past-cells n =
+      let l : List ℕ = threaded d scan k .lengths in
+      padded-at widthMax 0 (gained l (withCells n l)) i
+      ∙ List·getD-eq-default (gained l (withCells n l)) 0 (omega (arith, gained-length l (withCells n l) (sym (cells-length n l)), threaded-width d scan k))
+
+  pub past-input-cells : getD (layoutOf d (threaded d scan k) .«input_cells») i 0 ≡ 0
+  unfolding layoutOf
+  past-input-cells = past-cells (inputCells d)
+
+  pub past-output-cells : getD (layoutOf d (threaded d scan k) .«output_cells») i 0 ≡ 0
+  unfolding layoutOf
+  past-output-cells = past-cells (outputCells d)
+
+-- flip-flops and cells of each wrapper chain together
+unfoldable pub added : List FlipFlops → List ℕ → List ℕ
+added [] ys = []
+added (f ∷ fs) [] = []
+added (f ∷ fs) (y ∷ ys) = (f .0 + y) ∷ added fs ys
+
+longest-added : (xs ys : List ℕ) (m : ℕ) → length xs ≡ length ys → ((i : ℕ) → getD xs i 0 ≤ getD ys i 0) → longest (added (map flipFlops xs ++ replicate m (flipFlops 0)) (gained xs ys ++ replicate m 0)) ≡ longest ys
+unfolding added longest gained
+longest-added [] [] zero e h = refl
+longest-added [] [] (suc m) e h = omega (arith, longest-added [] [] m e h)
+longest-added [] (y ∷ ys) m e h = absurd (omega arith)
+longest-added (x ∷ xs) [] m e h = absurd (omega arith)
+longest-added (x ∷ xs) (y ∷ ys) m e h = omega (arith, h 0, longest-added xs ys m (omega arith) (λ i. h (suc i)))
+
+cells-longest-is : (n w : ℕ) (l : List ℕ) → longestAfter n l ≡ longest (added (padded w (flipFlops 0) (map flipFlops l)) (padded w 0 (gained l (withCells n l))))
+unfolding longestAfter padded
+cells-longest-is n w l =
+    let e : length l ≡ length (withCells n l) = sym (cells-length n l) in
+    rw (length-map l flipFlops, gained-length l (withCells n l) e)
+    (sym (longest-added l (withCells n l) (w - length l) e (λ i. cells-grow n l i)))
+
+-- "longest scan-in si and longest scan-out so": the layout's longest wrapper chain with its input cells, and with its output cells
+pub scan-in-is : (d : Module) (scan : Bool) (k : ℕ) → scanIn d scan k ≡ longest (added (layoutOf d (threaded d scan k) .«flip_flops») (layoutOf d (threaded d scan k) .«input_cells»))
+unfolding scanIn layoutOf
+scan-in-is d scan k = cells-longest-is (inputCells d) widthMax (threaded d scan k .lengths)
+
+pub scan-out-is : (d : Module) (scan : Bool) (k : ℕ) → scanOut d scan k ≡ longest (added (layoutOf d (threaded d scan k) .«flip_flops») (layoutOf d (threaded d scan k) .«output_cells»))
+unfolding scanOut layoutOf
+scan-out-is d scan k = cells-longest-is (outputCells d) widthMax (threaded d scan k .lengths)

@@ -1,0 +1,272 @@
+-- Laws of times: what one test and one module take at most, the sum of a module's tests where each scan is computed at most once, the least
+-- figure width by width, and the module and the test that are asked for. Assumes nothing.
+use Prim.Native.Nat.{ℕ, zero, suc, _+_, _-_, _*_, _≤_, _<_, max}
+use mathlib.Core.Path.{_≡_, refl, sym, ap, _∙_}
+use mathlib.Core.Bool.{Bool, true, false, cond, _&&_, _||_, Bool·beq}
+use mathlib.Core.List.{List, [], _∷_, _++_, map, map-append, append-assoc}
+use native.Mathlib.Omega.{arith}
+use native.Mathlib.Nat.{mul-le-mul}
+use native.Mathlib.Numerals.{add-one}
+use lib.Dec.{leb, ltb, eqb}
+use lib.ListN.{length, getD, drop, set, replicate, length-map, length-take, drop-of-length-le}
+use lib.Seq.{drop-cons, getD-at, getD-take}
+use borrow.Author.Tests.{leb-true, ltb-true, lt-ltb, le-ltb, eq-eqb, ne-eqb}
+use Rattle.fields.proofs.TestLaws.{and-both}
+use Rattle.soc.specs.Limits.{patternsMax}
+use Rattle.soc.specs.Places.{anyOf, padded}
+use Rattle.soc.specs.Record.{noTest, noModule, testsOf}
+use Rattle.soc.specs.Rules.{goodSoc}
+use Rattle.soc.specs.declared.record.Test.{Test}
+use Rattle.soc.specs.declared.record.Module.{Module}
+use Rattle.soc.specs.declared.record.Soc.{Soc}
+use Rattle.soc.proofs.PlaceLaws.{padded-set}
+use Rattle.wrapper.specs.Chains.{usedChains}
+use Rattle.wrapper.specs.Times.{scanIn, scanOut, testCycles, testTime, sumTimes, figure, Best, bestTo, moduleBest}
+use Rattle.wrapper.specs.Answers.{widthMax, orderOf, askedModule, askedTest, noAsked, isAsked, foundModule, foundTest, bestsFrom}
+use Rattle.wrapper.specs.Scans.{scanOf, scanIf, Short, Kept, plannedWith, plannedCycles, sumScans}
+use Rattle.wrapper.specs.declared.times.Scan.{Scan}
+use Rattle.wrapper.specs.declared.asked.AskedModule.{AskedModule}
+use Rattle.wrapper.specs.declared.asked.AskedTest.the-variants.{No, Is}
+use Rattle.wrapper.proofs.KeptLaws.{good-kept, held-threaded, short-scan}
+
+-- a test of at most 16,777,215 patterns, where no scan is longer than 278,526
+pub product-most : (s p : ℕ) → s ≤ 278526 → p ≤ 16777215 → (1 + s) * p ≤ 4672907362305
+product-most s p h m = mul-le-mul {n₁ = 1 + s} {n₂ = 278527} {m₂ = 16777215} (omega arith) m
+
+pub cycles-most : (si so p : ℕ) → si ≤ 278526 → so ≤ 278526 → p ≤ 16777215 → testCycles si so p ≤ 4672907640831
+unfolding testCycles
+cycles-most si so p h k m = omega (arith, product-most (max si so) p (omega arith) m)
+
+pub planned-most : (a b : Scan) (t : Test) → Short a → Short b → t .patterns ≤ 16777215 → plannedCycles a b t ≤ 4672907640831
+unfolding plannedCycles
+planned-most a b t h k m = go (t .«tam_use») (t .«scan_use»)
+  where
+    go : (x y : Bool) → cond x (cond y (testCycles (a .si) (a .so) (t .patterns)) (testCycles (b .si) (b .so) (t .patterns))) 0 ≤ 4672907640831
+    go true true = cycles-most (a .si) (a .so) (t .patterns) (h .si) (h .so) m
+    go true false = cycles-most (b .si) (b .so) (t .patterns) (k .si) (k .so) m
+    go false y = omega arith
+
+-- the scan lengths of a module's chains are those of the rule
+scan-is : (d : Module) (scan : Bool) (w : ℕ) → scanOf d (orderOf (usedChains d scan)) w ≡ record { si = scanIn d scan w; so = scanOut d scan w }
+unfolding scanOf scanIn scanOut
+scan-is d scan w = rw (held-threaded d scan w)
+
+-- a test's cycles by the scan lengths of its chains
+pub scan-time : (d : Module) (w : ℕ) (t : Test) → testCycles (scanOf d (orderOf (usedChains d (t .«scan_use»))) w .si) (scanOf d (orderOf (usedChains d (t .«scan_use»))) w .so) (t .patterns) ≡ testTime d w t
+unfolding testTime
+scan-time d w t = ap (λ s. testCycles (s .si) (s .so) (t .patterns)) (scan-is d (t .«scan_use») w)
+
+-- the longest that a test can take, and a module
+pub test-most : (d : Module) (w : ℕ) (t : Test) → Kept d → t .patterns ≤ patternsMax → testTime d w t ≤ 4672907640831
+test-most d w t k h =
+    let s = short-scan d (t .«scan_use») w k in
+    rw (← scan-time d w t)
+    (cycles-most (scanOf d (orderOf (usedChains d (t .«scan_use»))) w .si) (scanOf d (orderOf (usedChains d (t .«scan_use»))) w .so) (t .patterns) (s .si) (s .so) h)
+
+sum-most : (d : Module) (w : ℕ) (ts : List Test) → Kept d → ((i : ℕ) → i < length ts → getD ts i noTest .patterns ≤ patternsMax) → sumTimes d w ts ≤ length ts * 4672907640831
+unfolding sumTimes
+sum-most d w [] k h = omega arith
+sum-most d w (t ∷ ts) k h = go (t .«tam_use») (sum-most d w ts k (λ i m. h (suc i) (omega arith))) (test-most d w t k (h 0 (omega arith)))
+  where
+    go : (x : Bool) → sumTimes d w ts ≤ length ts * 4672907640831 → testTime d w t ≤ 4672907640831 → cond x (testTime d w t + sumTimes d w ts) (sumTimes d w ts) ≤ suc (length ts) * 4672907640831
+    go true a b = omega arith
+    go false a b = omega arith
+
+pub module-most : (d : Module) (w : ℕ) → Kept d → figure d w ≤ 37383261126648
+unfolding figure
+module-most d w k = omega (arith, sum-most d w (testsOf d) k few, length-take (d .«test_count») (d .tests), k .tests)
+  where
+    few : (i : ℕ) → i < length (testsOf d) → getD (testsOf d) i noTest .patterns ≤ patternsMax
+    few i h =
+        let n : i < d .«test_count» = omega (arith, length-take (d .«test_count») (d .tests)) in
+        rw (getD-take (d .«test_count») (d .tests) i noTest n) (k .patterns i)
+
+-- the sum over the tests with TamUse 1, by the scan lengths with chains and without
+sum-scans : (d : Module) (w : ℕ) (ts : List Test) → sumScans (scanOf d (orderOf (usedChains d true)) w) (scanOf d (orderOf (usedChains d false)) w) ts ≡ sumTimes d w ts
+unfolding sumScans sumTimes plannedCycles testTime
+sum-scans d w [] = refl
+sum-scans d w (t ∷ ts) = rw (sum-scans d w ts, scan-is d true w, scan-is d false w) (go (t .«tam_use») (t .«scan_use»))
+  where
+    go : (x y : Bool) → cond x (cond y (testCycles (scanIn d true w) (scanOut d true w) (t .patterns)) (testCycles (scanIn d false w) (scanOut d false w) (t .patterns))) 0 + sumTimes d w ts ≡ cond x (testCycles (scanIn d y w) (scanOut d y w) (t .patterns) + sumTimes d w ts) (sumTimes d w ts)
+    go true true = refl
+    go true false = refl
+    go false y = omega arith
+
+-- a scan that no such test needs may be any
+same-cycles : (a b a′ b′ : Scan) (t : Test) → (plannedWith true t ≡ true → a ≡ a′) → (plannedWith false t ≡ true → b ≡ b′) → plannedCycles a b t ≡ plannedCycles a′ b′ t
+unfolding plannedCycles
+same-cycles a b a′ b′ t e f = go (t .«tam_use») (t .«scan_use») e f
+  where
+    cyclesOf : Scan → ℕ
+    cyclesOf s = testCycles (s .si) (s .so) (t .patterns)
+
+    go : (x y : Bool) → ((x && Bool·beq y true) ≡ true → a ≡ a′) → ((x && Bool·beq y false) ≡ true → b ≡ b′) → cond x (cond y (cyclesOf a) (cyclesOf b)) 0 ≡ cond x (cond y (cyclesOf a′) (cyclesOf b′)) 0
+    go true true e f = ap cyclesOf (e refl)
+    go true false e f = ap cyclesOf (f refl)
+    go false y e f = refl
+
+or-first : (a b : Bool) → a ≡ true → (a || b) ≡ true
+or-first a b e = rw e
+
+or-second : (a b : Bool) → b ≡ true → (a || b) ≡ true
+or-second true b e = refl
+or-second false b e = e
+
+same-sum : (a b a′ b′ : Scan) (ts : List Test) → (anyOf (plannedWith true) ts ≡ true → a ≡ a′) → (anyOf (plannedWith false) ts ≡ true → b ≡ b′) → sumScans a b ts ≡ sumScans a′ b′ ts
+unfolding sumScans anyOf
+same-sum a b a′ b′ [] e f = refl
+same-sum a b a′ b′ (t ∷ ts) e f =
+    rw (
+      same-cycles a b a′ b′ t (λ h. e (or-first (plannedWith true t) (anyOf (plannedWith true) ts) h)) (λ h. f (or-first (plannedWith false t) (anyOf (plannedWith false) ts) h)),
+      same-sum a b a′ b′ ts (λ h. e (or-second (plannedWith true t) (anyOf (plannedWith true) ts) h)) (λ h. f (or-second (plannedWith false t) (anyOf (plannedWith false) ts) h)),
+    )
+
+if-needed : (needed : Bool) (d : Module) (scan : Bool) (w : ℕ) → needed ≡ true → scanIf needed d (orderOf (usedChains d scan)) w ≡ scanOf d (orderOf (usedChains d scan)) w
+unfolding scanIf
+if-needed needed d scan w e = rw e
+
+-- a module's figure, where each scan is computed only if a test needs it
+pub figure-scans : (d : Module) (w : ℕ) → sumScans (scanIf (anyOf (plannedWith true) (testsOf d)) d (orderOf (usedChains d true)) w) (scanIf (anyOf (plannedWith false) (testsOf d)) d (orderOf (usedChains d false)) w) (testsOf d) ≡ figure d w
+unfolding figure
+figure-scans d w =
+    same-sum _ _ _ _ (testsOf d) (if-needed (anyOf (plannedWith true) (testsOf d)) d true w) (if-needed (anyOf (plannedWith false) (testsOf d)) d false w)
+    ∙ sum-scans d w (testsOf d)
+
+-- a loop over the tests
+pub sum-step : (a b : Scan) (ts : List Test) (i : ℕ) → i < length ts → sumScans a b (drop i ts) ≡ plannedCycles a b (getD ts i noTest) + sumScans a b (drop (i + 1) ts)
+unfolding sumScans
+sum-step a b ts i h = rw (add-one, drop-cons ts i noTest h)
+
+pub sum-end : (a b : Scan) (ts : List Test) (i : ℕ) → length ts ≤ i → sumScans a b (drop i ts) ≡ 0
+unfolding sumScans
+sum-end a b ts i h = rw (drop-of-length-le ts h)
+
+-- the least figure at one width more
+pub best-one : (d : Module) → moduleBest d 1 ≡ record { cycles = figure d 1; wires = 1 }
+unfolding moduleBest bestTo
+best-one d = refl
+
+best-next : (d : Module) (w : ℕ) → 0 < w → moduleBest d (w + 1) ≡ cond (ltb (figure d (w + 1)) (moduleBest d w .cycles)) (record { cycles = figure d (w + 1); wires = w + 1 }) (moduleBest d w)
+unfolding moduleBest bestTo
+best-next d zero h = let no : ⊥ = omega arith in absurd no
+best-next d (suc w) h = rw (add-one (suc w))
+
+pub best-less : (d : Module) (w : ℕ) → 0 < w → figure d (w + 1) < moduleBest d w .cycles → moduleBest d (w + 1) ≡ record { cycles = figure d (w + 1); wires = w + 1 }
+best-less d w h k = best-next d w h ∙ rw (lt-ltb (figure d (w + 1)) (moduleBest d w .cycles) k)
+
+pub best-stays : (d : Module) (w : ℕ) → 0 < w → moduleBest d w .cycles ≤ figure d (w + 1) → moduleBest d (w + 1) ≡ moduleBest d w
+best-stays d w h k = best-next d w h ∙ rw (le-ltb (figure d (w + 1)) (moduleBest d w .cycles) k)
+
+-- the times at the widths 1 to w
+bests-length : (d : Module) (w u : ℕ) → length (bestsFrom d w u) ≡ w
+unfolding bestsFrom
+bests-length d zero u = refl
+bests-length d (suc w) u = ap suc (bests-length d w (suc u))
+
+bests-more : (d : Module) (w u : ℕ) → bestsFrom d (suc w) u ≡ bestsFrom d w u ++ moduleBest d (w + u) ∷ []
+unfolding bestsFrom
+bests-more d zero u = let e : 0 + u ≡ u = omega arith in rw e
+bests-more d (suc w) u = let e : w + suc u ≡ suc w + u = omega arith in ap (λ l. moduleBest d u ∷ l) (bests-more d w (suc u) ∙ rw e)
+
+module _ {A : Type 0} (f : Best → A) (z : A) (d : Module) where
+  pub bests-set : (w : ℕ) → w < widthMax → set (padded widthMax z (map f (bestsFrom d w 1))) w (f (moduleBest d (w + 1))) ≡ padded widthMax z (map f (bestsFrom d (w + 1) 1))
+  bests-set w h =
+      let n : length (map f (bestsFrom d w 1)) ≡ w = length-map (bestsFrom d w 1) f ∙ bests-length d w 1 in
+      let e : map f (bestsFrom d (w + 1) 1) ≡ map f (bestsFrom d w 1) ++ f (moduleBest d (w + 1)) ∷ [] = rw (add-one w, bests-more d w 1, map-append) (rw (add-one w)) in
+      rw e (rw n at (padded-set widthMax z (f (moduleBest d (w + 1))) (map f (bestsFrom d w 1)) (rw n h)))
+
+  pub bests-first : set (replicate widthMax z) 0 (f (moduleBest d 1)) ≡ padded widthMax z (map f (bestsFrom d 1 1))
+  unfolding bestsFrom padded
+  bests-first = refl
+
+  pub bests-last : (w : ℕ) → 0 < w → w ≤ widthMax → (y : A) → getD (padded widthMax z (map f (bestsFrom d w 1))) (w - 1) y ≡ f (moduleBest d w)
+  unfolding padded
+  bests-last zero h k y = let no : ⊥ = omega arith in absurd no
+  bests-last (suc w) h k y =
+      let n : length (map f (bestsFrom d w 1)) ≡ w = length-map (bestsFrom d w 1) f ∙ bests-length d w 1 in
+      let e : map f (bestsFrom d (suc w) 1) ≡ map f (bestsFrom d w 1) ++ f (moduleBest d (suc w)) ∷ [] = rw (bests-more d w 1, map-append) (rw (add-one w)) in
+      let m : suc w - 1 ≡ w = omega arith in
+      rw (m, e, append-assoc) (getD-at (map f (bestsFrom d w 1)) (f (moduleBest d (suc w))) _ y w n)
+
+-- the module that is asked for
+module _ {A : Type 0} (s : Soc) (m w : ℕ) (f : ℕ → A) (g : Module → A) where
+  module-asked : askedModule s m w f g ≡ cond (eqb (foundModule s m w .number) 0) (g (foundModule s m w .«module»)) (f (foundModule s m w .number))
+  unfolding askedModule foundModule
+  module-asked = go (goodSoc s) (leb 1 w && leb w widthMax) (ltb m (s .«module_count»))
+    where
+      go : (x y z : Bool) →
+          let d = getD (s .modules) m noModule in
+          let a = cond x (cond y (cond z (isAsked d) (noAsked 13)) (noAsked 7)) (noAsked 14) in
+          cond x (cond y (cond z (g d) (f 13)) (f 7)) (f 14) ≡ cond (eqb (a .number) 0) (g (a .«module»)) (f (a .number))
+      go true true true = refl
+      go true true false = refl
+      go true false z = refl
+      go false y z = refl
+
+  -- as code holds it
+  module _ (r : AskedModule) (e : r ≡ foundModule s m w) where
+    pub module-refused : (r .number ≡ 0 → ⊥) → f (r .number) ≡ askedModule s m w f g
+    module-refused h =
+        let k : foundModule s m w .number ≡ 0 → ⊥ = rw e at h in
+        rw e (sym (module-asked ∙ rw (ne-eqb (foundModule s m w .number) 0 k)))
+
+    pub module-found : r .number ≡ 0 → g (r .«module») ≡ askedModule s m w f g
+    module-found h =
+        let k : foundModule s m w .number ≡ 0 = rw e at h in
+        rw e (sym (module-asked ∙ rw (eq-eqb (foundModule s m w .number) 0 k)))
+
+-- a module that is found is within the limits, and so is the width
+pub record Found (d : Module) (w : ℕ) : Type 0 where
+  pub kept : Kept d
+  pub some : 0 < w
+  pub most : w ≤ 64
+
+found-all : (s : Soc) (m w : ℕ) → foundModule s m w .number ≡ 0 → Found (foundModule s m w .«module») w
+unfolding foundModule askedModule
+found-all s m w e = go (goodSoc s) (leb 1 w && leb w widthMax) (ltb m (s .«module_count»)) refl refl refl e
+  where
+    d : Module
+    d = getD (s .modules) m noModule
+
+    go : (x y z : Bool) → goodSoc s ≡ x → (leb 1 w && leb w widthMax) ≡ y → ltb m (s .«module_count») ≡ z →
+        let a = cond x (cond y (cond z (isAsked d) (noAsked 13)) (noAsked 7)) (noAsked 14) in
+        a .number ≡ 0 → Found (a .«module») w
+    go true true true p q r h =
+        let b = and-both (leb 1 w) (leb w widthMax) q in
+        record {
+          kept = good-kept s m p (ltb-true m (s .«module_count») r);
+          some = leb-true 1 w (b .0);
+          most = leb-true w widthMax (b .1);
+        }
+    go true true false p q r h = let no : ⊥ = omega arith in absurd no
+    go true false z p q r h = let no : ⊥ = omega arith in absurd no
+    go false y z p q r h = let no : ⊥ = omega arith in absurd no
+
+pub found-kept : (s : Soc) (m w : ℕ) (r : AskedModule) → r ≡ foundModule s m w → r .number ≡ 0 → Found (r .«module») w
+found-kept s m w r e h = rw e (found-all s m w (rw e at h))
+
+-- the test that is asked for
+module _ {A : Type 0} (d : Module) (i : ℕ) (f : ℕ → A) (g : Test → A) where
+  pub test-refused : (n : ℕ) → foundTest d i ≡ No n → f n ≡ askedTest d i f g
+  unfolding askedTest foundTest
+  test-refused n e = go (leb 1 i && leb i (d .«test_count»)) e
+    where
+      go : (x : Bool) → cond x (Is (getD (d .tests) (i - 1) noTest)) (No 13) ≡ No n → f n ≡ cond x (g (getD (d .tests) (i - 1) noTest)) (f 13)
+      go true e = let no : _≡_ {A = ℕ} 0 1 = cc in absurd (omega arith)
+      go false e = let h : _≡_ {A = ℕ} n 13 = cc in ap f h
+
+  pub test-found : (t : Test) → foundTest d i ≡ Is t → g t ≡ askedTest d i f g
+  unfolding askedTest foundTest
+  test-found t e = go (leb 1 i && leb i (d .«test_count»)) e
+    where
+      go : (x : Bool) → cond x (Is (getD (d .tests) (i - 1) noTest)) (No 13) ≡ Is t → g t ≡ cond x (g (getD (d .tests) (i - 1) noTest)) (f 13)
+      go true e = let h : t ≡ getD (d .tests) (i - 1) noTest = cc in ap g h
+      go false e = let no : _≡_ {A = ℕ} 0 1 = cc in absurd (omega arith)
+
+pub found-few : (d : Module) (i : ℕ) (t : Test) → Kept d → foundTest d i ≡ Is t → t .patterns ≤ 16777215
+unfolding askedTest foundTest
+found-few d i t k e = go (leb 1 i && leb i (d .«test_count»)) e
+  where
+    go : (x : Bool) → cond x (Is (getD (d .tests) (i - 1) noTest)) (No 13) ≡ Is t → t .patterns ≤ 16777215
+    go true e = let h : getD (d .tests) (i - 1) noTest ≡ t = cc in rw (← h) (k .patterns (i - 1))
+    go false e = let no : _≡_ {A = ℕ} 0 1 = cc in absurd (omega arith)

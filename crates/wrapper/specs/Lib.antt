@@ -1,0 +1,5 @@
+pub mod Fit
+pub mod Chains
+pub mod Times
+pub mod Answers
+pub mod Scans

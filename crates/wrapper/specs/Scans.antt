@@ -1,0 +1,71 @@
+-- How times are computed: scan lengths with chains and without, each at most once for a width, and what keeps the sums in range.
+use Prim.Native.Nat.{ℕ, _+_, _≤_}
+use mathlib.Core.Bool.{Bool, true, false, cond, _&&_, Bool·beq}
+use mathlib.Core.List.{List, [], _∷_}
+use lib.ListN.{getD}
+use Rattle.soc.specs.Limits.{terminalsMax, chainsMax, lengthMax, testsMax, patternsMax}
+use Rattle.soc.specs.Places.{anyOf}
+use Rattle.soc.specs.Record.{flipFlops, noTest, testsOf}
+use Rattle.soc.specs.declared.record.Test.{Test}
+use Rattle.soc.specs.declared.record.Module.{Module}
+use Rattle.wrapper.specs.Fit.{longestAfter}
+use Rattle.wrapper.specs.Chains.{usedChains, thread, empty}
+use Rattle.wrapper.specs.Times.{inputCells, outputCells, testCycles}
+use Rattle.wrapper.specs.Answers.{front, orderOf}
+use Rattle.wrapper.specs.declared.chains.Order.{Order}
+use Rattle.wrapper.specs.declared.times.Scan.{Scan}
+use Rattle.wrapper.specs.declared.times.Plain.{Plain}
+
+-- the scan lengths of a module at width k, with the chains of an order
+unfoldable pub scanOf : Module → Order → ℕ → Scan
+scanOf d o k =
+    record {
+      si = longestAfter (inputCells d) (thread (front o) (empty k) .lengths);
+      so = longestAfter (outputCells d) (thread (front o) (empty k) .lengths);
+    }
+
+abbrev pub noScan : Scan
+noScan = record { si = 0; so = 0 }
+
+unfoldable pub scanIf : Bool → Module → Order → ℕ → Scan
+scanIf true d o k = scanOf d o k
+scanIf false d o k = noScan
+
+-- 64 chains of 4,096 flip-flops and two times 8,191 cells
+pub record Short (s : Scan) : Type 0 where
+  pub si : s .si ≤ 278526
+  pub so : s .so ≤ 278526
+
+-- a module's figures within the limits of the text
+pub record Kept (d : Module) : Type 0 where
+  pub chains : d .«chain_count» ≤ chainsMax
+  pub lengths : (i : ℕ) → getD (d .chains) i (flipFlops 0) .0 ≤ lengthMax
+  pub tests : d .«test_count» ≤ testsMax
+  pub patterns : (i : ℕ) → getD (d .tests) i noTest .patterns ≤ patternsMax
+  pub inputs : d .inputs ≤ terminalsMax
+  pub outputs : d .outputs ≤ terminalsMax
+  pub bidirs : d .bidirs ≤ terminalsMax
+
+-- a test with TamUse 1 and this ScanUse
+abbrev pub plannedWith : Bool → Test → Bool
+plannedWith scan t = t .«tam_use» && Bool·beq (t .«scan_use») scan
+
+-- a test's cycles where the scan lengths are known; 0 with TamUse 0
+unfoldable pub plannedCycles : Scan → Scan → Test → ℕ
+plannedCycles a b t =
+    cond (t .«tam_use»)
+    (cond (t .«scan_use») (testCycles (a .si) (a .so) (t .patterns)) (testCycles (b .si) (b .so) (t .patterns)))
+    0
+
+unfoldable pub sumScans : Scan → Scan → List Test → ℕ
+sumScans a b [] = 0
+sumScans a b (t ∷ ts) = plannedCycles a b t + sumScans a b ts
+
+abbrev pub plainOf : Module → Plain
+plainOf d =
+    record {
+      with = orderOf (usedChains d true);
+      without = orderOf (usedChains d false);
+      «needs_with» = anyOf (plannedWith true) (testsOf d);
+      «needs_without» = anyOf (plannedWith false) (testsOf d);
+    }

@@ -1,0 +1,103 @@
+// A wrapper's layout for one test of a module at one width.
+use super::asked::AskedTest;
+use super::asked::asked_module;
+use super::asked::asked_test;
+use super::chains::order_of;
+use super::chains::thread_chains;
+use super::fit::add_cells;
+use soc::Module;
+use soc::Soc;
+use units::FlipFlops;
+use units::Refusal;
+use units::Wires;
+ghost use mathlib.Core.Path.{_≡_};
+ghost use mathlib.Core.List.{map};
+ghost use Prim.Native.Nat.{ℕ, _+_, _≤_, _<_};
+ghost use lib.ListN.{take, getD};
+ghost use Rattle.soc.specs.Places.{padded};
+ghost use Rattle.soc.specs.Record.{flipFlops};
+ghost use Rattle.wrapper.specs.Fit.{longest, withCells};
+ghost use Rattle.wrapper.specs.Chains.{threaded};
+ghost use Rattle.wrapper.specs.Answers.{gained, layoutOf, noLayout, layoutAnswer};
+ghost use Rattle.wrapper.specs.Scans.{Kept};
+
+// For each wrapper chain its flip-flops, input cells and output cells; for each internal chain its wrapper chain from 1. Entries past the
+// width or past the chains, and those of chains that the test does not use, are 0.
+pub struct WrapperLayout {
+    pub refusal: Refusal,
+    pub flip_flops: [FlipFlops; 64],
+    pub input_cells: [u64; 64],
+    pub output_cells: [u64; 64],
+    pub chain_of: [usize; 64],
+}
+
+fn no_layout(n: u8) -> WrapperLayout
+    ensures { λ r. ⌜ r ≡ noLayout n ⌝ }
+{
+    WrapperLayout {
+        refusal: Refusal::at(n, 0),
+        flip_flops: [FlipFlops(0); 64],
+        input_cells: [0u64; 64],
+        output_cells: [0u64; 64],
+        chain_of: [0usize; 64],
+    }
+}
+
+// How many of n cells each of the first k wrapper chains gets.
+fn cells_of(lengths: [u64; 64], k: usize, n: u64) -> [u64; 64]
+    requires { ⌜ (0 < k) × (k ≤ 64) × (lengths ≡ padded 64 0 (take k lengths)) × (longest (take k lengths) + n < 18446744073709551616) ⌝ }
+    ensures { λ r. ⌜ r ≡ padded 64 0 (gained (take k lengths) (withCells n (take k lengths))) ⌝ }
+{
+    let mut after = lengths;
+    add_cells(&mut after[..k], n);
+    let mut i: usize = 0;
+    while i < 64 {
+        after[i] = after[i] - lengths[i];
+        i += 1;
+    }
+    after
+}
+
+fn flip_flops_of(lengths: [u64; 64]) -> [FlipFlops; 64]
+    requires { ⌜ ((i : ℕ) → getD lengths i 0 < 4294967296) ⌝ }
+    ensures { λ r. ⌜ r ≡ map flipFlops lengths ⌝ }
+{
+    let mut f = [FlipFlops(0); 64];
+    let mut i: usize = 0;
+    while i < 64 {
+        f[i] = FlipFlops(lengths[i] as u32);
+        i += 1;
+    }
+    f
+}
+
+fn layout_of(d: Module, scan: bool, k: usize) -> WrapperLayout
+    requires { ⌜ Kept d × (0 < k) × (k ≤ 64) ⌝ }
+    ensures { λ r. ⌜ r ≡ layoutOf d (threaded d scan k) ⌝ }
+{
+    let t = thread_chains(order_of(d, scan), k);
+    let lengths = t.lengths;
+    let chain_of = t.places;
+    WrapperLayout {
+        refusal: Refusal::none(),
+        flip_flops: flip_flops_of(lengths),
+        input_cells: cells_of(lengths, k, d.inputs as u64 + d.bidirs as u64),
+        output_cells: cells_of(lengths, k, d.outputs as u64 + d.bidirs as u64),
+        chain_of,
+    }
+}
+
+// The layout of one test of a module at a width, which is used as it is.
+pub fn layout(s: Soc, module: u32, test: u32, width: Wires) -> WrapperLayout
+    ensures { λ r. ⌜ r ≡ layoutAnswer s «module» test (width .0) ⌝ }
+{
+    let asked = asked_module(s, module, width);
+    if asked.number != 0 {
+        return no_layout(asked.number);
+    }
+    let d = asked.module;
+    match asked_test(d, test) {
+        AskedTest::No(n) => no_layout(n),
+        AskedTest::Is(t) => layout_of(d, t.scan_use, width.0 as usize),
+    }
+}

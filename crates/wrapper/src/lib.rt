@@ -1,0 +1,17 @@
+// The wrapper layer (document 01, "The wrapper rule"): how a core's chains and cells are threaded through a wrapper of some width, a test's time,
+// and a module's time and wires.
+mod asked;
+mod chains;
+mod fit;
+mod laid;
+mod times;
+
+pub use asked::ModuleTime;
+pub use asked::ModuleTimes;
+pub use asked::TestTime;
+pub use asked::module_time;
+pub use asked::module_times;
+pub use asked::test_time;
+pub use laid::WrapperLayout;
+pub use laid::layout;
+pub use times::Times;

@@ -1,0 +1,182 @@
+// A test's time, and a module's time and wires: the least figure at any width up to the bus's, and the smallest such width.
+use super::chains::Order;
+use super::chains::order_of;
+use super::chains::thread_chains;
+use super::fit::longest_after;
+use soc::Module;
+use soc::Test;
+use units::Cycles;
+use units::Wires;
+ghost use mathlib.Core.Path.{_≡_};
+ghost use mathlib.Core.Bool.{true, false};
+ghost use Prim.Native.Nat.{_≤_, _<_};
+ghost use Rattle.soc.specs.Places.{anyOf};
+ghost use Rattle.soc.specs.Record.{testsOf};
+ghost use Rattle.wrapper.specs.Chains.{usedChains};
+ghost use Rattle.wrapper.specs.Times.{testCycles, testTime, figure};
+ghost use Rattle.wrapper.specs.Answers.{orderOf, Threadable, timesOf};
+ghost use Rattle.wrapper.specs.Scans.{scanOf, Short, Kept, plannedWith, sumScans};
+
+// A module's times and wires at the widths from 1 on: place i is for width i + 1.
+pub struct Times {
+    pub cycles: [Cycles; 64],
+    pub wires: [Wires; 64],
+}
+
+// The longest scan-in and scan-out of a module at one width, with its chains or without.
+pub struct Scan {
+    pub si: u64,
+    pub so: u64,
+}
+
+pub(crate) fn scan_at(d: Module, o: Order, k: usize) -> Scan
+    requires { ⌜ (0 < k) × (k ≤ 64) × Threadable o ⌝ }
+    ensures { λ r. ⌜ r ≡ scanOf d o k ⌝ }
+{
+    let t = thread_chains(o, k);
+    let lengths = t.lengths;
+    Scan {
+        si: longest_after(lengths, k, d.inputs as u64 + d.bidirs as u64),
+        so: longest_after(lengths, k, d.outputs as u64 + d.bidirs as u64),
+    }
+}
+
+// (1 + max(si, so)) × p + min(si, so).
+fn cycles_of(s: Scan, p: u32) -> u64
+    requires { ⌜ Short s × (p ≤ 16777215) ⌝ }
+    ensures { λ r. ⌜ r ≡ testCycles (s .si) (s .so) p ⌝ }
+{
+    if s.si < s.so {
+        (1 + s.so) * (p as u64) + s.si
+    } else {
+        (1 + s.si) * (p as u64) + s.so
+    }
+}
+
+// Whether a test with TamUse 1 has this ScanUse.
+fn is_planned_with(d: Module, scan: bool) -> bool
+    requires { ⌜ Kept d ⌝ }
+    ensures { λ r. ⌜ r ≡ anyOf (plannedWith scan) (testsOf d) ⌝ }
+{
+    let n = d.test_count;
+    let mut i: usize = 0;
+    while i < n {
+        let t = d.tests[i];
+        if t.tam_use {
+            if t.scan_use == scan {
+                return true;
+            }
+        }
+        i += 1;
+    }
+    false
+}
+
+// A test's cycles where the scan lengths with chains and without are known; 0 with TamUse 0.
+fn planned_cycles(t: Test, with: Scan, without: Scan) -> u64
+    requires { ⌜ Short with × Short without × (t .patterns ≤ 16777215) ⌝ }
+    ensures { λ r. ⌜ r ≡ plannedCycles with without t ⌝ }
+{
+    if !t.tam_use {
+        return 0;
+    }
+    if t.scan_use {
+        cycles_of(with, t.patterns)
+    } else {
+        cycles_of(without, t.patterns)
+    }
+}
+
+fn sum_of(d: Module, with: Scan, without: Scan) -> u64
+    requires { ⌜ Kept d × Short with × Short without ⌝ }
+    ensures { λ r. ⌜ r ≡ sumScans with without (testsOf d) ⌝ }
+{
+    let n = d.test_count;
+    let mut sum: u64 = 0;
+    let mut i: usize = 0;
+    while i < n {
+        let t = d.tests[i];
+        sum += planned_cycles(t, with, without);
+        i += 1;
+    }
+    sum
+}
+
+// The scan lengths, where they are needed.
+fn scan_if(needed: bool, d: Module, o: Order, k: usize) -> Scan
+    requires { ⌜ (0 < k) × (k ≤ 64) × Threadable o ⌝ }
+    ensures { λ r. ⌜ r ≡ scanIf needed d o k ⌝ }
+{
+    if needed {
+        scan_at(d, o, k)
+    } else {
+        Scan { si: 0, so: 0 }
+    }
+}
+
+// What the figures of a module at all widths have in common: its chains in order, and which scan lengths are needed.
+pub struct Plain {
+    pub with: Order,
+    pub without: Order,
+    pub needs_with: bool,
+    pub needs_without: bool,
+}
+
+fn plain_of(d: Module) -> Plain
+    requires { ⌜ Kept d ⌝ }
+    ensures { λ r. ⌜ r ≡ plainOf d ⌝ }
+{
+    Plain {
+        with: order_of(d, true),
+        without: order_of(d, false),
+        needs_with: is_planned_with(d, true),
+        needs_without: is_planned_with(d, false),
+    }
+}
+
+fn figure_at(d: Module, p: Plain, k: usize) -> u64
+    requires { ⌜ Kept d × (p ≡ plainOf d) × (0 < k) × (k ≤ 64) ⌝ }
+    ensures { λ r. ⌜ r ≡ figure d k ⌝ }
+{
+    let with = p.with;
+    let without = p.without;
+    let a = scan_if(p.needs_with, d, with, k);
+    let b = scan_if(p.needs_without, d, without, k);
+    sum_of(d, a, b)
+}
+
+// The times and wires at the widths 1 to w, each figure computed once.
+pub(crate) fn times_of(d: Module, w: usize) -> Times
+    requires { ⌜ Kept d × (0 < w) × (w ≤ 64) ⌝ }
+    ensures { λ r. ⌜ r ≡ timesOf d w ⌝ }
+{
+    let p = plain_of(d);
+    let mut cycles = [Cycles(0); 64];
+    let mut wires = [Wires(0); 64];
+    let mut best = figure_at(d, p, 1);
+    let mut at: u32 = 1;
+    cycles[0] = Cycles(best);
+    wires[0] = Wires(at);
+    let mut u: usize = 1;
+    while u < w {
+        let f = figure_at(d, p, u + 1);
+        if f < best {
+            best = f;
+            at = u as u32 + 1;
+        }
+        cycles[u] = Cycles(best);
+        wires[u] = Wires(at);
+        u += 1;
+    }
+    Times { cycles, wires }
+}
+
+// The cycles of one test.
+pub(crate) fn test_cycles(d: Module, t: Test, k: usize) -> u64
+    requires { ⌜ Kept d × (t .patterns ≤ 16777215) × (0 < k) × (k ≤ 64) ⌝ }
+    ensures { λ r. ⌜ r ≡ testTime d k t ⌝ }
+{
+    cycles_of(scan_at(d, order_of(d, t.scan_use), k), t.patterns)
+}
+
+ghost use Rattle.wrapper.specs.Scans.{plannedCycles, scanIf, plainOf};
