@@ -1,0 +1,4 @@
+pub mod Good
+pub mod Bytes
+pub mod Puts
+pub mod Files
