@@ -21,8 +21,9 @@ ghost use Rattle.soc.specs.Planned.{plannedOf, plannedIs};
 ghost use Rattle.plans.specs.Plans.{busyFrom, busies};
 ghost use Rattle.plan.specs.Search.{tableTime, IsTable};
 ghost use Rattle.plan.specs.Tables.{TablesAre};
-ghost use Rattle.plan.specs.Answers.{noPlan, refusedPlan, bestFor, planRecord, planAnswer};
+ghost use Rattle.plan.specs.Answers.{noPlan, refusedPlan, bestFor, planRecord, planAnswer, noBus, noPlaced};
 ghost use Rattle.plan.specs.Records.{IsFound, busesIs, modulesIs};
+ghost use Rattle.soc.specs.Rules.{goodSoc};
 
 fn no_bus() -> Bus
     ensures { λ r. ⌜ r ≡ noBus ⌝ }
@@ -171,6 +172,3 @@ pub fn plan(s: Soc, wires: Wires, limit: u32) -> PlanAnswer
         plan: found_plan(s, p, wires, limit),
     }
 }
-
-ghost use Rattle.soc.specs.Rules.{goodSoc};
-ghost use Rattle.plan.specs.Answers.{noBus, noPlaced};

@@ -3,6 +3,7 @@ use fields::NextLine;
 use units::Refusal;
 ghost use mathlib.Core.Path.{_≡_};
 ghost use Rattle.reading.specs.Steps.{Inside, DueIs};
+ghost use Rattle.units.specs.Refusals.{refused};
 
 // Where a line begins, and its number.
 pub struct Place {
@@ -48,5 +49,3 @@ pub(crate) fn missing() -> Refusal
 {
     Refusal::at(6, 0)
 }
-
-ghost use Rattle.units.specs.Refusals.{refused};

@@ -15,7 +15,7 @@ ghost use Rattle.soc.specs.Record.{testsOf};
 ghost use Rattle.wrapper.specs.Chains.{usedChains};
 ghost use Rattle.wrapper.specs.Times.{testCycles, testTime, figure};
 ghost use Rattle.wrapper.specs.Answers.{orderOf, Threadable, timesOf};
-ghost use Rattle.wrapper.specs.Scans.{scanOf, Short, Kept, plannedWith, sumScans};
+ghost use Rattle.wrapper.specs.Scans.{scanOf, Short, Kept, plannedWith, sumScans, plannedCycles, scanIf, plainOf};
 
 // A module's times and wires at the widths from 1 on: place i is for width i + 1.
 pub struct Times {
@@ -178,5 +178,3 @@ pub(crate) fn test_cycles(d: Module, t: Test, k: usize) -> u64
 {
     cycles_of(scan_at(d, order_of(d, t.scan_use), k), t.patterns)
 }
-
-ghost use Rattle.wrapper.specs.Scans.{plannedCycles, scanIf, plainOf};

@@ -12,7 +12,7 @@ ghost use mathlib.Core.Bool.{true};
 ghost use Prim.Native.Nat.{_+_, _≤_};
 ghost use lib.ListN.{length, take};
 ghost use Rattle.soc.specs.Rules.{goodSoc};
-ghost use Rattle.writing.specs.Written.{writtenLines, testLines, moduleLinesOf, moduleLinesFrom, writtenSoc, refusedWrite, writeAnswer, writeLeaves};
+ghost use Rattle.writing.specs.Written.{writtenLines, testLines, moduleLinesOf, moduleLinesFrom, writtenSoc, refusedWrite, writeAnswer, writeLeaves, Countable};
 ghost use Rattle.writing.specs.Puts.{Put};
 
 // How many bytes were written; or the refusal.
@@ -100,5 +100,3 @@ pub fn write_soc(s: Soc, buf: &mut [u8]) -> SocWritten
         len: n,
     }
 }
-
-ghost use Rattle.writing.specs.Written.{Countable};

@@ -11,7 +11,7 @@ ghost use mathlib.Core.Bool.{cond};
 ghost use mathlib.Core.List.{[], _∷_};
 ghost use lib.ListN.{length, take};
 ghost use Rattle.lines.specs.Written.{nameFields, totalFields, optionsFields, levelFields, testsFields, powerFields, testFields};
-ghost use Rattle.writing.specs.Written.{writtenLines, positionLines, spacedLengths};
+ghost use Rattle.writing.specs.Written.{writtenLines, positionLines, spacedLengths, powerEnd};
 ghost use Rattle.writing.specs.Puts.{Put};
 
 // `SocName` name, `TotalModules` n, `Options Power` 0/1 `XY` 0/1.
@@ -115,5 +115,3 @@ pub(crate) fn put_test_line(
     let e = put_key(&mut *buf, d, b" Patterns ", t.patterns as u64);
     put_power(&mut *buf, e, t, power)
 }
-
-ghost use Rattle.writing.specs.Written.{powerEnd};
