@@ -17,6 +17,7 @@ use Rattle.lines.specs.declared.head.NameLine.{NameLine}
 use Rattle.lines.specs.declared.level.LevelLine.{LevelLine}
 use Rattle.reading.specs.Lines.{LinesRead}
 use Rattle.reading.specs.Reading.{Body}
+use Rattle.reading.specs.declared.line_reader.LineReader.{LineReader}
 use Rattle.reading.specs.declared.place.Place.{Place}
 use Rattle.reading.specs.declared.place.Due.{Due}
 use Rattle.reading.specs.declared.place.Due.the-variants as due
@@ -30,6 +31,13 @@ use Rattle.reading.specs.declared.head.CountStep.{CountStep}
 use Rattle.reading.specs.declared.head.CountStep.the-variants as count
 use Rattle.reading.specs.declared.head.OptionsStep.{OptionsStep}
 use Rattle.reading.specs.declared.head.OptionsStep.the-variants as options
+
+-- the place with a beginning and a line's number, and the place that a line reader holds
+abbrev pub placeAt : ℕ → ℕ → Place
+placeAt a n = record { at = a; line = n }
+
+abbrev pub placeOf : LineReader → Place
+placeOf r = placeAt (r .at) (r .line)
 
 -- the lines from a place on
 abbrev pub linesAt : List ℕ → Place → List Line

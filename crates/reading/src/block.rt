@@ -1,9 +1,9 @@
 // The lines of one module.
 use super::head::CountStep;
+use super::line_reader::due_line;
 use super::place::Due;
 use super::place::Place;
 use super::place::Step;
-use super::place::due_line;
 use super::place::missing;
 use lines::Count;
 use lines::LevelLine;

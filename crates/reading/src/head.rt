@@ -1,8 +1,8 @@
 // The first three lines of a text.
+use super::line_reader::due_line;
 use super::place::Due;
 use super::place::Place;
 use super::place::Step;
-use super::place::due_line;
 use super::place::missing;
 use lines::Count;
 use lines::NameLine;

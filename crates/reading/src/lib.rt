@@ -1,6 +1,7 @@
 // A SOC text read to its record, or to its first refusal (document 01, "The SOC text").
 mod block;
 mod head;
+mod line_reader;
 mod place;
 mod read;
 

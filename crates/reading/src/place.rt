@@ -1,8 +1,6 @@
-// A place among the lines of a text, and the next line from there.
-use fields::NextLine;
+// A place among the lines of a text, and the answers that hold one.
 use units::Refusal;
 ghost use mathlib.Core.Path.{_≡_};
-ghost use Rattle.reading.specs.Steps.{Inside, DueIs};
 ghost use Rattle.units.specs.Refusals.{refused};
 
 // Where a line begins, and its number.
@@ -21,26 +19,6 @@ pub enum Due {
 pub enum Step {
     No(Refusal),
     Next(Place),
-}
-
-pub(crate) fn due_line(text: &[u8], p: Place) -> Due
-    requires { ⌜ Inside (now text) p ⌝ }
-    ensures { λ r. ⌜ DueIs (now (text .entry)) p r ⌝ }
-{
-    let at = p.at;
-    let line = p.line;
-    match fields::next_line(text, at) {
-        NextLine::End => Due::Missing,
-        NextLine::Found(a, e, next, k) => Due::Line(
-            a,
-            e,
-            line + k,
-            Place {
-                at: next,
-                line: line + k + 1,
-            },
-        ),
-    }
 }
 
 // The text ends while lines are still due.
