@@ -20,7 +20,8 @@ figure-at-requires c κs = search needs
 returns : tie.Need-returns
 returns c =
     let k = c .before .before .before in
-    key-number-no _ _ _ _ _ _ (sym (c .before .c .given .1) ∙ k .past-word .ensures)
+    let s = k .before .before .before in
+    key-number-no _ _ (s .args .w .now) (s .args .low) (s .args .high) _ (sym (c .before .c .given .1) ∙ k .past-word .ensures)
 
 returns-2 : tie.Need-returns-2
 returns-2 c =

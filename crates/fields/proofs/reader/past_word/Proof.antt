@@ -44,7 +44,7 @@ unfolding bytesDue
 returns c =
     let n = c .before .before in
     let s = n .before .before .before in
-    word-no _ _ _ _ (ap (bytesDue (s .args .w .now)) (next-nothing _ _ (sym (n .next-field .ensures) ∙ c .enum-told .given .1)))
+    word-no (s .args .l .now) (s .args .at) (s .args .w .now) _ (ap (bytesDue (s .args .w .now)) (next-nothing _ _ (sym (n .next-field .ensures) ∙ c .enum-told .given .1)))
 
 returns-2 : tie.Need-returns-2
 unfolding bytesDue
