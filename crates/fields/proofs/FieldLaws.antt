@@ -1,6 +1,7 @@
--- Laws of the fields of a line: what `nextField` names is the first field at or behind a place, and where it names none there is none.
+-- Laws of the fields of a line: what `nextField` names is the first field at or behind a place, and where it names none there is none;
+-- behind the end of that field stand the other fields.
 use Prim.Native.Nat.{ℕ, suc, _+_, _-_, _≤_, _<_}
-use mathlib.Core.Path.{_≡_, refl, ap, _∙_}
+use mathlib.Core.Path.{_≡_, refl, sym, ap, _∙_}
 use mathlib.Core.Bool.{Bool, true, false, cond, not}
 use mathlib.Core.List.{List, [], _∷_}
 use native.Mathlib.Omega.{arith}
@@ -8,7 +9,8 @@ use borrow.Author.Tests.{ltb-true, ltb-false, not-true, not-false}
 use lib.ListN.{length, take, drop, length-drop, drop-of-length-le}
 use lib.Dec.{ltb}
 use lib.Seq.{drop-drop}
-use Rattle.fields.specs.Fields.{gap, begins, onField, fieldsOf, part, gaps, run, fieldFrom, nextField}
+use Rattle.fields.specs.Fields.{gap, begins, onField, fieldsOf, part, gaps, run, runEnd, fieldFrom, nextField, fieldEnd}
+use Rattle.fields.specs.declared.field.Next.{Next}
 use Rattle.fields.specs.declared.field.Next.the-variants.{Field, Nothing}
 use Rattle.fields.proofs.CountLaws.{run-counts, count-le}
 
@@ -90,3 +92,20 @@ next-nothing s at h = go (at + gaps (drop at s)) refl (ltb (at + gaps (drop at s
     go : (m : ℕ) → at + gaps (drop at s) ≡ m → (t : Bool) → ltb m (length s) ≡ t → cond t (Field m (m + run (drop m s))) Nothing ≡ Nothing → fieldsOf (drop at s) ≡ []
     go m p true l q = let z : _≡_ {A = ℕ} 0 1 = cc in absurd (omega arith)
     go m p false l q = fields-past s at m p ∙ ap fieldsOf (drop-of-length-le s (ltb-false m (length s) l))
+
+-- the end that `nextField` names is the field's end
+pub next-end : (s : List ℕ) (at a e : ℕ) → nextField s at ≡ Field a e → fieldEnd s at ≡ e
+unfolding nextField fieldFrom fieldEnd
+next-end s at a e h = go (at + gaps (drop at s)) (ltb (at + gaps (drop at s)) (length s)) h
+  where
+    go : (m : ℕ) (t : Bool) → cond t (Field m (runEnd s m)) Nothing ≡ Field a e → runEnd s m ≡ e
+    go m true q = cc
+    go m false q = let z : _≡_ {A = ℕ} 0 1 = cc in absurd (omega arith)
+
+-- the fields behind the first one are those behind its end
+pub fields-behind : (s : List ℕ) (at : ℕ) (f : List ℕ) (fs : List (List ℕ)) → fieldsOf (drop at s) ≡ f ∷ fs → fs ≡ fieldsOf (drop (fieldEnd s at) s)
+fields-behind s at f fs h = go (nextField s at) refl
+  where
+    go : (n : Next) → nextField s at ≡ n → fs ≡ fieldsOf (drop (fieldEnd s at) s)
+    go (Field a e) q = let k : part s a e ∷ fieldsOf (drop e s) ≡ f ∷ fs = sym (next-field s at a e q .is) ∙ h in rw (next-end s at a e q) (cc)
+    go Nothing q = let k = next-nothing s at q in let z : _≡_ {A = ℕ} 0 1 = cc in absurd (omega arith)

@@ -1,3 +1,4 @@
+pub mod AnswerLaws
 pub mod BackLaws
 pub mod CountLaws
 pub mod FieldLaws

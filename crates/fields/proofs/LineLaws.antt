@@ -1,5 +1,5 @@
 -- Laws of the lines of a text: `lineAt` names the first line from a place on and where the next begins, a blank line drops out of the numbered
--- lines, and what an answer of `next_line` says of them.
+-- lines, what an answer of `next_line` says of them, and that there is only one such answer.
 use Prim.Native.Nat.{ℕ, zero, suc, _+_, _-_, _≤_, _<_}
 use mathlib.Core.Path.{_≡_, refl, sym, ap, _∙_}
 use mathlib.Core.Bool.{Bool, true, false, cond, _&&_, and-false}
@@ -12,7 +12,7 @@ use lib.Dec.{eqb, ltb}
 use lib.Seq.{drop-drop, getD-drop, take-all}
 use Rattle.fields.specs.Bytes.{lf, cr, lfNext}
 use Rattle.fields.specs.Fields.{fieldsOf, part, blank}
-use Rattle.fields.specs.Lines.{onLine, linesOf, Line, withLine, numbered, linesFrom, untilLf, lineTo, lineEnding, lineAt, Placed, NextLineIs}
+use Rattle.fields.specs.Lines.{onLine, linesOf, Line, withLine, numbered, linesFrom, untilLf, lineTo, lineEnding, lineAt, Placed, meantLines, lineStart, NextLineIs}
 use Rattle.fields.specs.declared.line.OneLine.{OneLine}
 use Rattle.fields.specs.declared.line.NextLine.{NextLine}
 use Rattle.fields.specs.declared.line.NextLine.the-variants.{Found, End}
@@ -226,3 +226,35 @@ module _ (t : List ℕ) (from : ℕ) (r : NextLine) (is : NextLineIs t from r) w
 
   pub end-lines : r ≡ End → (n : ℕ) → linesFrom n t from ≡ []
   end-lines h n = sym ((rw h at is) .meant n)
+
+-- the line behind the one that is k lines behind a place
+pub start-more : (t : List ℕ) (from k a : ℕ) (o : OneLine) → a ≡ lineStart t from k → o ≡ lineAt t a → o .next ≡ lineStart t from (k + 1)
+unfolding lineStart
+start-more t from k a o p q = ap (λ l. l .next) q ∙ rw (p, add-one) (go from k)
+  where
+    go : (from k : ℕ) → lineAt t (lineStart t from k) .next ≡ lineStart t from (suc k)
+    go from zero = refl
+    go from (suc k) = go (lineAt t from .next) k
+
+first-number : (x y : Line) (xs ys : List Line) → x ∷ xs ≡ y ∷ ys → x .number ≡ y .number
+first-number x y xs ys h = let e : x ≡ y = cc in ap (λ (l : Line). l .number) e
+
+-- two answers that meet the promise of `next_line` are equal: they pass as many lines, so they begin at the same place, and end there
+pub next-line-unique : (t : List ℕ) (from : ℕ) (r q : NextLine) → NextLineIs t from r → NextLineIs t from q → r ≡ q
+next-line-unique t from (Found a e next k) (Found b f more m) x y =
+    let h : 0 + k ≡ 0 + m = first-number _ _ _ _ (x .meant 0 ∙ sym (y .meant 0)) in
+    let u : k ≡ m = omega arith in
+    let s : a ≡ b = x .exact .starts ∙ ap (lineStart t from) u ∙ sym (y .exact .starts) in
+    let o : _≡_ {A = OneLine} (record { to = e; next = next }) (record { to = f; next = more }) = x .exact .ends ∙ ap (lineAt t) s ∙ sym (y .exact .ends) in
+    let v : e ≡ f = ap (λ l. l .to) o in
+    let w : next ≡ more = ap (λ l. l .next) o in
+    cc
+next-line-unique t from (Found a e next k) End x y =
+    let h : meantLines t 0 (Found a e next k) ≡ [] = x .meant 0 ∙ sym (y .meant 0) in
+    let z : _≡_ {A = ℕ} 0 1 = cc in
+    absurd (omega arith)
+next-line-unique t from End (Found b f more m) x y =
+    let h : meantLines t 0 (Found b f more m) ≡ [] = y .meant 0 ∙ sym (x .meant 0) in
+    let z : _≡_ {A = ℕ} 0 1 = cc in
+    absurd (omega arith)
+next-line-unique t from End End x y = refl

@@ -49,9 +49,17 @@ unfoldable pub run : List ℕ → ℕ
 run [] = 0
 run (b ∷ bs) = cond (gap b) 0 (suc (run bs))
 
+-- where the run of such bytes from a place on ends
+abbrev pub runEnd : List ℕ → ℕ → ℕ
+runEnd s a = a + run (drop a s)
+
 -- the first field at or behind a place: where it begins and where it ends
 unfoldable pub fieldFrom : List ℕ → ℕ → Next
-fieldFrom s a = cond (ltb a (length s)) (Field a (a + run (drop a s))) Nothing
+fieldFrom s a = cond (ltb a (length s)) (Field a (runEnd s a)) Nothing
 
 unfoldable pub nextField : List ℕ → ℕ → Next
 nextField s at = fieldFrom s (at + gaps (drop at s))
+
+-- where that field ends; where there is none, the end of the gaps
+unfoldable pub fieldEnd : List ℕ → ℕ → ℕ
+fieldEnd s at = runEnd s (at + gaps (drop at s))

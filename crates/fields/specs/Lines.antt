@@ -73,7 +73,22 @@ abbrev pub PlacedIn : List ℕ → ℕ → NextLine → Type 0
 PlacedIn t from (Found a e next k) = Placed t from a e next k
 PlacedIn t from End = Unit {0}
 
+-- where the line begins that is k lines behind the one at a place
+unfoldable pub lineStart : List ℕ → ℕ → ℕ → ℕ
+lineStart t from zero = from
+lineStart t from (suc k) = lineStart t (lineAt t from .next) k
+
+-- a line's places are those of the line that is k lines behind the one at `from`
+pub record Exact (t : List ℕ) (from a e next k : ℕ) : Type 0 where
+  pub starts : a ≡ lineStart t from k
+  pub ends : record { to = e; next = next } ≡ lineAt t a
+
+abbrev pub ExactIn : List ℕ → ℕ → NextLine → Type 0
+ExactIn t from (Found a e next k) = Exact t from a e next k
+ExactIn t from End = Unit {0}
+
 -- the first line at or behind a place that is not blank
 pub record NextLineIs (t : List ℕ) (from : ℕ) (r : NextLine) : Type 0 where
   pub placed : PlacedIn t from r
   pub meant : (n : ℕ) → meantLines t n r ≡ linesFrom n t from
+  pub exact : ExactIn t from r

@@ -7,7 +7,7 @@ use mathlib.Core.Option.{Option, some, none}
 use lib.ListN.{drop}
 use lib.Dec.{leb}
 use Rattle.fields.specs.Bytes.{bytes, sameBytes}
-use Rattle.fields.specs.Fields.{fieldsOf}
+use Rattle.fields.specs.Fields.{fieldsOf, fieldEnd}
 use Rattle.fields.specs.Numbers.{decimalOf}
 use Rattle.fields.specs.declared.reader.Past.{Past}
 use Rattle.fields.specs.declared.reader.Past.the-variants as past
@@ -82,3 +82,24 @@ pastIs l (past.At e) = got tt (fieldsOf (drop e l))
 abbrev pub figureIs : List ℕ → Figure → FieldsGot ℕ
 figureIs l (figure.No c) = no c
 figureIs l (figure.Is v e) = got v (fieldsOf (drop e l))
+
+-- the answer to a reading whose last field ends at e: the refusal, or the value and the place e
+unfoldable pub pastAt : ℕ → FieldsGot (Unit {0}) → Past
+pastAt e (no c) = past.No c
+pastAt e (got a fs) = past.At e
+
+unfoldable pub figureAt : ℕ → FieldsGot ℕ → Figure
+figureAt e (no c) = figure.No c
+figureAt e (got v fs) = figure.Is v e
+
+-- the keyword w at a place of the line l: it ends where its field does
+unfoldable pub wordAnswer : List ℕ → ℕ → List ℕ → Past
+wordAnswer l at w = pastAt (fieldEnd l at) (bytesDue w (fieldsOf (drop at l)))
+
+-- a number from low to high there
+unfoldable pub numberAnswer : List ℕ → ℕ → ℕ → ℕ → Figure
+numberAnswer l at low high = figureAt (fieldEnd l at) (between low high (fieldsOf (drop at l)))
+
+-- the keyword w and then such a number, which is the second field
+unfoldable pub keyNumberAnswer : List ℕ → ℕ → List ℕ → ℕ → ℕ → Figure
+keyNumberAnswer l at w low high = figureAt (fieldEnd l (fieldEnd l at)) (keyBetween w low high (fieldsOf (drop at l)))

@@ -3,9 +3,7 @@
 use super::Next;
 use super::Number;
 ghost use mathlib.Core.Path.{_≡_};
-ghost use lib.ListN.{drop};
-ghost use Rattle.fields.specs.Fields.{fieldsOf};
-ghost use Rattle.fields.specs.Readers.{bytesDue, between, keyBetween, pastIs, figureIs};
+ghost use Rattle.fields.specs.Readers.{wordAnswer, numberAnswer, keyNumberAnswer};
 
 pub enum Past {
     No(u8),
@@ -19,7 +17,7 @@ pub enum Figure {
 
 // The keyword w.
 pub fn past_word(l: &[u8], at: usize, w: &[u8]) -> Past
-    ensures { λ r. ⌜ pastIs (now (l .entry)) r ≡ bytesDue (now (w .entry)) (fieldsOf (drop at (now (l .entry)))) ⌝ }
+    ensures { λ r. ⌜ r ≡ wordAnswer (now (l .entry)) at (now (w .entry)) ⌝ }
 {
     match super::next_field(l, at) {
         Next::Nothing => Past::No(3),
@@ -35,7 +33,7 @@ pub fn past_word(l: &[u8], at: usize, w: &[u8]) -> Past
 
 // A number from low to high, both below 4,294,967,296.
 pub fn figure_at(l: &[u8], at: usize, low: u32, high: u32) -> Figure
-    ensures { λ r. ⌜ figureIs (now (l .entry)) r ≡ between low high (fieldsOf (drop at (now (l .entry)))) ⌝ }
+    ensures { λ r. ⌜ r ≡ numberAnswer (now (l .entry)) at low high ⌝ }
 {
     match super::next_field(l, at) {
         Next::Nothing => Figure::No(3),
@@ -56,7 +54,7 @@ pub fn figure_at(l: &[u8], at: usize, low: u32, high: u32) -> Figure
 
 // The keyword w, and then a number from low to high.
 pub fn key_figure(l: &[u8], at: usize, w: &[u8], low: u32, high: u32) -> Figure
-    ensures { λ r. ⌜ figureIs (now (l .entry)) r ≡ keyBetween (now (w .entry)) low high (fieldsOf (drop at (now (l .entry)))) ⌝ }
+    ensures { λ r. ⌜ r ≡ keyNumberAnswer (now (l .entry)) at (now (w .entry)) low high ⌝ }
 {
     match past_word(l, at, w) {
         Past::No(c) => Figure::No(c),

@@ -1,18 +1,19 @@
 -- `fields::line::next_line` meets its contract. The loop's invariant: the lines that are not blank are the same from `from` and from `at` on,
--- where those from `at` on have numbers greater by `passed`. The measure is what is left of the length. Assumes nothing.
+-- where those from `at` on have numbers greater by `passed`, and `at` is the start of the line that is `passed` lines behind. The measure is what is left of the length. Assumes nothing.
 use borrow.Author.Needs.{needs}
 use borrow.Author.Tests.{not-true, not-false}
 use native.Mathlib.Omega.{arith}
 use Prim.Native.Nat.{ℕ, _+_, _-_, _≤_}
-use mathlib.Core.Path.{_≡_, sym, ap, _∙_}
+use mathlib.Core.Path.{_≡_, refl, sym, ap, _∙_}
 use lib.ListN.{length}
-use Rattle.fields.specs.Lines.{linesFrom}
-use Rattle.fields.proofs.LineLaws.{LineIs, line-is, lines-blank, lines-some, lines-none}
+use Rattle.fields.specs.Lines.{linesFrom, lineStart}
+use Rattle.fields.proofs.LineLaws.{LineIs, line-is, lines-blank, lines-some, lines-none, start-more}
 use Rattle.fields.proofs.line.next_line.Statement.{statement}
 use Rattle.fields.proofs.line.next_line.Tie as tie
 
 abbrev Inv-loop : tie.InvT-loop
-Inv-loop text from at₀ passed₀ at passed = (from + passed ≤ at) × ((n : ℕ) → linesFrom n text from ≡ linesFrom (n + passed) text at)
+Inv-loop text from at₀ passed₀ at passed =
+    (from + passed ≤ at) × (at ≡ lineStart text from passed) × ((n : ℕ) → linesFrom n text from ≡ linesFrom (n + passed) text at)
 
 abbrev μ-loop : tie.MeasureT-loop
 μ-loop text from at₀ passed₀ at passed = length text - at
@@ -22,7 +23,8 @@ line : (c : tie.After-line-at Inv-loop μ-loop) → LineIs (c .before .before .b
 line c = line-is _ _ _ (c .before .loop-test .taken) (c .line-at .ensures)
 
 loop-holds : tie.Need-loop-holds Inv-loop μ-loop
-loop-holds c = (omega arith, λ n. let e : n + 0 ≡ n = omega arith in rw e)
+unfolding lineStart
+loop-holds c = (omega arith, refl, λ n. let e : n + 0 ≡ n = omega arith in rw e)
 
 line-at-requires : tie.Need-line-at-requires Inv-loop μ-loop
 line-at-requires c κs = search needs
@@ -46,7 +48,8 @@ returns c =
     let k = line a in
     record {
       placed = record { passed = l .loop .inv .0; begin = k .begin; end = k .end; more = k .more; inside = k .inside };
-      meant = λ n. sym (l .loop .inv .1 n ∙ lines-some _ _ _ _ k (sym (c .before .is-blank .ensures) ∙ not-true _ (c .if1 .taken)) (n + l .loop .passed));
+      meant = λ n. sym (l .loop .inv .2 n ∙ lines-some _ _ _ _ k (sym (c .before .is-blank .ensures) ∙ not-true _ (c .if1 .taken)) (n + l .loop .passed));
+      exact = record { starts = l .loop .inv .1; ends = a .line-at .ensures };
     }
 
 add-passed : tie.Need-add-passed Inv-loop μ-loop
@@ -61,13 +64,14 @@ loop-again c =
     let l = a .before .before in
     let k = line a in (
       omega arith,
+      start-more _ _ _ _ _ (l .loop .inv .1) (a .line-at .ensures),
       λ n.
           let e : n + l .loop .passed + 1 ≡ n + (l .loop .passed + 1) = omega arith in
-          l .loop .inv .1 n ∙ lines-blank _ _ _ _ k (sym (c .before .is-blank .ensures) ∙ not-false _ (c .if1 .left)) (n + l .loop .passed) ∙ ap (λ m. linesFrom m (l .before .before .args .text .now) (a .line-at .result .next)) e,
+          l .loop .inv .2 n ∙ lines-blank _ _ _ _ k (sym (c .before .is-blank .ensures) ∙ not-false _ (c .if1 .left)) (n + l .loop .passed) ∙ ap (λ m. linesFrom m (l .before .before .args .text .now) (a .line-at .result .next)) e,
     )
 
 returns-2 : tie.Need-returns-2 Inv-loop μ-loop
-returns-2 c = record { placed = tt; meant = λ n. sym (c .before .loop .inv .1 n ∙ lines-none _ _ _ (c .loop-test .left)) }
+returns-2 c = record { placed = tt; meant = λ n. sym (c .before .loop .inv .2 n ∙ lines-none _ _ _ (c .loop-test .left)); exact = tt }
 
 pub next-line-spec : {M : Type 1} → statement M
 next-line-spec =

@@ -1,12 +1,12 @@
 -- `fields::name::is_name` meets its contract. The loop's invariant: the field is a name where the bytes left are a name's. Assumes nothing.
 use borrow.Author.Needs.{needs}
 use native.Mathlib.Omega.{arith}
-use Prim.Native.Nat.{_-_, _≤_}
+use Prim.Native.Nat.{_-_, _≤_, _<_}
 use mathlib.Core.Path.{_≡_, sym, _∙_}
 use mathlib.Core.Bool.{and-false}
 use borrow.Author.Tests.{not-true, not-false, lt-leb, le-leb}
 use lib.ListN.{length, drop}
-use Rattle.fields.specs.Names.{nameBytes, isName}
+use Rattle.fields.specs.Names.{nameMax, nameBytes, isName}
 use Rattle.fields.proofs.NameLaws.{name-bytes-at, name-bytes-end}
 use Rattle.fields.proofs.name.is_name.Statement.{statement}
 use Rattle.fields.proofs.name.is_name.Tie as tie
@@ -21,10 +21,17 @@ returns : tie.Need-returns Inv-loop μ-loop
 returns c = simp (lt-leb _ _ (c .if1 .taken))
 
 returns-2 : tie.Need-returns-2 Inv-loop μ-loop
-returns-2 c = simp (lt-leb _ _ (c .if2 .taken), and-false)
+returns-2 c =
+    let f = c .before .before .before .args .f .now in
+    let h : nameMax < length f = omega arith in
+    simp (lt-leb _ _ h, and-false)
 
 loop-holds : tie.Need-loop-holds Inv-loop μ-loop
-loop-holds c = (omega arith, simp (le-leb _ _ (c .before .if1 .left), le-leb _ _ (c .if2 .left)))
+loop-holds c =
+    let f = c .before .before .before .args .f .now in
+    let h : 1 ≤ length f = omega arith in
+    let k : length f ≤ nameMax = omega arith in
+    (omega arith, simp (le-leb _ _ h, le-leb _ _ k))
 
 shared-slice-read-b : tie.Need-shared-slice-read-b Inv-loop μ-loop
 shared-slice-read-b c = search needs

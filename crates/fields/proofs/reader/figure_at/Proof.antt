@@ -1,14 +1,16 @@
 -- `fields::reader::figure_at` meets its contract. What `next_field` names is the first field, by the law of fields; its number is cut at a cap
--- that is over both limits, so that the tests on the cut number are those on the number. Assumes nothing.
+-- that is over both limits, so that the tests on the cut number are those on the number. The place answered is that field's end. Assumes
+-- nothing.
 use borrow.Author.Needs.{needs}
 use native.Mathlib.Omega.{arith}
 use mathlib.Core.Path.{_≡_, sym, ap, _∙_}
 use lib.ListN.{drop}
-use Rattle.fields.specs.Fields.{fieldsOf, part}
+use Rattle.fields.specs.Fields.{fieldsOf, fieldEnd, part}
 use Rattle.fields.specs.Numbers.{decimalOf, cut}
 use Rattle.fields.specs.Readers.{between, within}
 use Rattle.fields.specs.declared.number.Number.the-variants.{Value}
-use Rattle.fields.proofs.FieldLaws.{FieldIs, next-field, next-nothing}
+use Rattle.fields.proofs.FieldLaws.{FieldIs, next-field, next-end, next-nothing}
+use Rattle.fields.proofs.AnswerLaws.{number-no, number-got}
 use Rattle.fields.proofs.ReaderLaws.{within-bad, within-below, within-above, within-got}
 use Rattle.fields.proofs.reader.figure_at.Statement.{statement}
 use Rattle.fields.proofs.reader.figure_at.Tie as tie
@@ -16,6 +18,9 @@ use Rattle.fields.proofs.reader.figure_at.Tie as tie
 -- the field that was found
 field : (c : tie.After-a) → let s = c .before .before .before .before in FieldIs (s .args .l .now) (s .args .at) (c .a .given .0 .0) (c .a .given .0 .1 .0)
 field c = next-field _ _ _ _ (sym (c .before .before .next-field .ensures) ∙ c .a .given .1)
+
+end : (c : tie.After-a) → let s = c .before .before .before .before in fieldEnd (s .args .l .now) (s .args .at) ≡ c .a .given .0 .1 .0
+end c = next-end _ _ _ _ (sym (c .before .before .next-field .ensures) ∙ c .a .given .1)
 
 -- its number decides
 found : (c : tie.After-a) → let s = c .before .before .before .before in let l = s .args .l .now in
@@ -60,31 +65,32 @@ returns : tie.Need-returns
 returns c =
     let v = c .before .before in
     let s = v .before .before .before .before .before .before .before .before .before in
-    sym (found (v .before .before .before .before .before) ∙ within-below (s .args .low) (s .args .high) _ _ _ (value v) (c .if1 .taken) (omega arith))
+    number-no _ _ _ _ _ (found (v .before .before .before .before .before) ∙ within-below (s .args .low) (s .args .high) _ _ _ (value v) (c .if1 .taken) (omega arith))
 
 returns-2 : tie.Need-returns-2
 returns-2 c =
     let v = c .before .before .before in
     let s = v .before .before .before .before .before .before .before .before .before in
-    sym (found (v .before .before .before .before .before) ∙ within-above (s .args .low) (s .args .high) _ _ _ (value v) (c .if2 .taken))
+    number-no _ _ _ _ _ (found (v .before .before .before .before .before) ∙ within-above (s .args .low) (s .args .high) _ _ _ (value v) (c .if2 .taken))
 
 returns-3 : tie.Need-returns-3
 unfolding between
 returns-3 c =
     let n = c .before .before in
     let s = n .before .before in
-    sym (ap (between (s .args .low) (s .args .high)) (next-nothing _ _ (sym (n .next-field .ensures) ∙ c .enum-told .given .1)))
+    number-no _ _ _ _ _ (ap (between (s .args .low) (s .args .high)) (next-nothing _ _ (sym (n .next-field .ensures) ∙ c .enum-told .given .1)))
 
 returns-4 : tie.Need-returns-4
 returns-4 c =
     let k = c .before .before in
-    sym (found (k .before .before .before) ∙ within-bad _ _ _ _ (sym (k .number-of .ensures) ∙ c .enum-told2 .given .1))
+    number-no _ _ _ _ _ (found (k .before .before .before) ∙ within-bad _ _ _ _ (sym (k .number-of .ensures) ∙ c .enum-told2 .given .1))
 
 returns-5 : tie.Need-returns-5
 returns-5 c =
     let v = c .before .before .before in
     let s = v .before .before .before .before .before .before .before .before .before in
-    sym (found (v .before .before .before .before .before) ∙ within-got (s .args .low) (s .args .high) _ _ _ (value v) (c .before .if1 .left) (c .if2 .left) (omega arith))
+    let a = v .before .before .before .before .before in
+    number-got _ _ _ _ _ _ _ (end a) (found a ∙ within-got (s .args .low) (s .args .high) _ _ _ (value v) (c .before .if1 .left) (c .if2 .left) (omega arith))
 
 pub figure-at-spec : {M : Type 1} → statement M
 figure-at-spec =

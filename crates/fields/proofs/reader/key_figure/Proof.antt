@@ -1,8 +1,7 @@
 -- `fields::reader::key_figure` meets its contract. The definition goes on behind the keyword as the code does. Assumes nothing.
 use borrow.Author.Needs.{needs}
-use mathlib.Core.Path.{sym, ap, _∙_}
-use Rattle.fields.specs.Readers.{pastIs}
-use Rattle.fields.proofs.ReaderLaws.{after-no, after-got}
+use mathlib.Core.Path.{sym, _∙_}
+use Rattle.fields.proofs.AnswerLaws.{key-number-no, key-number-past}
 use Rattle.fields.proofs.reader.key_figure.Statement.{statement}
 use Rattle.fields.proofs.reader.key_figure.Tie as tie
 
@@ -21,14 +20,13 @@ figure-at-requires c κs = search needs
 returns : tie.Need-returns
 returns c =
     let k = c .before .before .before in
-    let l = k .before .before .before .args .l .now in
-    sym (after-no _ _ _ (sym (k .past-word .ensures) ∙ ap (pastIs l) (c .before .c .given .1)))
+    let s = k .before .before .before in
+    key-number-no _ _ (s .args .w .now) (s .args .low) (s .args .high) _ (sym (c .before .c .given .1) ∙ k .past-word .ensures)
 
 returns-2 : tie.Need-returns-2
 returns-2 c =
     let k = c .before .before .before .before in
-    let l = k .before .before .before .args .l .now in
-    c .figure-at .ensures ∙ sym (after-got _ _ _ _ (sym (k .past-word .ensures) ∙ ap (pastIs l) (c .before .before .e .given .1)))
+    c .figure-at .ensures ∙ key-number-past _ _ _ _ _ _ (sym (c .before .before .e .given .1) ∙ k .past-word .ensures)
 
 pub key-figure-spec : {M : Type 1} → statement M
 key-figure-spec =

@@ -1,16 +1,22 @@
 -- `fields::reader::past_word` meets its contract. What `next_field` names is the first field, by the law of fields, and the field is compared
--- with the keyword. Assumes nothing.
+-- with the keyword; the place answered is that field's end. Assumes nothing.
 use borrow.Author.Needs.{needs}
 use native.Mathlib.Omega.{arith}
-use mathlib.Core.Path.{sym, ap, _∙_}
+use mathlib.Core.Path.{_≡_, sym, ap, _∙_}
+use lib.ListN.{drop}
+use Rattle.fields.specs.Fields.{fieldsOf, fieldEnd}
 use Rattle.fields.specs.Readers.{bytesDue}
-use Rattle.fields.proofs.FieldLaws.{FieldIs, next-field, next-nothing}
+use Rattle.fields.proofs.FieldLaws.{FieldIs, next-field, next-end, next-nothing}
+use Rattle.fields.proofs.AnswerLaws.{word-no, word-got}
 use Rattle.fields.proofs.reader.past_word.Statement.{statement}
 use Rattle.fields.proofs.reader.past_word.Tie as tie
 
 -- the field that was found
 field : (c : tie.After-a) → let s = c .before .before .before .before .before in FieldIs (s .args .l .now) (s .args .at) (c .a .given .0 .0) (c .a .given .0 .1 .0)
 field c = next-field _ _ _ _ (sym (c .before .before .next-field .ensures) ∙ c .a .given .1)
+
+end : (c : tie.After-a) → let s = c .before .before .before .before .before in fieldEnd (s .args .l .now) (s .args .at) ≡ c .a .given .0 .1 .0
+end c = next-end _ _ _ _ (sym (c .before .before .next-field .ensures) ∙ c .a .given .1)
 
 next-field-requires : tie.Need-next-field-requires
 next-field-requires c κs = search needs
@@ -38,7 +44,7 @@ unfolding bytesDue
 returns c =
     let n = c .before .before in
     let s = n .before .before .before in
-    sym (ap (bytesDue (s .args .w .now)) (next-nothing _ _ (sym (n .next-field .ensures) ∙ c .enum-told .given .1)))
+    word-no (s .args .l .now) (s .args .at) (s .args .w .now) _ (ap (bytesDue (s .args .w .now)) (next-nothing _ _ (sym (n .next-field .ensures) ∙ c .enum-told .given .1)))
 
 returns-2 : tie.Need-returns-2
 unfolding bytesDue
@@ -46,7 +52,8 @@ returns-2 c =
     let k = c .before in
     let a = k .before .before .before in
     let s = a .before .before .before .before .before in
-    sym (ap (bytesDue (s .args .w .now)) (field a .is) ∙ simp (sym (k .same-bytes .ensures) ∙ c .if1 .taken))
+    let fs = fieldsOf (drop (a .a .given .0 .1 .0) (s .args .l .now)) in
+    word-got _ _ (s .args .w .now) _ fs (end a) (ap (bytesDue (s .args .w .now)) (field a .is) ∙ simp (sym (k .same-bytes .ensures) ∙ c .if1 .taken))
 
 returns-3 : tie.Need-returns-3
 unfolding bytesDue
@@ -54,7 +61,7 @@ returns-3 c =
     let k = c .before in
     let a = k .before .before .before in
     let s = a .before .before .before .before .before in
-    sym (ap (bytesDue (s .args .w .now)) (field a .is) ∙ simp (sym (k .same-bytes .ensures) ∙ c .if1 .left))
+    word-no _ _ _ 3 (ap (bytesDue (s .args .w .now)) (field a .is) ∙ simp (sym (k .same-bytes .ensures) ∙ c .if1 .left))
 
 pub past-word-spec : {M : Type 1} → statement M
 past-word-spec =

@@ -6,6 +6,7 @@ use mathlib.Core.Path.{_≡_, sym, ap, _∙_}
 use lib.ListN.{drop}
 use Rattle.fields.specs.Fields.{fieldsOf}
 use Rattle.fields.specs.Readers.{pastIs}
+use Rattle.fields.proofs.AnswerLaws.{word-is}
 use Rattle.fields.proofs.FieldLaws.{FieldIs, next-field, next-nothing}
 use Rattle.fields.proofs.ReaderLaws.{after-no, after-got}
 use Rattle.lines.specs.Kinds.{namePart, nameLine}
@@ -18,7 +19,7 @@ use Rattle.lines.proofs.head.name_line.Tie as tie
 -- what stands behind the keyword is the name's part
 behind : (c : tie.After-at) → let l = c .before .before .before .before .before .args .l .now in nameLine (fieldsOf l) ≡ namePart (fieldsOf (drop (c .at .given .0 .0) l))
 unfolding nameLine
-behind c = after-got _ _ _ _ (sym (c .before .before .past-word .ensures) ∙ ap (pastIs (c .before .before .before .before .before .args .l .now)) (c .at .given .1))
+behind c = after-got _ _ _ _ (sym (word-is _ _ _ (c .before .before .past-word .ensures)) ∙ ap (pastIs (c .before .before .before .before .before .args .l .now)) (c .at .given .1))
 
 -- the field that was found
 field : (c : tie.After-a) → FieldIs (c .before .before .before .before .before .before .before .before .before .args .l .now) (c .before .before .before .before .at .given .0 .0) (c .a .given .0 .0) (c .a .given .0 .1 .0)
@@ -56,7 +57,7 @@ name-at-requires c κs = let f = field (c .before) in (omega arith, f .high)
 
 returns : tie.Need-returns
 unfolding nameLine
-returns c = c .no-name .ensures ∙ sym (ap nameAnswer (closed-no _ _ (after-no _ _ _ (sym (c .before .before .before .before .past-word .ensures) ∙ ap (pastIs (c .before .before .before .before .before .before .before .args .l .now)) (c .before .before .c .given .1)))))
+returns c = c .no-name .ensures ∙ sym (ap nameAnswer (closed-no _ _ (after-no _ _ _ (sym (word-is _ _ _ (c .before .before .before .before .past-word .ensures)) ∙ ap (pastIs (c .before .before .before .before .before .before .before .args .l .now)) (c .before .before .c .given .1)))))
 
 returns-2 : tie.Need-returns-2
 returns-2 c =

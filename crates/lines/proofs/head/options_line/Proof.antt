@@ -2,6 +2,7 @@
 use borrow.Author.Needs.{needs}
 use mathlib.Core.Path.{sym, ap, _∙_}
 use Rattle.fields.specs.Readers.{pastIs}
+use Rattle.fields.proofs.AnswerLaws.{word-is}
 use Rattle.fields.proofs.ReaderLaws.{after-no, after-got}
 use Rattle.lines.specs.Parts.{closed}
 use Rattle.lines.specs.Kinds.{optionsLine}
@@ -27,11 +28,11 @@ options-at-requires c κs = search needs
 
 returns : tie.Need-returns
 unfolding optionsLine optionsAnswer
-returns c = sym (ap optionsAnswer (closed-no _ _ (after-no _ _ _ (sym (c .before .before .before .past-word .ensures) ∙ ap (pastIs (c .before .before .before .before .before .before .args .l .now)) (c .before .c .given .1)))))
+returns c = sym (ap optionsAnswer (closed-no _ _ (after-no _ _ _ (sym (word-is _ _ _ (c .before .before .before .past-word .ensures)) ∙ ap (pastIs (c .before .before .before .before .before .before .args .l .now)) (c .before .c .given .1)))))
 
 returns-2 : tie.Need-returns-2
 unfolding optionsLine
-returns-2 c = c .options-at .ensures ∙ sym (ap (λ g. optionsAnswer (closed g)) (after-got _ _ _ _ (sym (c .before .before .before .before .past-word .ensures) ∙ ap (pastIs (c .before .before .before .before .before .before .before .args .l .now)) (c .before .before .e .given .1))))
+returns-2 c = c .options-at .ensures ∙ sym (ap (λ g. optionsAnswer (closed g)) (after-got _ _ _ _ (sym (word-is _ _ _ (c .before .before .before .before .past-word .ensures)) ∙ ap (pastIs (c .before .before .before .before .before .before .before .args .l .now)) (c .before .before .e .given .1))))
 
 pub options-line-spec : {M : Type 1} → statement M
 options-line-spec =

@@ -4,6 +4,7 @@ use mathlib.Core.Path.{_≡_, sym, ap, _∙_}
 use lib.ListN.{drop}
 use Rattle.fields.specs.Fields.{fieldsOf}
 use Rattle.fields.specs.Readers.{got, figureIs}
+use Rattle.fields.proofs.AnswerLaws.{key-number-is}
 use Rattle.lines.specs.Kinds.{totalLine}
 use Rattle.lines.specs.Answers.{countAnswer}
 use Rattle.lines.proofs.HeadLaws.{closed-no, closed-blank, closed-more}
@@ -13,7 +14,7 @@ use Rattle.lines.proofs.head.total_line.Tie as tie
 -- the number that was read
 total : (c : tie.After-n) → let l = c .before .before .before .before .before .args .l .now in totalLine (fieldsOf l) ≡ got (c .n .given .0 .0) (fieldsOf (drop (c .n .given .0 .1 .0) l))
 unfolding totalLine
-total c = let s = c .before .before .before .before .before in sym (c .before .before .key-figure .ensures) ∙ ap (figureIs (s .args .l .now)) (c .n .given .1)
+total c = let s = c .before .before .before .before .before in sym (key-number-is _ _ _ _ _ (c .before .before .key-figure .ensures)) ∙ ap (figureIs (s .args .l .now)) (c .n .given .1)
 
 slice-aggregate-key-figure : tie.Need-slice-aggregate-key-figure
 slice-aggregate-key-figure c = search needs
@@ -38,7 +39,7 @@ unfolding totalLine countAnswer
 returns c =
     let k = c .before .before .before in
     let s = k .before .before .before in
-    sym (ap countAnswer (closed-no _ _ (sym (k .key-figure .ensures) ∙ ap (figureIs (s .args .l .now)) (c .before .c .given .1))))
+    sym (ap countAnswer (closed-no _ _ (sym (key-number-is _ _ _ _ _ (k .key-figure .ensures)) ∙ ap (figureIs (s .args .l .now)) (c .before .c .given .1))))
 
 returns-2 : tie.Need-returns-2
 unfolding countAnswer

@@ -6,6 +6,7 @@ use lib.ListN.{drop}
 use Rattle.fields.specs.Bytes.{bytes}
 use Rattle.fields.specs.Fields.{fieldsOf}
 use Rattle.fields.specs.Readers.{got, pastIs, figureIs}
+use Rattle.fields.proofs.AnswerLaws.{word-is, key-number-is}
 use Rattle.fields.proofs.ReaderLaws.{after-no, after-got, key-between-within}
 use Rattle.soc.specs.Limits.{chainsMax}
 use Rattle.lines.specs.Parts.{keyed, closed}
@@ -18,7 +19,7 @@ use Rattle.lines.proofs.level.chains_to_end.Tie as tie
 -- how many chains there are
 count : (c : tie.After-s) → let s = c .before .before .before .before .before in let l = s .args .l .now in
     keyed "ScanChains" 0 chainsMax (fieldsOf (drop (s .args .at) l)) ≡ got (c .s .given .0 .0) (fieldsOf (drop (c .s .given .0 .1 .0) l))
-count c = sym (c .before .before .key-figure .ensures) ∙ ap (figureIs (c .before .before .before .before .before .args .l .now)) (c .s .given .1)
+count c = sym (key-number-is _ _ _ _ _ (c .before .before .key-figure .ensures)) ∙ ap (figureIs (c .before .before .before .before .before .args .l .now)) (c .s .given .1)
 
 slice-aggregate-key-figure : tie.Need-slice-aggregate-key-figure
 slice-aggregate-key-figure c = search needs
@@ -58,7 +59,7 @@ lengths-to-end-requires c κs = key-between-within (bytes "ScanChains") 0 chains
 
 returns : tie.Need-returns
 unfolding chainsPart
-returns c = c .no-level .ensures ∙ sym (ap levelAnswer (closed-no _ _ (after-no _ _ _ (sym (c .before .before .before .before .key-figure .ensures) ∙ ap (figureIs (c .before .before .before .before .before .before .before .args .l .now)) (c .before .before .c .given .1)))))
+returns c = c .no-level .ensures ∙ sym (ap levelAnswer (closed-no _ _ (after-no _ _ _ (sym (key-number-is _ _ _ _ _ (c .before .before .before .before .key-figure .ensures)) ∙ ap (figureIs (c .before .before .before .before .before .before .before .args .l .now)) (c .before .before .c .given .1)))))
 
 returns-2 : tie.Need-returns-2
 unfolding chainsPart
@@ -67,7 +68,7 @@ returns-2 c =
     ∙ sym
     (ap
     levelAnswer
-    (closed-no _ _ (after-got _ _ _ _ (count (c .before .before .before .before .before .before .before)) ∙ after-no _ _ _ (sym (c .before .before .before .before .past-word .ensures) ∙ ap (pastIs (c .before .before .before .before .before .before .before .before .before .before .before .before .args .l .now)) (c .before .before .c2 .given .1)))))
+    (closed-no _ _ (after-got _ _ _ _ (count (c .before .before .before .before .before .before .before)) ∙ after-no _ _ _ (sym (word-is _ _ _ (c .before .before .before .before .past-word .ensures)) ∙ ap (pastIs (c .before .before .before .before .before .before .before .before .before .before .before .before .args .l .now)) (c .before .before .c2 .given .1)))))
 
 returns-3 : tie.Need-returns-3
 unfolding chainsPart
@@ -76,7 +77,7 @@ returns-3 c =
     ∙ sym
     (ap
     (λ g. levelAnswer (closed g))
-    (after-got _ _ _ _ (count (c .before .before .before .before .before .before .before)) ∙ after-got _ _ _ _ (sym (c .before .before .before .before .past-word .ensures) ∙ ap (pastIs (c .before .before .before .before .before .before .before .before .before .before .before .before .args .l .now)) (c .before .before .e2 .given .1))))
+    (after-got _ _ _ _ (count (c .before .before .before .before .before .before .before)) ∙ after-got _ _ _ _ (sym (word-is _ _ _ (c .before .before .before .before .past-word .ensures)) ∙ ap (pastIs (c .before .before .before .before .before .before .before .before .before .before .before .before .args .l .now)) (c .before .before .e2 .given .1))))
 
 pub chains-to-end-spec : {M : Type 1} → statement M
 chains-to-end-spec =

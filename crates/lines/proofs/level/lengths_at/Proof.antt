@@ -9,6 +9,7 @@ use lib.ListN.{length, take, drop, replicate, length-set}
 use lib.Seq.{take-suc-set}
 use Rattle.fields.specs.Fields.{fieldsOf}
 use Rattle.fields.specs.Readers.{each, figureIs, between, no, got}
+use Rattle.fields.proofs.AnswerLaws.{number-is}
 use Rattle.fields.proofs.ReaderLaws.{prepend, prepend-none, each-no, each-more, each-end, between-within}
 use Rattle.soc.specs.Record.{flipFlops}
 use Rattle.soc.specs.Limits.{lengthMax}
@@ -26,7 +27,7 @@ abbrev μ-loop : tie.MeasureT-loop
 -- the length that was read
 length-read : (c : tie.After-v Inv-loop μ-loop) → let p = c .before .before .before .before in let l = p .before .before .args .l .now in
     between 1 lengthMax (fieldsOf (drop (p .loop .at) l)) ≡ got (c .v .given .0 .0) (fieldsOf (drop (c .v .given .0 .1 .0) l))
-length-read c = let s = c .before .before .before .before .before .before in sym (c .before .before .figure-at .ensures) ∙ ap (figureIs (s .args .l .now)) (c .v .given .1)
+length-read c = let s = c .before .before .before .before .before .before in sym (number-is _ _ _ _ (c .before .before .figure-at .ensures)) ∙ ap (figureIs (s .args .l .now)) (c .v .given .1)
 
 loop-holds : tie.Need-loop-holds Inv-loop μ-loop
 loop-holds c =
@@ -44,7 +45,7 @@ returns : tie.Need-returns Inv-loop μ-loop
 returns c =
     let p = c .before .before .before .before .before in
     let s = p .before .before in
-    let e : between 1 lengthMax (fieldsOf (drop (p .loop .at) (s .args .l .now))) ≡ no (c .before .c .given .0 .0) = sym (c .before .before .before .figure-at .ensures) ∙ ap (figureIs (s .args .l .now)) (c .before .c .given .1) in (
+    let e : between 1 lengthMax (fieldsOf (drop (p .loop .at) (s .args .l .now))) ≡ no (c .before .c .given .0 .0) = sym (number-is _ _ _ _ (c .before .before .before .figure-at .ensures)) ∙ ap (figureIs (s .args .l .now)) (c .before .c .given .1) in (
       sym (p .loop .inv .3 ∙ each-no _ 0 (s .args .n) (p .loop .i) _ _ _ (omega arith) (chain-no _ _ e)),
       spare-padded 64 (flipFlops 0) (p .loop .chains) (s .args .n) (spare-behind 64 (flipFlops 0) (p .loop .chains) (p .loop .i) (p .loop .inv .2) (s .args .n) (omega arith) (omega arith)) (p .loop .inv .1) (omega arith),
     )

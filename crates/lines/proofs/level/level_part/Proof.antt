@@ -7,6 +7,7 @@ use lib.ListN.{drop}
 use Rattle.fields.specs.Bytes.{bytes}
 use Rattle.fields.specs.Fields.{fieldsOf}
 use Rattle.fields.specs.Readers.{got, pastIs, figureIs}
+use Rattle.fields.proofs.AnswerLaws.{key-number-is}
 use Rattle.fields.proofs.ReaderLaws.{after-no, after-got, key-between-within}
 use Rattle.soc.specs.Limits.{levelMax}
 use Rattle.lines.specs.Parts.{keyed}
@@ -22,7 +23,7 @@ due c = sym (c .before .before .key-due .ensures) ∙ ap (pastIs (c .before .bef
 -- the level that was read
 found : (c : tie.After-v) → let e = c .before .before .before .before .before in let l = e .before .before .before .before .before .args .l .now in
     keyed "Level" 0 levelMax (fieldsOf (drop (e .e1 .given .0 .0) l)) ≡ got (c .v .given .0 .0) (fieldsOf (drop (c .v .given .0 .1 .0) l))
-found c = sym (c .before .before .key-figure .ensures) ∙ ap (figureIs (c .before .before .before .before .before .before .before .before .before .before .args .l .now)) (c .v .given .1)
+found c = sym (key-number-is _ _ _ _ _ (c .before .before .key-figure .ensures)) ∙ ap (figureIs (c .before .before .before .before .before .before .before .before .before .before .args .l .now)) (c .v .given .1)
 
 slice-aggregate-key-due : tie.Need-slice-aggregate-key-due
 slice-aggregate-key-due c = search needs
@@ -60,7 +61,7 @@ returns c = sym (after-no _ _ _ (sym (c .before .before .before .key-due .ensure
 
 returns-2 : tie.Need-returns-2
 unfolding level
-returns-2 c = sym (after-got _ _ _ _ (due (c .before .before .before .before .before .before)) ∙ after-no _ _ _ (sym (c .before .before .before .key-figure .ensures) ∙ ap (figureIs (c .before .before .before .before .before .before .before .before .before .before .before .args .l .now)) (c .before .c2 .given .1)))
+returns-2 c = sym (after-got _ _ _ _ (due (c .before .before .before .before .before .before)) ∙ after-no _ _ _ (sym (key-number-is _ _ _ _ _ (c .before .before .before .key-figure .ensures)) ∙ ap (figureIs (c .before .before .before .before .before .before .before .before .before .before .before .args .l .now)) (c .before .c2 .given .1)))
 
 returns-3 : tie.Need-returns-3
 unfolding level

@@ -7,6 +7,7 @@ use lib.ListN.{drop}
 use Rattle.fields.specs.Bytes.{bytes}
 use Rattle.fields.specs.Fields.{fieldsOf}
 use Rattle.fields.specs.Readers.{got, figureIs}
+use Rattle.fields.proofs.AnswerLaws.{key-number-is}
 use Rattle.fields.proofs.ReaderLaws.{after-no, after-got, key-between-within}
 use Rattle.soc.specs.Limits.{terminalsMax}
 use Rattle.lines.specs.Parts.{keyed}
@@ -17,17 +18,17 @@ use Rattle.lines.proofs.level.terminals_at.Tie as tie
 -- the inputs that were read
 inputs : (c : tie.After-i) → let s = c .before .before .before .before .before in let l = s .args .l .now in
     keyed "Inputs" 0 terminalsMax (fieldsOf (drop (s .args .at) l)) ≡ got (c .i .given .0 .0) (fieldsOf (drop (c .i .given .0 .1 .0) l))
-inputs c = let s = c .before .before .before .before .before in sym (c .before .before .key-figure .ensures) ∙ ap (figureIs (s .args .l .now)) (c .i .given .1)
+inputs c = let s = c .before .before .before .before .before in sym (key-number-is _ _ _ _ _ (c .before .before .key-figure .ensures)) ∙ ap (figureIs (s .args .l .now)) (c .i .given .1)
 
 -- the outputs that were read
 outputs : (c : tie.After-o) → let s = c .before .before .before .before .before .before .before .before .before .before in let l = s .args .l .now in
     keyed "Outputs" 0 terminalsMax (fieldsOf (drop (c .before .before .before .before .before .i .given .0 .1 .0) l)) ≡ got (c .o .given .0 .0) (fieldsOf (drop (c .o .given .0 .1 .0) l))
-outputs c = let s = c .before .before .before .before .before .before .before .before .before .before in sym (c .before .before .key-figure2 .ensures) ∙ ap (figureIs (s .args .l .now)) (c .o .given .1)
+outputs c = let s = c .before .before .before .before .before .before .before .before .before .before in sym (key-number-is _ _ _ _ _ (c .before .before .key-figure2 .ensures)) ∙ ap (figureIs (s .args .l .now)) (c .o .given .1)
 
 -- the bidirs that were read
 bidirs : (c : tie.After-b) → let s = c .before .before .before .before .before .before .before .before .before .before .before .before .before .before .before in let l = s .args .l .now in
     keyed "Bidirs" 0 terminalsMax (fieldsOf (drop (c .before .before .before .before .before .o .given .0 .1 .0) l)) ≡ got (c .b .given .0 .0) (fieldsOf (drop (c .b .given .0 .1 .0) l))
-bidirs c = let s = c .before .before .before .before .before .before .before .before .before .before .before .before .before .before .before in sym (c .before .before .key-figure3 .ensures) ∙ ap (figureIs (s .args .l .now)) (c .b .given .1)
+bidirs c = let s = c .before .before .before .before .before .before .before .before .before .before .before .before .before .before .before in sym (key-number-is _ _ _ _ _ (c .before .before .key-figure3 .ensures)) ∙ ap (figureIs (s .args .l .now)) (c .b .given .1)
 
 slice-aggregate-key-figure : tie.Need-slice-aggregate-key-figure
 slice-aggregate-key-figure c = search needs
@@ -76,15 +77,15 @@ cast-t29 c = let w = key-between-within (bytes "Bidirs") 0 terminalsMax _ _ _ (b
 
 returns : tie.Need-returns
 unfolding terminals
-returns c = sym (after-no _ _ _ (sym (c .before .before .before .key-figure .ensures) ∙ ap (figureIs (c .before .before .before .before .before .before .args .l .now)) (c .before .c .given .1)))
+returns c = sym (after-no _ _ _ (sym (key-number-is _ _ _ _ _ (c .before .before .before .key-figure .ensures)) ∙ ap (figureIs (c .before .before .before .before .before .before .args .l .now)) (c .before .c .given .1)))
 
 returns-2 : tie.Need-returns-2
 unfolding terminals
-returns-2 c = sym (after-got _ _ _ _ (inputs (c .before .before .before .before .before .before)) ∙ after-no _ _ _ (sym (c .before .before .before .key-figure2 .ensures) ∙ ap (figureIs (c .before .before .before .before .before .before .before .before .before .before .before .args .l .now)) (c .before .c2 .given .1)))
+returns-2 c = sym (after-got _ _ _ _ (inputs (c .before .before .before .before .before .before)) ∙ after-no _ _ _ (sym (key-number-is _ _ _ _ _ (c .before .before .before .key-figure2 .ensures)) ∙ ap (figureIs (c .before .before .before .before .before .before .before .before .before .before .before .args .l .now)) (c .before .c2 .given .1)))
 
 returns-3 : tie.Need-returns-3
 unfolding terminals
-returns-3 c = sym (after-got _ _ _ _ (inputs (c .before .before .before .before .before .before .before .before .before .before .before)) ∙ after-got _ _ _ _ (outputs (c .before .before .before .before .before .before)) ∙ after-no _ _ _ (sym (c .before .before .before .key-figure3 .ensures) ∙ ap (figureIs (c .before .before .before .before .before .before .before .before .before .before .before .before .before .before .before .before .args .l .now)) (c .before .c3 .given .1)))
+returns-3 c = sym (after-got _ _ _ _ (inputs (c .before .before .before .before .before .before .before .before .before .before .before)) ∙ after-got _ _ _ _ (outputs (c .before .before .before .before .before .before)) ∙ after-no _ _ _ (sym (key-number-is _ _ _ _ _ (c .before .before .before .key-figure3 .ensures)) ∙ ap (figureIs (c .before .before .before .before .before .before .before .before .before .before .before .before .before .before .before .before .args .l .now)) (c .before .c3 .given .1)))
 
 returns-4 : tie.Need-returns-4
 unfolding terminals

@@ -2,6 +2,7 @@
 use borrow.Author.Needs.{needs}
 use mathlib.Core.Path.{sym, ap, _∙_}
 use Rattle.fields.specs.Readers.{pastIs}
+use Rattle.fields.proofs.AnswerLaws.{word-is}
 use Rattle.fields.proofs.ReaderLaws.{after-no, after-got}
 use Rattle.lines.proofs.part.key_due.Statement.{statement}
 use Rattle.lines.proofs.part.key_due.Tie as tie
@@ -22,13 +23,13 @@ returns : tie.Need-returns
 returns c =
     let k = c .before .before .before in
     let l = k .before .before .before .args .l .now in
-    sym (after-no _ _ _ (sym (k .past-word .ensures) ∙ ap (pastIs l) (c .before .c .given .1)))
+    sym (after-no _ _ _ (sym (word-is _ _ _ (k .past-word .ensures)) ∙ ap (pastIs l) (c .before .c .given .1)))
 
 returns-2 : tie.Need-returns-2
 returns-2 c =
     let k = c .before .before .before .before in
     let l = k .before .before .before .args .l .now in
-    c .due-at .ensures ∙ sym (after-got _ _ _ _ (sym (k .past-word .ensures) ∙ ap (pastIs l) (c .before .before .e .given .1)))
+    c .due-at .ensures ∙ sym (after-got _ _ _ _ (sym (word-is _ _ _ (k .past-word .ensures)) ∙ ap (pastIs l) (c .before .before .e .given .1)))
 
 pub key-due-spec : {M : Type 1} → statement M
 key-due-spec =

@@ -5,6 +5,7 @@ use mathlib.Core.Path.{_≡_, sym, ap, _∙_}
 use lib.ListN.{drop}
 use Rattle.fields.specs.Fields.{fieldsOf}
 use Rattle.fields.specs.Readers.{got, figureIs}
+use Rattle.fields.proofs.AnswerLaws.{key-number-is}
 use Rattle.lines.specs.Parts.{closed}
 use Rattle.lines.specs.Kinds.{totalTests}
 use Rattle.lines.specs.Answers.{countAnswer}
@@ -16,7 +17,7 @@ use Rattle.lines.proofs.second.tests_to_end.Tie as tie
 answered : (c : tie.After-key-figure) → let s = c .before .before .before in let l = s .args .l .now in
     figureIs l (c .key-figure .result) ≡ totalTests (fieldsOf (drop (s .args .at) l))
 unfolding totalTests
-answered c = c .key-figure .ensures
+answered c = key-number-is _ _ _ _ _ (c .key-figure .ensures)
 
 -- the number that was read
 read : (c : tie.After-t) → let s = c .before .before .before .before .before in let l = s .args .l .now in

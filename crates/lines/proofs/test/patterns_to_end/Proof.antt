@@ -10,6 +10,7 @@ use mir.Val.{SFits}
 use Rattle.fields.specs.Bytes.{bytes}
 use Rattle.fields.specs.Fields.{fieldsOf}
 use Rattle.fields.specs.Readers.{got, figureIs}
+use Rattle.fields.proofs.AnswerLaws.{key-number-is}
 use Rattle.fields.proofs.ReaderLaws.{after-no, after-got, key-between-within}
 use Rattle.soc.specs.Limits.{patternsMax}
 use Rattle.soc.proofs.FigureLaws.{figure-back}
@@ -23,7 +24,7 @@ use Rattle.lines.proofs.test.patterns_to_end.Tie as tie
 -- what the call answers
 answered : (c : tie.After-key-figure) → let s = c .before .before .before in let l = s .args .l .now in
     figureIs l (c .key-figure .result) ≡ keyed "Patterns" 1 patternsMax (fieldsOf (drop (s .args .at) l))
-answered c = c .key-figure .ensures
+answered c = key-number-is _ _ _ _ _ (c .key-figure .ensures)
 
 -- the patterns that were read
 patterns : (c : tie.After-p) → let s = c .before .before .before .before .before in let l = s .args .l .now in
