@@ -83,6 +83,10 @@ printed (says k) text = textPrinted k (readSoc text)
 unfoldable pub listed : List ℕ → List ℕ
 listed input = writtenLines (printed (asked input) (textBehind input))
 
+-- a buffer of this length is always enough
+abbrev pub listingMax : ℕ
+listingMax = 2048
+
 -- "lent buffer shorter than what is to be written" is 11
 unfoldable pub listingAnswer : List ℕ → List ℕ → Listed
 listingAnswer input buf =

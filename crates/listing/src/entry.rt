@@ -15,10 +15,10 @@ ghost use Rattle.soc.specs.Rules.{goodSoc};
 ghost use Rattle.reading.specs.Reading.{readSoc};
 ghost use Rattle.writing.specs.Written.{writtenLines};
 ghost use Rattle.plan.specs.Answers.{planAnswer};
-ghost use Rattle.listing.specs.Listing.{planPrinted, textPrinted, listed, listingAnswer, listingLeaves};
+ghost use Rattle.listing.specs.Listing.{planPrinted, textPrinted, listed, listingMax, listingAnswer, listingLeaves};
 
 // A buffer of this length is always enough.
-pub const LISTING_MAX: usize = 1024;
+pub const LISTING_MAX: usize = 2048;
 
 // How many bytes were written; or the refusal.
 pub struct Listed {
@@ -27,9 +27,9 @@ pub struct Listed {
 }
 
 // What is printed for a good record.
-fn put_answer(buf: &mut [u8; 1024], s: Soc, wires: u32, limit: u32) -> usize
+fn put_answer(buf: &mut [u8; 2048], s: Soc, wires: u32, limit: u32) -> usize
     requires { ⌜ goodSoc s ≡ true ⌝ }
-    ensures { λ r. ⌜ Put (writtenLines (planPrinted s (planAnswer s wires limit))) 0 (now (buf .entry)) (now (buf .exit)) r ⌝ }
+    ensures { λ r. ⌜ Put (writtenLines (planPrinted s (planAnswer s wires limit))) 0 (now (buf .entry)) (now (buf .exit)) r × (length (writtenLines (planPrinted s (planAnswer s wires limit))) ≤ listingMax) ⌝ }
 {
     let answer = plan::plan(s, Wires(wires), limit);
     if answer.refusal.number != 0 {
@@ -39,8 +39,8 @@ fn put_answer(buf: &mut [u8; 1024], s: Soc, wires: u32, limit: u32) -> usize
 }
 
 // What is printed for a SOC text, where the first line is good.
-fn put_text(buf: &mut [u8; 1024], text: &[u8], wires: u32, limit: u32) -> usize
-    ensures { λ r. ⌜ Put (writtenLines (textPrinted (record { wires = wires; limit = limit }) (readSoc (now (text .entry))))) 0 (now (buf .entry)) (now (buf .exit)) r ⌝ }
+fn put_text(buf: &mut [u8; 2048], text: &[u8], wires: u32, limit: u32) -> usize
+    ensures { λ r. ⌜ Put (writtenLines (textPrinted (record { wires = wires; limit = limit }) (readSoc (now (text .entry))))) 0 (now (buf .entry)) (now (buf .exit)) r × (length (writtenLines (textPrinted (record { wires = wires; limit = limit }) (readSoc (now (text .entry))))) ≤ listingMax) ⌝ }
 {
     let read = text::read_soc(text);
     if read.refusal.number != 0 {
@@ -49,8 +49,8 @@ fn put_text(buf: &mut [u8; 1024], text: &[u8], wires: u32, limit: u32) -> usize
     put_answer(&mut *buf, read.soc, wires, limit)
 }
 
-fn put_listed(buf: &mut [u8; 1024], input: &[u8]) -> usize
-    ensures { λ r. ⌜ Put (listed (now (input .entry))) 0 (now (buf .entry)) (now (buf .exit)) r ⌝ }
+fn put_listed(buf: &mut [u8; 2048], input: &[u8]) -> usize
+    ensures { λ r. ⌜ Put (listed (now (input .entry))) 0 (now (buf .entry)) (now (buf .exit)) r × (length (listed (now (input .entry))) ≤ listingMax) ⌝ }
 {
     let line = fields::line_at(input, 0);
     let next = line.next;
@@ -61,9 +61,9 @@ fn put_listed(buf: &mut [u8; 1024], input: &[u8]) -> usize
 }
 
 pub fn listing(input: &[u8], buf: &mut [u8]) -> Listed
-    ensures { λ r. ⌜ (r ≡ listingAnswer (now (input .entry)) (now (buf .entry))) × (now (buf .exit) ≡ listingLeaves (now (input .entry)) (now (buf .entry))) ⌝ }
+    ensures { λ r. ⌜ (r ≡ listingAnswer (now (input .entry)) (now (buf .entry))) × (now (buf .exit) ≡ listingLeaves (now (input .entry)) (now (buf .entry))) × (length (listed (now (input .entry))) ≤ listingMax) ⌝ }
 {
-    let mut form = [0u8; 1024];
+    let mut form = [0u8; 2048];
     let n = put_listed(&mut form, input);
     if buf.len() < n {
         return Listed {

@@ -8,10 +8,10 @@ use libc::STDOUT_FILENO;
 fn main() {
     let mut input = io::large_buffer();
     let n = io::read_full(STDIN_FILENO, &mut input);
-    let mut out = [0u8; 1024];
+    let mut out = [0u8; 2048];
     let listed = listing::listing(&input[..n], &mut out);
     let len = listed.len;
-    if len <= 1024 {
+    if len <= 2048 {
         io::write_all(STDOUT_FILENO, &out[..len]);
     }
 }
