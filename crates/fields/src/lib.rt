@@ -5,6 +5,7 @@ mod field;
 mod line;
 mod name;
 mod number;
+mod put;
 mod reader;
 mod write;
 
@@ -22,6 +23,9 @@ pub use name::NAME_MAX;
 pub use name::is_name;
 pub use number::Number;
 pub use number::number_of;
+pub use put::put_bytes;
+pub use put::put_key;
+pub use put::put_number;
 pub use reader::Figure;
 pub use reader::Past;
 pub use reader::figure_at;

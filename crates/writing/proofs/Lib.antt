@@ -1,6 +1,5 @@
 pub mod FigureLaws
 pub mod GoodLaws
 pub mod LineLaws
-pub mod PutLaws
 pub mod RunLaws
 pub mod SizeLaws

@@ -4,20 +4,20 @@ ghost use mathlib.Core.List.{_++_};
 ghost use lib.ListN.{length};
 ghost use Rattle.fields.specs.Written.{decimal};
 ghost use Rattle.lines.specs.Written.{flagField, givenField};
-ghost use Rattle.writing.specs.Puts.{Put};
+ghost use Rattle.fields.specs.Puts.{Put};
 
 pub(crate) fn put_bytes(buf: &mut [u8], at: usize, w: &[u8]) -> usize
     requires { ⌜ at + length (now w) ≤ length (now buf) ⌝ }
     ensures { λ r. ⌜ Put (now (w .entry)) at (now (buf .entry)) (now (buf .exit)) r ⌝ }
 {
-    at + fields::write_bytes(&mut buf[at..], w)
+    fields::put_bytes(&mut *buf, at, w)
 }
 
 pub(crate) fn put_number(buf: &mut [u8], at: usize, v: u64) -> usize
     requires { ⌜ at + length (decimal v) ≤ length (now buf) ⌝ }
     ensures { λ r. ⌜ Put (decimal v) at (now (buf .entry)) (now (buf .exit)) r ⌝ }
 {
-    at + fields::write_number(&mut buf[at..], v)
+    fields::put_number(&mut *buf, at, v)
 }
 
 // Bytes, and a number behind them.

@@ -13,7 +13,7 @@ ghost use Prim.Native.Nat.{_+_, _≤_};
 ghost use lib.ListN.{length, take};
 ghost use Rattle.soc.specs.Rules.{goodSoc};
 ghost use Rattle.writing.specs.Written.{writtenLines, testLines, moduleLinesOf, moduleLinesFrom, writtenSoc, refusedWrite, writeAnswer, writeLeaves, Countable};
-ghost use Rattle.writing.specs.Puts.{Put};
+ghost use Rattle.fields.specs.Puts.{Put};
 
 // How many bytes were written; or the refusal.
 pub struct SocWritten {

@@ -4,7 +4,7 @@ use native.Mathlib.Omega.{arith}
 use lib.ListN.{length-append}
 use Rattle.lines.specs.Written.{flagField}
 use Rattle.writing.proofs.FigureLaws.{flag-length}
-use Rattle.writing.proofs.PutLaws.{put-then}
+use Rattle.fields.proofs.PutLaws.{put-then}
 use Rattle.writing.proofs.put.put_flag.Statement.{statement}
 use Rattle.writing.proofs.put.put_flag.Tie as tie
 

@@ -2,7 +2,7 @@
 use borrow.Author.Needs.{needs}
 use native.Mathlib.Omega.{arith}
 use lib.ListN.{length-append}
-use Rattle.writing.proofs.PutLaws.{put-then}
+use Rattle.fields.proofs.PutLaws.{put-then}
 use Rattle.writing.proofs.put.put_key.Statement.{statement}
 use Rattle.writing.proofs.put.put_key.Tie as tie
 

@@ -5,7 +5,7 @@ use mathlib.Core.List.{List, [], _∷_, _++_}
 use Rattle.soc.specs.Record.{testsOf}
 use Rattle.lines.specs.Written.{levelFields, testsFields}
 use Rattle.writing.specs.Written.{writtenLines, positionLines, moduleLinesOf}
-use Rattle.writing.proofs.PutLaws.{Due, due-all, due-room, due-next}
+use Rattle.fields.proofs.PutLaws.{Due, due-all, due-room, due-next}
 use Rattle.writing.proofs.RunLaws.{testsText, module-text}
 use Rattle.writing.proofs.write.put_module.Statement.{statement}
 use Rattle.writing.proofs.write.put_module.Tie as tie

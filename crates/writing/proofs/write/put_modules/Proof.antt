@@ -9,10 +9,10 @@ use lib.IntN.{pos}
 use lib.ListN.{length, getD, take, length-map, length-append}
 use Rattle.soc.specs.Record.{noModule}
 use Rattle.soc.specs.declared.record.Module.{Module}
-use Rattle.writing.specs.Puts.{Put}
+use Rattle.fields.specs.Puts.{Put}
 use Rattle.writing.specs.Written.{moduleLinesOf, moduleLinesFrom, writtenLines}
 use Rattle.writing.proofs.GoodLaws.{getD-same}
-use Rattle.writing.proofs.PutLaws.{put-none, put-then}
+use Rattle.fields.proofs.PutLaws.{put-none, put-then}
 use Rattle.writing.proofs.RunLaws.{modulesText, modules-more, modules-fits}
 use Rattle.writing.proofs.write.put_modules.Statement.{statement}
 use Rattle.writing.proofs.write.put_modules.Tie as tie

@@ -8,7 +8,7 @@ use Rattle.soc.specs.Record.{modulesOf}
 use Rattle.lines.specs.Written.{nameFields, totalFields, optionsFields}
 use Rattle.writing.specs.Written.{writtenLines, writtenSoc}
 use Rattle.writing.proofs.GoodLaws.{soc-figures, good-countable}
-use Rattle.writing.proofs.PutLaws.{Due, due-all, due-room, due-next}
+use Rattle.fields.proofs.PutLaws.{Due, due-all, due-room, due-next}
 use Rattle.writing.proofs.RunLaws.{modulesText, soc-text}
 use Rattle.writing.proofs.write.put_soc.Statement.{statement}
 use Rattle.writing.proofs.write.put_soc.Tie as tie

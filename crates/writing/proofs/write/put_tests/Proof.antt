@@ -9,9 +9,9 @@ use mathlib.Core.List.{[], _∷_, _++_}
 use lib.ListN.{length, getD, take, length-map, length-append}
 use Rattle.soc.specs.Record.{noTest}
 use Rattle.lines.specs.Written.{powerFields, testFields}
-use Rattle.writing.specs.Puts.{Put}
+use Rattle.fields.specs.Puts.{Put}
 use Rattle.writing.specs.Written.{testLines, writtenLines}
-use Rattle.writing.proofs.PutLaws.{put-none, put-then}
+use Rattle.fields.proofs.PutLaws.{put-none, put-then}
 use Rattle.writing.proofs.RunLaws.{testsText, tests-more, tests-fits}
 use Rattle.writing.proofs.write.put_tests.Statement.{statement}
 use Rattle.writing.proofs.write.put_tests.Tie as tie

@@ -11,7 +11,7 @@ use lib.Dec.{leb}
 use lib.Seq.{length-take-le}
 use Rattle.soc.specs.Rules.{goodSoc}
 use Rattle.writing.specs.Written.{writtenSoc, writeAnswer, writeLeaves}
-use Rattle.writing.proofs.PutLaws.{front-behind, front-within, front-text}
+use Rattle.fields.proofs.PutLaws.{front-behind, front-within, front-text}
 use Rattle.writing.proofs.SizeLaws.{written-short}
 use Rattle.writing.proofs.write.write_soc.Statement.{statement}
 use Rattle.writing.proofs.write.write_soc.Tie as tie

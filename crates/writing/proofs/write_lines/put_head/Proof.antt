@@ -12,7 +12,7 @@ use Rattle.soc.specs.Record.{nameOf}
 use Rattle.lines.specs.Written.{flagField, nameFields, totalFields, optionsFields}
 use Rattle.writing.specs.Written.{writtenLines}
 use Rattle.writing.proofs.LineLaws.{head-text}
-use Rattle.writing.proofs.PutLaws.{Due, due-all, due-room, due-next}
+use Rattle.fields.proofs.PutLaws.{Due, due-all, due-room, due-next}
 use Rattle.writing.proofs.write_lines.put_head.Statement.{statement}
 use Rattle.writing.proofs.write_lines.put_head.Tie as tie
 

@@ -9,9 +9,9 @@ use lib.ListN.{length, getD, take, length-map, length-append}
 use Rattle.fields.specs.Bytes.{space}
 use Rattle.soc.specs.Record.{flipFlops}
 use Rattle.lines.specs.Written.{lengthField}
-use Rattle.writing.specs.Puts.{Put}
+use Rattle.fields.specs.Puts.{Put}
 use Rattle.writing.specs.Written.{spacedLengths}
-use Rattle.writing.proofs.PutLaws.{put-none, put-then}
+use Rattle.fields.proofs.PutLaws.{put-none, put-then}
 use Rattle.writing.proofs.RunLaws.{spaced-more, spaced-fits}
 use Rattle.writing.proofs.write_lines.put_lengths.Statement.{statement}
 use Rattle.writing.proofs.write_lines.put_lengths.Tie as tie

@@ -8,7 +8,7 @@ use Rattle.soc.specs.Record.{chainsOf}
 use Rattle.lines.specs.Written.{levelFields}
 use Rattle.writing.specs.Written.{writtenLines, spacedLengths}
 use Rattle.writing.proofs.LineLaws.{level-text}
-use Rattle.writing.proofs.PutLaws.{put-kept, Due, due-all, due-room, due-next}
+use Rattle.fields.proofs.PutLaws.{put-kept, Due, due-all, due-room, due-next}
 use Rattle.writing.proofs.write_lines.put_level_line.Statement.{statement}
 use Rattle.writing.proofs.write_lines.put_level_line.Tie as tie
 

@@ -13,7 +13,7 @@ use Rattle.fields.specs.Written.{decimal}
 use Rattle.lines.specs.Written.{givenField}
 use Rattle.writing.specs.Written.{writtenLines, positionLines}
 use Rattle.writing.proofs.LineLaws.{position-none, position-text}
-use Rattle.writing.proofs.PutLaws.{put-none, Due, due-all, due-room, due-next}
+use Rattle.fields.proofs.PutLaws.{put-none, Due, due-all, due-room, due-next}
 use Rattle.writing.proofs.write_lines.put_position_line.Statement.{statement}
 use Rattle.writing.proofs.write_lines.put_position_line.Tie as tie
 

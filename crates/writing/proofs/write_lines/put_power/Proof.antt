@@ -14,7 +14,7 @@ use Rattle.fields.specs.Bytes.{bytes, lf}
 use Rattle.lines.specs.Written.{givenField}
 use Rattle.writing.specs.Written.{powerEnd}
 use Rattle.writing.proofs.LineLaws.{power-none, power-text}
-use Rattle.writing.proofs.PutLaws.{Due, due-all, due-room, due-next}
+use Rattle.fields.proofs.PutLaws.{Due, due-all, due-room, due-next}
 use Rattle.writing.proofs.write_lines.put_power.Statement.{statement}
 use Rattle.writing.proofs.write_lines.put_power.Tie as tie
 

@@ -8,7 +8,7 @@ use Rattle.fields.specs.Written.{decimal}
 use Rattle.lines.specs.Written.{flagField, powerFields, testFields}
 use Rattle.writing.specs.Written.{writtenLines, powerEnd}
 use Rattle.writing.proofs.LineLaws.{test-text}
-use Rattle.writing.proofs.PutLaws.{Due, due-all, due-room, due-next}
+use Rattle.fields.proofs.PutLaws.{Due, due-all, due-room, due-next}
 use Rattle.writing.proofs.write_lines.put_test_line.Statement.{statement}
 use Rattle.writing.proofs.write_lines.put_test_line.Tie as tie
 

@@ -7,7 +7,7 @@ use Rattle.fields.specs.Written.{decimal}
 use Rattle.lines.specs.Written.{testsFields}
 use Rattle.writing.specs.Written.{writtenLines}
 use Rattle.writing.proofs.LineLaws.{tests-text}
-use Rattle.writing.proofs.PutLaws.{Due, due-all, due-room, due-next}
+use Rattle.fields.proofs.PutLaws.{Due, due-all, due-room, due-next}
 use Rattle.writing.proofs.write_lines.put_tests_line.Statement.{statement}
 use Rattle.writing.proofs.write_lines.put_tests_line.Tie as tie
 

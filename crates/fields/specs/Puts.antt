@@ -3,7 +3,16 @@ use Prim.Native.Nat.{ℕ, _+_}
 use mathlib.Core.Path.{_≡_}
 use mathlib.Core.List.{List, _++_}
 use lib.ListN.{length, take, drop}
+use Rattle.fields.specs.Written.{putFront, putCount}
 
+-- the place behind w, put at a place of a buffer, and the buffer then; without the room nothing is put
+unfoldable pub putEnd : List ℕ → ℕ → List ℕ → ℕ
+putEnd w at buf = at + putCount w (drop at buf)
+
+unfoldable pub putIn : List ℕ → ℕ → List ℕ → List ℕ
+putIn w at buf = take at buf ++ putFront w (drop at buf)
+
+-- with the room
 unfoldable pub putAt : List ℕ → ℕ → List ℕ → List ℕ
 putAt w at buf = take at buf ++ w ++ drop (at + length w) buf
 

@@ -1,42 +1,80 @@
 -- Laws of bytes put into a buffer at a place: a part that was lent comes back, a put behind a put is one put, and lengths stay. Assumes nothing.
-use Prim.Native.Nat.{ℕ, _+_, _-_, _≤_}
-use mathlib.Core.Path.{_≡_, sym, ap, _∙_}
-use mathlib.Core.Bool.{true}
-use mathlib.Core.List.{List, [], _++_, append-assoc, append-nil}
+use Prim.Native.Nat.{ℕ, suc, _+_, _-_, _≤_, _<_}
+use mathlib.Core.Path.{_≡_, refl, sym, ap, _∙_}
+use mathlib.Core.Bool.{Bool, true, false, cond}
+use mathlib.Core.List.{List, [], _∷_, _++_, append-assoc, append-nil}
 use native.Mathlib.Nat.{add-assoc}
 use native.Mathlib.Omega.{arith}
-use borrow.Author.Tests.{le-leb}
+use borrow.Author.Tests.{le-leb, lt-leb, leb-true}
 use borrow.Rule.Slice.PartMut.{putMid}
 use lib.ListN.{length, take, drop, length-append, length-take, length-drop, take-append-drop, drop-of-length-le}
 use lib.Seq.{take-all, take-at, take-append-seam, drop-append-add, drop-drop}
 use lib.Dec.{leb}
 use Rattle.fields.specs.Written.{putFront, putCount}
-use Rattle.writing.specs.Puts.{putAt, Put}
+use Rattle.fields.specs.Puts.{putEnd, putIn, putAt, Put}
 
 -- the part from a place on
 abbrev pub partFrom : ℕ → List ℕ → List ℕ
 partFrom at buf = take (length buf - at) (drop at buf)
 
-part-rest : (at : ℕ) (buf : List ℕ) → partFrom at buf ≡ drop at buf
+pub part-rest : (at : ℕ) (buf : List ℕ) → partFrom at buf ≡ drop at buf
 part-rest at buf = take-all (length buf - at) (drop at buf) (simp length-drop (omega arith))
 
+-- into no room nothing is put
+count-none : (w : List ℕ) → putCount w [] ≡ 0
+count-none [] = refl
+count-none (b ∷ w) = let h : 0 < suc (length w) = omega arith in simp (lt-leb (suc (length w)) 0 h)
+
+front-none : (w : List ℕ) → putFront w [] ≡ []
+front-none [] = refl
+front-none (b ∷ w) = let h : 0 < suc (length w) = omega arith in simp (lt-leb (suc (length w)) 0 h)
+
 module _ (w : List ℕ) (at : ℕ) (buf : List ℕ) where
-  part-room : at + length w ≤ length buf → leb (length w) (length (partFrom at buf)) ≡ true
-  part-room h = le-leb (length w) (length (partFrom at buf)) (rw part-rest (simp length-drop (omega arith)))
+  -- no more is written than there is room
+  pub count-most : putCount w buf ≤ length buf
+  count-most = go (leb (length w) (length buf)) refl
+    where
+      go : (t : Bool) → leb (length w) (length buf) ≡ t → cond t (length w) 0 ≤ length buf
+      go true e = leb-true (length w) (length buf) e
+      go false e = omega arith
 
-  -- with the room for w, all of it is written into the lent part
-  pub part-count : at + length w ≤ length buf → putCount w (partFrom at buf) ≡ length w
-  part-count h = simp (part-room h)
+  -- behind the end there is no room
+  pub end-none : length buf ≤ at → at ≡ putEnd w at buf
+  unfolding putEnd
+  end-none h = rw (drop-of-length-le buf h, count-none w) (omega arith)
 
-  pub part-put : (p : List ℕ) → at + length w ≤ length buf → p ≡ putFront w (partFrom at buf) → putMid at (length buf - at) buf p ≡ putAt w at buf
-  unfolding putAt
-  part-put p h e =
-      let q : p ≡ w ++ drop (length w) (drop at buf) = e ∙ simp (part-room h) (rw part-rest) in
-      rw (drop-of-length-le (drop at buf) {i = length buf - at} (simp length-drop (omega arith)), append-nil, q, drop-drop, append-assoc)
+  pub in-none : length buf ≤ at → buf ≡ putIn w at buf
+  unfolding putIn
+  in-none h = rw (drop-of-length-le buf h, front-none w, append-nil) (sym (take-all at buf h))
+
+  -- what is written into a part that was lent
+  pub part-end : (r : ℕ) → r ≡ putCount w (partFrom at buf) → at + r ≡ putEnd w at buf
+  unfolding putEnd
+  part-end r e = ap (λ n. at + n) (e ∙ ap (putCount w) (part-rest at buf))
+
+  pub part-in : (p : List ℕ) → p ≡ putFront w (partFrom at buf) → putMid at (length buf - at) buf p ≡ putIn w at buf
+  unfolding putIn
+  part-in p e = rw (drop-of-length-le (drop at buf) {i = length buf - at} (simp length-drop (omega arith)), append-nil, e ∙ ap (putFront w) (part-rest at buf))
+
+  room : at + length w ≤ length buf → leb (length w) (length (drop at buf)) ≡ true
+  room h = le-leb (length w) (length (drop at buf)) (simp length-drop (omega arith))
 
   put-length : at + length w ≤ length buf → length (putAt w at buf) ≡ length buf
   unfolding putAt
   put-length h = simp (length-append, length-take, length-drop) (omega arith)
+
+-- one behind another
+pub put-behind : (v w before : List ℕ) (at : ℕ) {middle after : List ℕ} {e r : ℕ} → (e ≡ putEnd w at before) × (middle ≡ putIn w at before) → (r ≡ putEnd v e middle) × (after ≡ putIn v e middle)
+    → (r ≡ putEnd v (putEnd w at before) (putIn w at before)) × (after ≡ putIn v (putEnd w at before) (putIn w at before))
+put-behind v w before at p q = (cc, cc)
+
+-- with the room for w, all of it is put
+pub put-is : {w : List ℕ} {at r : ℕ} {before after : List ℕ} → at + length w ≤ length before → (r ≡ putEnd w at before) × (after ≡ putIn w at before) → Put w at before after r
+unfolding putEnd putIn putAt
+put-is {w} {at} {r} {before} h e = record {
+  behind = e .0 ∙ simp (room w at before h);
+  holds = e .1 ∙ rw (room w at before h, drop-drop, append-assoc);
+}
 
 pub put-kept : {w : List ℕ} {at r : ℕ} {before after : List ℕ} → Put w at before after r → at + length w ≤ length before → length after ≡ length before
 put-kept {w} {at} {r} {before} p h = ap length (p .holds) ∙ put-length w at before h
@@ -80,6 +118,15 @@ module _ (a rest : List ℕ) {w start buf : List ℕ} {at r : ℕ} (d : Due (a +
         room = omega (arith, p .behind, simp length-append at (d .room));
         done = λ end j q. d .done end j (put-then (omega (arith, due-room)) p q);
       }
+
+  -- the same where what was put is said of any buffer
+  pub due-put : {next : List ℕ} {k : ℕ} → (k ≡ putEnd a r buf) × (next ≡ putIn a r buf) → Due rest w at start k next
+  due-put e = due-next (put-is due-room e)
+
+-- a key and its number
+pub due-key : (a v rest : List ℕ) {w start buf next : List ℕ} {at r k : ℕ} → Due (a ++ v ++ rest) w at start r buf
+    → (k ≡ putEnd v (putEnd a r buf) (putIn a r buf)) × (next ≡ putIn v (putEnd a r buf) (putIn a r buf)) → Due rest w at start k next
+due-key a v rest d e = due-put v rest (due-put a (v ++ rest) (rw append-assoc at d) (refl, refl)) e
 
 -- what is put at the front of a buffer
 module _ {w start buf : List ℕ} {r : ℕ} (p : Put w 0 start buf r) where

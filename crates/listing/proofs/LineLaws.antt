@@ -1,0 +1,113 @@
+-- Laws of the printed text: that of each line as the code puts it part by part, that of a run of lines with one more at its end, and how long a
+-- line can be, where a figure has at most 20 digits and a name at most 32 bytes. Assumes nothing.
+use Prim.Native.Nat.{ℕ, suc, _+_, _≤_, _<_}
+use mathlib.Core.Path.{_≡_, refl, ap, _∙_}
+use mathlib.Core.List.{List, [], _∷_, _++_, append-assoc}
+use native.Mathlib.Omega.{arith}
+use lib.ListN.{length, getD, take, length-append, length-take}
+use lib.Seq.{length-take-le}
+use Rattle.units.specs.declared.Refusal.{Refusal}
+use Rattle.fields.specs.Bytes.{bytes, lf}
+use Rattle.fields.specs.Written.{decimal, joined}
+use Rattle.fields.proofs.SizeLaws.{decimal-size}
+use Rattle.soc.specs.Record.{nameOf}
+use Rattle.soc.specs.declared.record.Soc.{Soc}
+use Rattle.plan.specs.declared.record.Bus.{Bus}
+use Rattle.plan.specs.declared.record.PlacedModule.{PlacedModule}
+use Rattle.plan.specs.declared.record.BusPlan.{BusPlan}
+use Rattle.planfile.specs.Good.{busesOf, modulesOf}
+use Rattle.writing.specs.Written.{writtenLines}
+use Rattle.writing.proofs.RunLaws.{written-append, front-more}
+use Rattle.listing.specs.Listing.{refusalFields, socFields, busFields, busLines, moduleFields, moduleLines, planLines}
+
+-- figures are below 2⁶⁴, which has 20 digits
+abbrev pub figureEnd : ℕ
+figureEnd = 18446744073709551616
+
+figure-size : (v : ℕ) → v < figureEnd → length (decimal v) ≤ 20
+figure-size v h = decimal-size 19 v (omega arith)
+
+name-size : (s : Soc) → s .«name_len» ≤ 32 → length (nameOf s) ≤ 32
+name-size s h = simp length-take (omega arith)
+
+module _ (r : Refusal) where
+  pub refusal-text : writtenLines (refusalFields r ∷ []) ≡ bytes "refused " ++ decimal (r .number) ++ (bytes " line " ++ decimal (r .line) ++ lf ∷ [])
+  unfolding refusalFields writtenLines joined
+  refusal-text = simp append-assoc
+
+  pub refusal-size : r .number < figureEnd → r .line < figureEnd → length (writtenLines (refusalFields r ∷ [])) ≤ 55
+  refusal-size n l = rw refusal-text (simp length-append (omega (arith, figure-size (r .number) n, figure-size (r .line) l)))
+
+module _ (s : Soc) (p : BusPlan) where
+  pub soc-text : writtenLines (socFields s p ∷ [])
+      ≡ bytes "soc " ++ (nameOf s ++ (bytes " wires " ++ decimal (p .wires .0) ++ (bytes " limit " ++ decimal (p .limit) ++ (bytes " time " ++ decimal (p .time .0) ++ lf ∷ []))))
+  unfolding socFields writtenLines joined
+  soc-text = simp append-assoc
+
+  pub soc-size : s .«name_len» ≤ 32 → p .wires .0 < figureEnd → p .limit < figureEnd → p .time .0 < figureEnd → length (writtenLines (socFields s p ∷ [])) ≤ 117
+  soc-size n w b t =
+      rw soc-text
+      (simp length-append (omega (arith, name-size s n, figure-size (p .wires .0) w, figure-size (p .limit) b, figure-size (p .time .0) t)))
+
+module _ (i : ℕ) (b : Bus) where
+  pub bus-text : writtenLines (busFields i b ∷ []) ≡ bytes "bus " ++ decimal i ++ (bytes " width " ++ decimal (b .width .0) ++ (bytes " busy " ++ decimal (b .busy .0) ++ lf ∷ []))
+  unfolding busFields writtenLines joined
+  bus-text = simp append-assoc
+
+  pub bus-size : i < figureEnd → b .width .0 < figureEnd → b .busy .0 < figureEnd → length (writtenLines (busFields i b ∷ [])) ≤ 78
+  bus-size n w t = rw bus-text (simp length-append (omega (arith, figure-size i n, figure-size (b .width .0) w, figure-size (b .busy .0) t)))
+
+module _ (m : PlacedModule) where
+  pub module-text : writtenLines (moduleFields m ∷ [])
+      ≡ bytes "module " ++ decimal (m .number) ++ (bytes " bus " ++ decimal (m .bus) ++ (bytes " wires " ++ decimal (m .wires .0) ++ (bytes " cycles " ++ decimal (m .cycles .0) ++ lf ∷ [])))
+  unfolding moduleFields writtenLines joined
+  module-text = simp append-assoc
+
+  pub module-size : m .number < figureEnd → m .bus < figureEnd → m .wires .0 < figureEnd → m .cycles .0 < figureEnd → length (writtenLines (moduleFields m ∷ [])) ≤ 108
+  module-size n b w t =
+      rw module-text
+      (simp length-append (omega (arith, figure-size (m .number) n, figure-size (m .bus) b, figure-size (m .wires .0) w, figure-size (m .cycles .0) t)))
+
+-- the text of buses, the first of which has number 1
+abbrev pub busesText : List Bus → List ℕ
+busesText bs = writtenLines (busLines 1 bs)
+
+buses-append : (i : ℕ) (xs ys : List Bus) → busLines i (xs ++ ys) ≡ busLines i xs ++ busLines (i + length xs) ys
+unfolding busLines
+buses-append i [] ys = let e : i ≡ i + 0 = omega arith in ap (λ n. busLines n ys) e
+buses-append i (b ∷ xs) ys =
+    let e : suc i + length xs ≡ i + suc (length xs) = omega arith in
+    ap (λ ls. busFields i b ∷ ls) (buses-append (suc i) xs ys ∙ ap (λ n. busLines (suc i) xs ++ busLines n ys) e)
+
+buses-adds : (xs ys : List Bus) → busesText (xs ++ ys) ≡ busesText xs ++ writtenLines (busLines (1 + length xs) ys)
+buses-adds xs ys = ap writtenLines (buses-append 1 xs ys) ∙ written-append (busLines 1 xs) (busLines (1 + length xs) ys)
+
+pub buses-more : (k : ℕ) (l : List Bus) (z : Bus) → k < length l → busesText (take (k + 1) l) ≡ busesText (take k l) ++ writtenLines (busFields (k + 1) (getD l k z) ∷ [])
+unfolding busLines
+buses-more k l z h =
+    let n : length (take k l) ≡ k = length-take-le k l (omega arith) in
+    let e : 1 + length (take k l) ≡ k + 1 = omega arith in
+    front-more busesText (λ xs ys. writtenLines (busLines (1 + length xs) ys)) buses-adds k l z h ∙ ap (λ i. busesText (take k l) ++ writtenLines (busFields i (getD l k z) ∷ [])) e
+
+-- the text of modules
+abbrev pub modulesText : List PlacedModule → List ℕ
+modulesText ms = writtenLines (moduleLines ms)
+
+modules-append : (xs ys : List PlacedModule) → moduleLines (xs ++ ys) ≡ moduleLines xs ++ moduleLines ys
+unfolding moduleLines
+modules-append [] ys = refl
+modules-append (m ∷ xs) ys = ap (λ ls. moduleFields m ∷ ls) (modules-append xs ys)
+
+modules-adds : (xs ys : List PlacedModule) → modulesText (xs ++ ys) ≡ modulesText xs ++ modulesText ys
+modules-adds xs ys = ap writtenLines (modules-append xs ys) ∙ written-append (moduleLines xs) (moduleLines ys)
+
+pub modules-more : (k : ℕ) (l : List PlacedModule) (z : PlacedModule) → k < length l → modulesText (take (k + 1) l) ≡ modulesText (take k l) ++ writtenLines (moduleFields (getD l k z) ∷ [])
+unfolding moduleLines
+modules-more k l z h = front-more modulesText (λ xs ys. modulesText ys) modules-adds k l z h
+
+-- the text of a plan, part by part
+pub plan-text : (s : Soc) (p : BusPlan) → writtenLines (planLines s p) ≡ writtenLines (socFields s p ∷ []) ++ (busesText (busesOf p) ++ modulesText (modulesOf p))
+unfolding planLines
+plan-text s p =
+    written-append (socFields s p ∷ []) (busLines 1 (busesOf p) ++ moduleLines (modulesOf p))
+    ∙ ap (λ t. writtenLines (socFields s p ∷ []) ++ t) (written-append (busLines 1 (busesOf p)) (moduleLines (modulesOf p)))

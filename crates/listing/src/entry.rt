@@ -1,0 +1,79 @@
+// What is printed for an input, at the front of a lent buffer; or 11.
+use super::asked::Asked;
+use super::asked::asked_of;
+use super::put_lines::put_plan;
+use super::put_lines::put_refusal;
+use soc::Soc;
+use units::Refusal;
+use units::Wires;
+ghost use mathlib.Core.Path.{_≡_};
+ghost use mathlib.Core.Bool.{true};
+ghost use Prim.Native.Nat.{_≤_};
+ghost use lib.ListN.{length};
+ghost use Rattle.fields.specs.Puts.{Put};
+ghost use Rattle.soc.specs.Rules.{goodSoc};
+ghost use Rattle.reading.specs.Reading.{readSoc};
+ghost use Rattle.writing.specs.Written.{writtenLines};
+ghost use Rattle.plan.specs.Answers.{planAnswer};
+ghost use Rattle.listing.specs.Listing.{planPrinted, textPrinted, listed, listingMax, listingAnswer, listingLeaves};
+
+// A buffer of this length is always enough.
+pub const LISTING_MAX: usize = 2048;
+
+// How many bytes were written; or the refusal.
+pub struct Listed {
+    pub refusal: Refusal,
+    pub len: usize,
+}
+
+// What is printed for a good record.
+fn put_answer(buf: &mut [u8; 2048], s: Soc, wires: u32, limit: u32) -> usize
+    requires { ⌜ goodSoc s ≡ true ⌝ }
+    ensures { λ r. ⌜ Put (writtenLines (planPrinted s (planAnswer s wires limit))) 0 (now (buf .entry)) (now (buf .exit)) r × (length (writtenLines (planPrinted s (planAnswer s wires limit))) ≤ listingMax) ⌝ }
+{
+    let answer = plan::plan(s, Wires(wires), limit);
+    if answer.refusal.number != 0 {
+        return put_refusal(&mut *buf, 0, answer.refusal);
+    }
+    put_plan(&mut *buf, 0, s, answer.plan)
+}
+
+// What is printed for a SOC text, where the first line is good.
+fn put_text(buf: &mut [u8; 2048], text: &[u8], wires: u32, limit: u32) -> usize
+    ensures { λ r. ⌜ Put (writtenLines (textPrinted (record { wires = wires; limit = limit }) (readSoc (now (text .entry))))) 0 (now (buf .entry)) (now (buf .exit)) r × (length (writtenLines (textPrinted (record { wires = wires; limit = limit }) (readSoc (now (text .entry))))) ≤ listingMax) ⌝ }
+{
+    let read = text::read_soc(text);
+    if read.refusal.number != 0 {
+        return put_refusal(&mut *buf, 0, read.refusal);
+    }
+    put_answer(&mut *buf, read.soc, wires, limit)
+}
+
+fn put_listed(buf: &mut [u8; 2048], input: &[u8]) -> usize
+    ensures { λ r. ⌜ Put (listed (now (input .entry))) 0 (now (buf .entry)) (now (buf .exit)) r × (length (listed (now (input .entry))) ≤ listingMax) ⌝ }
+{
+    let line = fields::line_at(input, 0);
+    let next = line.next;
+    match asked_of(input, line) {
+        Asked::No(c) => put_refusal(&mut *buf, 0, Refusal::at(c, 0)),
+        Asked::For(wires, limit) => put_text(&mut *buf, &input[next..], wires, limit),
+    }
+}
+
+pub fn listing(input: &[u8], buf: &mut [u8]) -> Listed
+    ensures { λ r. ⌜ (r ≡ listingAnswer (now (input .entry)) (now (buf .entry))) × (now (buf .exit) ≡ listingLeaves (now (input .entry)) (now (buf .entry))) × (length (listed (now (input .entry))) ≤ listingMax) ⌝ }
+{
+    let mut form = [0u8; 2048];
+    let n = put_listed(&mut form, input);
+    if buf.len() < n {
+        return Listed {
+            refusal: Refusal::at(11, 0),
+            len: 0,
+        };
+    }
+    fields::write_bytes(&mut *buf, &form[..n]);
+    Listed {
+        refusal: Refusal::none(),
+        len: n,
+    }
+}
