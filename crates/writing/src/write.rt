@@ -13,6 +13,7 @@ ghost use Prim.Native.Nat.{_+_, _≤_};
 ghost use lib.ListN.{length, take};
 ghost use Rattle.soc.specs.Rules.{goodSoc};
 ghost use Rattle.writing.specs.Written.{writtenLines, testLines, moduleLinesOf, moduleLinesFrom, writtenSoc, refusedWrite, writeAnswer, writeLeaves, Countable};
+ghost use Rattle.writing.specs.Room.{allOrNone};
 ghost use Rattle.fields.specs.Puts.{Put};
 
 // How many bytes were written; or the refusal.
@@ -83,6 +84,13 @@ fn put_soc(buf: &mut [u8], s: Soc) -> usize
     put_modules(&mut *buf, a, s, n)
 }
 
+// How many of n bytes are written into a room: all of them, or none.
+fn all_or_none(n: usize, room: usize) -> usize
+    ensures { λ r. ⌜ r ≡ allOrNone n room ⌝ }
+{
+    if n <= room { n } else { 0 }
+}
+
 pub fn write_soc(s: Soc, buf: &mut [u8]) -> SocWritten
     ensures { λ r. ⌜ (r ≡ writeAnswer s (now (buf .entry))) × (now (buf .exit) ≡ writeLeaves s (now (buf .entry))) ⌝ }
 {
@@ -91,10 +99,11 @@ pub fn write_soc(s: Soc, buf: &mut [u8]) -> SocWritten
     }
     let mut form = [0u8; 61440];
     let n = put_soc(&mut form, s);
-    if buf.len() < n {
+    let k = all_or_none(n, buf.len());
+    fields::write_bytes(&mut *buf, &form[..k]);
+    if k < n {
         return refused_write(11);
     }
-    fields::write_bytes(&mut *buf, &form[..n]);
     SocWritten {
         refusal: Refusal::none(),
         len: n,
