@@ -4,6 +4,9 @@ use super::record::Bus;
 use super::record::BusPlan;
 use super::record::PlacedModule;
 use super::record::PlanAnswer;
+use super::record::no_bus;
+use super::record::no_placed;
+use super::record::no_plan;
 use super::tables::Tables;
 use super::tables::tables_of;
 use super::widths::Found;
@@ -21,44 +24,16 @@ ghost use Rattle.soc.specs.Planned.{plannedOf, plannedIs};
 ghost use Rattle.plans.specs.Plans.{busyFrom, busies};
 ghost use Rattle.plan.specs.Search.{tableTime, IsTable};
 ghost use Rattle.plan.specs.Tables.{TablesAre};
-ghost use Rattle.plan.specs.Answers.{noPlan, refusedPlan, bestFor, planRecord, planAnswer, noBus, noPlaced};
+ghost use Rattle.plan.specs.Answers.{refusedPlan, bestFor, planRecord, planAnswer};
 ghost use Rattle.plan.specs.Records.{IsFound, busesIs, modulesIs};
 ghost use Rattle.soc.specs.Rules.{goodSoc};
-
-fn no_bus() -> Bus
-    ensures { λ r. ⌜ r ≡ noBus ⌝ }
-{
-    Bus {
-        width: Wires(0),
-        busy: Cycles(0),
-    }
-}
-
-fn no_placed() -> PlacedModule
-    ensures { λ r. ⌜ r ≡ noPlaced ⌝ }
-{
-    PlacedModule {
-        number: 0,
-        bus: 0,
-        wires: Wires(0),
-        cycles: Cycles(0),
-    }
-}
 
 fn refused_plan(n: u8) -> PlanAnswer
     ensures { λ r. ⌜ r ≡ refusedPlan n ⌝ }
 {
     PlanAnswer {
         refusal: Refusal::at(n, 0),
-        plan: BusPlan {
-            wires: Wires(0),
-            limit: 0,
-            bus_count: 0,
-            buses: [no_bus(); 3],
-            module_count: 0,
-            modules: [no_placed(); 12],
-            time: Cycles(0),
-        },
+        plan: no_plan(),
     }
 }
 

@@ -10,3 +10,6 @@ pub use record::Bus;
 pub use record::BusPlan;
 pub use record::PlacedModule;
 pub use record::PlanAnswer;
+pub use record::no_bus;
+pub use record::no_placed;
+pub use record::no_plan;

@@ -2,6 +2,8 @@
 use units::Cycles;
 use units::Refusal;
 use units::Wires;
+ghost use mathlib.Core.Path.{_≡_};
+ghost use Rattle.plan.specs.Answers.{noBus, noPlaced, noPlan};
 
 pub struct Bus {
     pub width: Wires,
@@ -30,4 +32,41 @@ pub struct BusPlan {
 pub struct PlanAnswer {
     pub refusal: Refusal,
     pub plan: BusPlan,
+}
+
+// A spare bus.
+pub fn no_bus() -> Bus
+    ensures { λ r. ⌜ r ≡ noBus ⌝ }
+{
+    Bus {
+        width: Wires(0),
+        busy: Cycles(0),
+    }
+}
+
+// A spare planned module.
+pub fn no_placed() -> PlacedModule
+    ensures { λ r. ⌜ r ≡ noPlaced ⌝ }
+{
+    PlacedModule {
+        number: 0,
+        bus: 0,
+        wires: Wires(0),
+        cycles: Cycles(0),
+    }
+}
+
+// What a refusal answers in the place of a plan.
+pub fn no_plan() -> BusPlan
+    ensures { λ r. ⌜ r ≡ noPlan ⌝ }
+{
+    BusPlan {
+        wires: Wires(0),
+        limit: 0,
+        bus_count: 0,
+        buses: [no_bus(); 3],
+        module_count: 0,
+        modules: [no_placed(); 12],
+        time: Cycles(0),
+    }
 }

@@ -36,32 +36,12 @@ fn number_at(f: &[u8], at: usize) -> u64
     four_at(f, at) + 4294967296 * four_at(f, at + 4)
 }
 
-fn no_bus() -> Bus
-    ensures { λ r. ⌜ r ≡ noBus ⌝ }
-{
-    Bus {
-        width: Wires(0),
-        busy: Cycles(0),
-    }
-}
-
-fn no_placed() -> PlacedModule
-    ensures { λ r. ⌜ r ≡ noPlaced ⌝ }
-{
-    PlacedModule {
-        number: 0,
-        bus: 0,
-        wires: Wires(0),
-        cycles: Cycles(0),
-    }
-}
-
 // The first n records, of modules.
 fn modules_in(f: &[u8], n: usize) -> [PlacedModule; 12]
     requires { ⌜ (n ≤ 12) × (12 * n ≤ length (now f)) ⌝ }
     ensures { λ r. ⌜ r ≡ padded plannedMax noPlaced (records (moduleAt (now (f .entry))) n 0) ⌝ }
 {
-    let mut list = [no_placed(); 12];
+    let mut list = [plan::no_placed(); 12];
     let mut i: usize = 0;
     while i < n {
         let at = 12 * i;
@@ -81,7 +61,7 @@ fn buses_in(f: &[u8], from: usize, n: usize) -> [Bus; 3]
     requires { ⌜ (n ≤ 3) × (from + 12 * n ≤ length (now f)) ⌝ }
     ensures { λ r. ⌜ r ≡ padded limitMax noBus (records (busAt (now (f .entry))) n from) ⌝ }
 {
-    let mut list = [no_bus(); 3];
+    let mut list = [plan::no_bus(); 3];
     let mut i: usize = 0;
     while i < n {
         let at = from + 12 * i;
@@ -193,15 +173,7 @@ fn refused_read() -> FileRead
 {
     FileRead {
         refusal: Refusal::at(12, 0),
-        plan: BusPlan {
-            wires: Wires(0),
-            limit: 0,
-            bus_count: 0,
-            buses: [no_bus(); 3],
-            module_count: 0,
-            modules: [no_placed(); 12],
-            time: Cycles(0),
-        },
+        plan: plan::no_plan(),
     }
 }
 

@@ -1,0 +1,4 @@
+pub mod Words
+pub mod SocForm
+pub mod PlanForm
+pub mod LayoutForm
