@@ -104,7 +104,9 @@ fn found_plan(s: Soc, p: Planned, wires: Wires, limit: u32) -> BusPlan
     let t = tables_of(s, p, wires);
     let cycles = t.cycles;
     let n = p.count;
-    let f = search(&cycles, wires.0 as u64, limit as usize, n);
+    let w = wires.0 as u64;
+    let b = limit as usize;
+    let f = search(&cycles, w, b, n);
     BusPlan {
         wires,
         limit,

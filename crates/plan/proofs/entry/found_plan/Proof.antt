@@ -1,6 +1,7 @@
 -- `plan::entry::found_plan` meets its contract: the tables are a table to search over, what is found over them keeps the limits of a plan
 -- (`found-fits`), and its record is that of the best plan (`record-is`). Assumes nothing.
 use borrow.Author.Needs.{needs}
+use native.Mathlib.Omega.{arith}
 use mathlib.Core.Path.{_≡_, refl, ap}
 use lib.ListN.{length}
 use Rattle.soc.specs.Planned.{plannedOf}
@@ -27,17 +28,17 @@ fits c =
 tables-of-requires : tie.Need-tables-of-requires
 tables-of-requires c κs = search needs
 
+cast-w : tie.Need-cast-w
+cast-w c = search needs
+
 slice-aggregate-search : tie.Need-slice-aggregate-search
 slice-aggregate-search c = search needs
-
-cast-search : tie.Need-cast-search
-cast-search c = search needs
 
 search-requires : tie.Need-search-requires
 search-requires c κs =
     let m = c .before .before .before in
     let s = m .before in
-    (table m, rw (s .pre .1) (s .pre .2), rw (s .pre .1) (s .pre .3), s .pre .4, s .pre .5, s .pre .6, s .pre .7)
+    (table m, rw (s .pre .1) (s .pre .2), rw (s .pre .1) (s .pre .3), omega arith, omega arith, omega arith, omega arith)
 
 slice-aggregate-buses-of : tie.Need-slice-aggregate-buses-of
 slice-aggregate-buses-of c = search needs
@@ -66,8 +67,8 @@ found-plan-spec =
     tie.close
     (tie.spec
     tables-of-requires
+    cast-w
     slice-aggregate-search
-    cast-search
     search-requires
     slice-aggregate-buses-of
     buses-of-requires
