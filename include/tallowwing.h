@@ -1,0 +1,98 @@
+/*
+ * Tallowwing for C: every entry of the library, on numbers and bytes.
+ *
+ * Each function is proved to answer its definition for all inputs. None has to be asked first whether an input is good: a bad one ends in a
+ * refusal. A pointer with its length lends that many bytes for the call and no longer; a length of 0 lends nothing, and the pointer may then be
+ * anything but null. Bytes that are only read are never written. Two lent parts of one call must not overlap where one of them is written.
+ *
+ * An answer is one number:
+ *
+ *   answer % 256   0, or the number of the refusal (1 to 14)
+ *   answer / 256   of a refusal its line, counted from 1, or 0 where it has none; else the figure that the function gives
+ *
+ * A refused call leaves every lent byte as it was. One that is not refused writes its result at the front of the bytes lent for it and leaves the
+ * bytes behind it as they were. Numbers in lent bytes are little-endian.
+ *
+ * The refusals: 1 text over 61,440 bytes; 2 forbidden byte; 3 wrong keyword, flag, name or form, too few or too many fields, a line too many;
+ * 4 number not decimal or outside its limit; 5 module or test number, level or X/Y pair breaks its rule; 6 text ends early; 7 width or W not 1 to
+ * 64; 8 B not 1 to 3; 9 no planned module; 10 more than 12 planned; 11 lent bytes too few for the result; 12 plan record or plan file not good;
+ * 13 no such module or test; 14 SOC record not good.
+ */
+#ifndef TALLOWWING_H
+#define TALLOWWING_H
+
+#include <stddef.h>
+#include <stdint.h>
+
+#ifdef __cplusplus
+extern "C" {
+#endif
+
+/*
+ * A SOC record, 16,688 bytes. Each number takes 4 bytes; a flag is 0 or 1; X, Y and Power are -1 where not given; spare places are 0.
+ *
+ *   offset  0  length of the name; 4 the name, 32 bytes; 36 option Power; 40 option XY; 44 number of modules
+ *   offset 48 + 416 m  module m, of 40: 0 level, 4 inputs, 8 outputs, 12 bidirs, 16 number of chains, 20 their lengths (64 places),
+ *                      276 X, 280 Y, 284 number of tests, 288 + 16 i test i + 1 (8 places): 0 ScanUse, 4 TamUse, 8 patterns, 12 Power
+ */
+#define TALLOWWING_SOC_BYTES 16688
+
+/*
+ * A layout, 1,024 bytes, each number 4 bytes, 64 places each: 0 flip-flops of wrapper chain i + 1; 256 its input cells; 512 its output cells;
+ * 768 the wrapper chain, from 1, of internal chain j + 1. Places past the width or the chains, and of chains not used, are 0.
+ */
+#define TALLOWWING_LAYOUT_BYTES 1024
+
+/*
+ * A plan record, 300 bytes. Spare places are 0.
+ *
+ *   offset  0  W (4); 4 B (4); 8 number of buses (4); 12 number of modules (4); 16 time (8)
+ *   offset 24 + 12 i  bus i + 1, of 3: width (4), busy (8)
+ *   offset 60 + 20 j  planned module, of 12, ascending: number (4), bus (4), wires (4), cycles (8)
+ */
+#define TALLOWWING_PLAN_BYTES 300
+
+/* The most bytes that a SOC text, a plan file and a listing can have. */
+#define TALLOWWING_TEXT_MAX 61440
+#define TALLOWWING_PLAN_FILE_MAX 196
+#define TALLOWWING_LISTING_MAX 2048
+
+/* Reads a SOC text to its record. Refusals 1 to 6 with their line, then 11. The figure is 16,688, the bytes written. */
+uint64_t tallowwing_read_soc(const uint8_t *text, size_t text_len, uint8_t *record, size_t record_len);
+
+/* Writes the written form of a SOC record. Refusals 14, 11. The figure is the number of bytes written. A record of another length than
+ * 16,688 bytes, or with a flag that is neither 0 nor 1, is not good: 14, here and below. */
+uint64_t tallowwing_write_soc(const uint8_t *record, size_t record_len, uint8_t *text, size_t text_len);
+
+/* Lays out the wrapper of a module for one of its tests at a width. Refusals 14, 7, 13, 11. The figure is 1,024, the bytes written. */
+uint64_t tallowwing_layout(const uint8_t *record, size_t record_len, uint32_t module, uint32_t test, uint32_t width, uint8_t *layout,
+                           size_t layout_len);
+
+/* The cycles of one test of a module at a width. Refusals 14, 7, 13. */
+uint64_t tallowwing_test_time(const uint8_t *record, size_t record_len, uint32_t module, uint32_t test, uint32_t width);
+
+/* A module's time, in cycles, on a bus of a width. Refusals 14, 7, 13. */
+uint64_t tallowwing_module_time(const uint8_t *record, size_t record_len, uint32_t module, uint32_t width);
+
+/* A module's wires on a bus of a width: the fewest that give its time. Refusals 14, 7, 13. */
+uint64_t tallowwing_module_wires(const uint8_t *record, size_t record_len, uint32_t module, uint32_t width);
+
+/* Finds the first plan of least time for W wires and limit B. Refusals 14, 7, 8, 9, 10, 11. The figure is 300, the bytes written. */
+uint64_t tallowwing_plan(const uint8_t *record, size_t record_len, uint32_t wires, uint32_t limit, uint8_t *plan, size_t plan_len);
+
+/* Writes the plan file of a plan record. Refusals 12, 11. The figure is the number of bytes written. A plan record of another length than
+ * 300 bytes is not good: 12. */
+uint64_t tallowwing_write_plan(const uint8_t *plan, size_t plan_len, uint8_t *file, size_t file_len);
+
+/* Reads a plan file, the part used and no more, to its record. Refusals 12, 11. The figure is 300, the bytes written. */
+uint64_t tallowwing_read_plan(const uint8_t *file, size_t file_len, uint8_t *plan, size_t plan_len);
+
+/* Lists the plan for a line `Plan W B` and the SOC text behind it, or the line `refused N line L`. Refusal 11 alone; 2,048 bytes are always
+ * enough. The figure is the number of bytes written. */
+uint64_t tallowwing_listing(const uint8_t *input, size_t input_len, uint8_t *listing, size_t listing_len);
+
+#ifdef __cplusplus
+}
+#endif
+
+#endif

@@ -1,0 +1,114 @@
+//! The page: a table of ratios, and three on how the planner's cost grows.
+
+use std::hint::black_box;
+use std::time::Duration;
+
+use independent::entries;
+use tallowwing_library as library;
+
+use crate::measure::{pair, Pair};
+use crate::{inputs, machine};
+
+pub fn print() {
+    println!("# The library beside the independent implementation\n");
+    println!("Machine: {}, {} cores.\n", machine::processor(), machine::cores());
+    println!(
+        "Both are called on the same bytes in one run, in turn; a time is the median of up to nine repetitions. The ratio is the library's time over \
+         the independent implementation's. Bytes lent for results are not cleared between calls.\n"
+    );
+    head("Measured");
+    row("reading a text of 60,000 bytes", &reading(&inputs::long()));
+    row("reading d695", &reading(inputs::D695));
+    row("table of times, d695 (every module at every width)", &times(inputs::D695));
+    row("planner, d695, W 64, B 3", &planning(inputs::D695, 64, 3));
+    row("planner, twelve equal modules, W 64, B 3", &planning(&inputs::twelve_equal(), 64, 3));
+    row("planner, twelve modules whose time never falls, W 64, B 3", &planning(&inputs::twelve_that_never_fall(), 64, 3));
+    row("planner, the largest SOC, twelve planned, W 64, B 3", &planning(&inputs::largest(), 64, 3));
+    growth();
+}
+
+fn growth() {
+    println!("\n## How the planner's cost grows\n\nModules that differ, as in d695.\n");
+    head("Modules, at W 64 and B 3");
+    for modules in 1..=12 {
+        row(&modules.to_string(), &planning(&inputs::mixed(modules), 64, 3));
+    }
+    println!();
+    head("Wires, at twelve modules and B 3");
+    for wires in (8..=64).step_by(8) {
+        row(&wires.to_string(), &planning(&inputs::mixed(12), wires, 3));
+    }
+    println!();
+    head("Buses, at twelve modules and W 64");
+    for limit in 1..=3 {
+        row(&limit.to_string(), &planning(&inputs::mixed(12), 64, limit));
+    }
+}
+
+fn head(first: &str) {
+    println!("| {first} | library | independent | ratio |\n|---|---:|---:|---:|");
+}
+
+fn row(name: &str, pair: &Pair) {
+    println!("| {name} | {} | {} | {:.2} |", told(pair.library), told(pair.independent), pair.ratio());
+}
+
+/// A time in the unit that suits it.
+fn told(time: Duration) -> String {
+    match time.as_secs_f64() {
+        seconds if seconds >= 1.0 => format!("{seconds:.2} s"),
+        seconds if seconds >= 1e-3 => format!("{:.2} ms", seconds * 1e3),
+        seconds => format!("{:.1} µs", seconds * 1e6),
+    }
+}
+
+fn record(text: &str) -> Vec<u8> {
+    let mut record = vec![0; library::SOC_BYTES];
+    let answer = library::read_soc(text.as_bytes(), &mut record);
+    assert!(answer.figure().is_some(), "the text is good: {answer:?}");
+    record
+}
+
+fn reading(text: &str) -> Pair {
+    let text = text.as_bytes();
+    let (mut one, mut other) = (vec![0; library::SOC_BYTES], vec![0; library::SOC_BYTES]);
+    pair(
+        || {
+            black_box(library::read_soc(black_box(text), &mut one));
+        },
+        || {
+            let _ = black_box(entries::read_soc(black_box(text), &mut other));
+        },
+    )
+}
+
+/// Every module's time at every width, one call each.
+fn times(text: &str) -> Pair {
+    let record = record(text);
+    let asked: Vec<(u32, u32)> = (0..u32::from(record[44])).flat_map(|module| (1..=64).map(move |width| (module, width))).collect();
+    pair(
+        || {
+            for &(module, width) in &asked {
+                black_box(library::module_time(black_box(&record), module, width));
+            }
+        },
+        || {
+            for &(module, width) in &asked {
+                let _ = black_box(entries::module_time(black_box(&record), module, width));
+            }
+        },
+    )
+}
+
+fn planning(text: &str, wires: u32, limit: u32) -> Pair {
+    let record = record(text);
+    let (mut one, mut other) = (vec![0; library::PLAN_BYTES], vec![0; library::PLAN_BYTES]);
+    pair(
+        || {
+            black_box(library::plan(black_box(&record), wires, limit, &mut one));
+        },
+        || {
+            let _ = black_box(entries::plan(black_box(&record), wires, limit, &mut other));
+        },
+    )
+}

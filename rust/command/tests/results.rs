@@ -1,0 +1,149 @@
+//! Every subcommand on good files.
+
+mod common;
+
+use common::{command, Folder, T1, T1_LISTING, T1_SHOWN};
+use std::fs;
+use std::io::Write;
+use std::process::Stdio;
+
+#[test]
+fn plan_lists_the_best_plan() {
+    let folder = Folder::holding("t1.soc", T1);
+    folder.run(&["plan", "t1.soc", "4", "2"]).done(T1_LISTING);
+    folder.run(&["plan", "--", "t1.soc", "4", "2"]).done(T1_LISTING);
+    folder.run_with(&["plan", "-", "4", "2"], T1.as_bytes()).done(T1_LISTING);
+}
+
+#[test]
+fn plan_goes_on_with_the_longest_text() {
+    let longest = format!("{T1}{}", "\n".repeat(61_440 - T1.len()));
+    Folder::holding("t1.soc", longest).run(&["plan", "t1.soc", "4", "2"]).done(T1_LISTING);
+}
+
+#[test]
+fn a_file_that_begins_with_a_hyphen() {
+    let folder = Folder::holding("-t1.soc", T1);
+    folder.run(&["plan", "--", "-t1.soc", "4", "2"]).done(T1_LISTING);
+    folder.run(&["plan", "./-t1.soc", "4", "2"]).done(T1_LISTING);
+    folder.run(&["plan", "-t1.soc", "4", "2"]).wrong_call();
+}
+
+#[test]
+fn a_pipe_that_gives_a_byte_at_a_time() {
+    let mut child =
+        command(&["plan", "-", "4", "2"]).stdin(Stdio::piped()).stdout(Stdio::piped()).stderr(Stdio::piped()).spawn().expect("it starts");
+    let mut pipe = child.stdin.take().expect("a pipe");
+    for byte in T1.bytes() {
+        pipe.write_all(&[byte]).expect("it reads on");
+        pipe.flush().expect("it reads on");
+        std::thread::yield_now();
+    }
+    drop(pipe);
+    common::Ran::of(child.wait_with_output().expect("it ends")).done(T1_LISTING);
+}
+
+#[test]
+fn soc_writes_the_written_form() {
+    let loose = format!("\n{}", T1.replace(' ', " \t").replace('\n', " \r\n\r\n"));
+    let folder = Folder::holding("t1.soc", loose.trim_end());
+    folder.run(&["soc", "t1.soc"]).done(T1);
+    folder.run_with(&["soc", "-"], T1.as_bytes()).done(T1);
+}
+
+#[test]
+fn soc_writes_figures_that_are_not_given() {
+    let text = "SocName x\nTotalModules 1\nOptions Power 1 XY 1\nModule 0 Level 0 Inputs 0 Outputs 0 Bidirs 0 ScanChains 0 :\n\
+                Module 0 TotalTests 1\nModule 0 Test 1 ScanUse 0 TamUse 0 Patterns 3\n";
+    let written =
+        text.replace("Module 0 TotalTests", "Module 0 X -1 Y -1\nModule 0 TotalTests").replace("Patterns 3", "Patterns 3 Power -1");
+    Folder::holding("x.soc", text).run(&["soc", "x.soc"]).done(&written);
+}
+
+/// Core A of document 000.
+const CORE_A: &str = "SocName a
+TotalModules 1
+Options Power 0 XY 0
+Module 0 Level 0 Inputs 8 Outputs 11 Bidirs 0 ScanChains 9 : 12 12 8 8 8 6 6 6 6
+Module 0 TotalTests 2
+Module 0 Test 1 ScanUse 1 TamUse 1 Patterns 10
+Module 0 Test 2 ScanUse 0 TamUse 0 Patterns 1
+";
+
+#[test]
+fn layout_of_core_a() {
+    let folder = Folder::holding("a.soc", CORE_A);
+    let ran = folder.run(&["layout", "a.soc", "0", "1", "4"]);
+    assert_eq!((ran.status, &ran.err[..]), (Some(0), ""));
+    let lines: Vec<&str> = ran.out.lines().collect();
+    assert_eq!(lines[0], "si 20 so 21 cycles 240");
+    let mut chains: Vec<&str> = lines[1..5].iter().map(|line| line.split_once(" ff ").expect("a chain").1).collect();
+    chains.sort_unstable();
+    assert_eq!(chains, ["16 in 4 out 5", "18 in 2 out 3", "18 in 2 out 3", "20 in 0 out 0"]);
+    assert_eq!(lines[5], "internal 1 chain 1");
+    assert_eq!(lines.len(), 1 + 4 + 9);
+}
+
+#[test]
+fn layout_of_a_test_without_scan() {
+    let folder = Folder::holding("a.soc", CORE_A);
+    let internal: String = (1..=9).map(|j| format!("internal {j} chain 0\n")).collect();
+    let expected = format!("si 4 so 6 cycles 11\nchain 1 ff 0 in 4 out 6\nchain 2 ff 0 in 4 out 5\n{internal}");
+    folder.run(&["layout", "a.soc", "0", "2", "2"]).done(&expected);
+}
+
+#[test]
+fn time_and_wires() {
+    let folder = Folder::holding("t1.soc", T1);
+    folder.run(&["time", "t1.soc", "2", "4"]).done("cycles 9 wires 3\n");
+    folder.run(&["time", "t1.soc", "0", "64"]).done("cycles 0 wires 1\n");
+    folder.run_with(&["time", "-", "1", "2"], T1.as_bytes()).done("cycles 65 wires 1\n");
+}
+
+#[test]
+fn write_and_show() {
+    let folder = Folder::holding("t1.soc", T1);
+    folder.run(&["write", "t1.soc", "4", "2", "t1.plan"]).done("");
+    assert_eq!(folder.names(), ["t1.plan", "t1.soc"]);
+    folder.run(&["show", "t1.plan"]).done(T1_SHOWN);
+    let file = fs::read(folder.0.join("t1.plan")).unwrap();
+    assert_eq!((file.len(), &file[..4], &file[48..56]), (64, &[1, 1, 1, 0][..], &[0, 0, 24, 0, 4, 2, 2, 2][..]));
+    folder.run_with(&["show", "-"], &file).done(T1_SHOWN);
+    let printed = command(&["write", "t1.soc", "4", "2", "-"]).current_dir(&folder.0).output().unwrap();
+    assert_eq!((printed.status.code(), printed.stdout), (Some(0), file));
+}
+
+#[test]
+fn write_replaces_a_file_and_leaves_nothing_else() {
+    let folder = Folder::holding("t1.soc", T1);
+    folder.put("t1.plan", "an older plan, longer than the new one, ".repeat(20));
+    folder.run(&["write", "t1.soc", "4", "2", "./t1.plan"]).done("");
+    folder.run(&["show", "t1.plan"]).done(T1_SHOWN);
+    assert_eq!(folder.names(), ["t1.plan", "t1.soc"]);
+}
+
+#[test]
+fn write_follows_a_link_and_keeps_devices() {
+    let folder = Folder::holding("t1.soc", T1);
+    folder.put("real.plan", "");
+    std::os::unix::fs::symlink("real.plan", folder.0.join("link.plan")).unwrap();
+    folder.run(&["write", "t1.soc", "4", "2", "link.plan"]).done("");
+    folder.run(&["show", "real.plan"]).done(T1_SHOWN);
+    assert!(folder.0.join("link.plan").is_symlink());
+    folder.run(&["write", "t1.soc", "4", "2", "/dev/null"]).done("");
+    assert!(!fs::metadata("/dev/null").unwrap().is_file());
+}
+
+#[test]
+fn help_and_version() {
+    let folder = Folder::new();
+    let (short, full) = (folder.run(&["-h"]), folder.run(&["--help"]));
+    assert_eq!((short.status, full.status), (Some(0), Some(0)));
+    assert!(short.out.len() < full.out.len());
+    assert!(full.out.contains("Exit status:") && full.out.contains("refused N line L"));
+    for subcommand in ["plan", "soc", "layout", "time", "write", "show"] {
+        assert!(short.out.contains(subcommand) && full.out.contains(subcommand));
+        assert!(folder.run(&[subcommand, "--help"]).out.contains("Usage: tallowwing"));
+    }
+    folder.run(&["--version"]).done(concat!("tallowwing ", env!("CARGO_PKG_VERSION"), "\n"));
+}

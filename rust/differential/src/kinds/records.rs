@@ -1,0 +1,98 @@
+//! Cases of SOC records, and of the layouts and times that are asked of them.
+
+use independent::forms::soc_bytes;
+use independent::limits;
+
+use crate::at_limits::limit_in_record;
+use crate::case::{Case, Entry};
+use crate::damage_record::damage_soc;
+use crate::make_soc::{any_shape, make_soc};
+use crate::random::Random;
+
+pub fn any_record(random: &mut Random) -> Vec<u8> {
+    soc_bytes(&make_soc(any_shape(random), random))
+}
+
+pub fn soc_good(random: &mut Random) -> Case {
+    Case::new(Entry::WriteSoc, [0; 3], any_record(random))
+}
+
+pub fn soc_damaged(random: &mut Random) -> Case {
+    let mut record = any_record(random);
+    damage_soc(&mut record, random);
+    handed_to_any(record, random)
+}
+
+pub fn soc_limits(random: &mut Random) -> Case {
+    let mut record = any_record(random);
+    limit_in_record(&mut record, random);
+    handed_to_any(record, random)
+}
+
+/// Every entry that takes a SOC record judges it in the same way.
+fn handed_to_any(record: Vec<u8>, random: &mut Random) -> Case {
+    let entry = *random.pick(&[Entry::WriteSoc, Entry::Layout, Entry::TestTime, Entry::ModuleTime, Entry::ModuleWires, Entry::Plan]);
+    let numbers = match entry {
+        Entry::WriteSoc => [0; 3],
+        Entry::Layout | Entry::TestTime => [random.within(0, 2), random.within(0, 2), random.within(0, 9)],
+        Entry::Plan => [random.within(0, 6), random.within(0, 3), 0],
+        _ => [random.within(0, 2), random.within(0, 9), 0],
+    };
+    Case::new(entry, numbers, record)
+}
+
+pub fn any_width(random: &mut Random) -> u32 {
+    match random.below(20) {
+        0 => *random.pick(&[0, 65, 66, 256, 257, 4_294_967_295]),
+        1 => limits::WIRES,
+        2..=5 => random.within(1, limits::WIRES),
+        _ => random.within(1, 12),
+    }
+}
+
+/// The number of a module that is there, now and then of one that is not.
+pub fn any_module(record: &[u8], random: &mut Random) -> u32 {
+    let count = u32::from(record[44]);
+    match random.below(12) {
+        0 => *random.pick(&[count, count + 1, 40, 256, 4_294_967_295]),
+        _ => random.within(0, count - 1),
+    }
+}
+
+pub fn any_test(record: &[u8], module: u32, random: &mut Random) -> u32 {
+    let place = 48 + 416 * module as usize + 284;
+    let count = record.get(place).map_or(0, |&count| u32::from(count));
+    match random.below(12) {
+        0 => *random.pick(&[0, count + 1, 9, 257, 4_294_967_295]),
+        _ => random.within(1, count.max(1)),
+    }
+}
+
+pub fn asks_a_test(entry: Entry, random: &mut Random) -> Case {
+    let record = any_record(random);
+    let module = any_module(&record, random);
+    let test = any_test(&record, module.min(39), random);
+    Case::new(entry, [module, test, any_width(random)], record)
+}
+
+pub fn layout(random: &mut Random) -> Case {
+    asks_a_test(Entry::Layout, random)
+}
+
+pub fn test_time(random: &mut Random) -> Case {
+    asks_a_test(Entry::TestTime, random)
+}
+
+pub fn asks_a_module(entry: Entry, random: &mut Random) -> Case {
+    let record = any_record(random);
+    let module = any_module(&record, random);
+    Case::new(entry, [module, any_width(random), 0], record)
+}
+
+pub fn module_time(random: &mut Random) -> Case {
+    asks_a_module(Entry::ModuleTime, random)
+}
+
+pub fn module_wires(random: &mut Random) -> Case {
+    asks_a_module(Entry::ModuleWires, random)
+}

@@ -1,0 +1,21 @@
+//! Document 01 in plain Rust, written from the documents alone, so that the library can be held against it.
+//!
+//! It shares nothing with the library: where both answer alike, two readings of the documents agree.
+
+#![forbid(unsafe_code)]
+
+pub mod entries;
+pub mod forms;
+pub mod layout;
+pub mod limits;
+pub mod lines;
+pub mod listing;
+pub mod plan;
+pub mod plan_file;
+pub mod planner;
+pub mod refusal;
+pub mod soc;
+pub mod soc_text;
+pub mod soc_written;
+pub mod time;
+pub mod units;

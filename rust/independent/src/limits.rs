@@ -1,0 +1,24 @@
+//! The limits of document 01, each stated once.
+
+pub const TEXT_BYTES: usize = 61_440;
+pub const NAME_BYTES: usize = 32;
+pub const MODULES: usize = 40;
+pub const LEVEL: u32 = 40;
+pub const TERMINALS: u32 = 8_191;
+pub const CHAINS: usize = 64;
+pub const CHAIN_LENGTH: u32 = 4_096;
+pub const TESTS: usize = 8;
+pub const PATTERNS: u32 = 16_777_215;
+pub const POSITION: u32 = 1_000_000;
+pub const POWER: u32 = 16_777_215;
+
+pub const WIRES: u32 = 64;
+pub const BUSES: usize = 3;
+pub const PLANNED: usize = 12;
+
+/// The most cycles that one test, and one module, can take.
+pub const TEST_CYCLES: u64 = 4_672_907_640_831;
+pub const MODULE_CYCLES: u64 = 37_383_261_126_648;
+
+/// The most bytes of the line `Plan W B`, its end included.
+pub const PLAN_LINE_BYTES: usize = 32;

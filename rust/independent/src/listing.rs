@@ -1,0 +1,51 @@
+//! The printing program, from its whole standard input to its whole standard output.
+
+use std::fmt::Write;
+
+use crate::limits;
+use crate::lines::Fields;
+use crate::plan::Plan;
+use crate::planner::plan;
+use crate::refusal::{demand, Refusal};
+use crate::soc::Soc;
+use crate::soc_text;
+
+pub fn listing(input: &[u8]) -> String {
+    match soc_and_plan(input) {
+        Ok((soc, plan)) => lines(&soc, &plan),
+        Err(Refusal { number, line }) => format!("refused {number} line {line}\n"),
+    }
+}
+
+fn soc_and_plan(input: &[u8]) -> Result<(Soc, Plan), Refusal> {
+    let end = input.iter().position(|&byte| byte == b'\n').map_or(input.len(), |place| place + 1);
+    let (first, text) = input.split_at(end);
+    let (wires, limit) = plan_line(first)?;
+    let soc = soc_text::read(text)?;
+    let plan = plan(&soc, wires, limit)?;
+    Ok((soc, plan))
+}
+
+/// W and B from the line `Plan W B`, given with its end.
+fn plan_line(line: &[u8]) -> Result<(u32, u32), Refusal> {
+    demand(line.len() <= limits::PLAN_LINE_BYTES, 3)?;
+    let content = line.strip_suffix(b"\r\n").or(line.strip_suffix(b"\n")).unwrap_or(line);
+    let mut fields = Fields::new(content, 0);
+    fields.keyword("Plan")?;
+    let wires = fields.number(0, u32::MAX)?;
+    let limit = fields.number(0, u32::MAX)?;
+    fields.end()?;
+    Ok((wires, limit))
+}
+
+fn lines(soc: &Soc, plan: &Plan) -> String {
+    let name = String::from_utf8_lossy(soc.name());
+    let mut out = format!("soc {name} wires {} limit {} time {}\n", plan.wires.0, plan.limit, plan.time.0);
+    for (index, bus) in plan.buses().iter().enumerate() {
+        let _ = writeln!(out, "bus {} width {} busy {}", index + 1, bus.width.0, bus.busy.0);
+    }
+    for module in plan.modules() {
+        let _ = writeln!(out, "module {} bus {} wires {} cycles {}", module.number, module.bus, module.wires.0, module.cycles.0);
+    }
+    out
+}

@@ -1,0 +1,95 @@
+//! Plan records and plan files: what is good, what is not, and which bytes are written.
+
+mod common;
+
+use common::{soc, t1};
+use independent::entries;
+use independent::forms::{plan_bytes, plan_from, PLAN_BYTES};
+use independent::plan::{Plan, Planned};
+use independent::plan_file;
+use independent::planner::plan;
+use independent::refusal::Refusal;
+use independent::units::{Cycles, Wires};
+
+fn refusal<T: std::fmt::Debug>(answer: Result<T, Refusal>) -> u8 {
+    let refusal = answer.unwrap_err();
+    assert_eq!(refusal.line, 0);
+    refusal.number
+}
+
+fn best() -> Plan {
+    plan(&soc(&t1()), 4, 2).unwrap()
+}
+
+#[test]
+fn the_record_goes_there_and_back() {
+    let bytes = plan_bytes(&best());
+    assert_eq!((bytes.len(), plan_from(&bytes)), (PLAN_BYTES, Some(best())));
+}
+
+#[test]
+fn a_wrong_place_in_a_plan_record_is_12() {
+    assert_eq!(best().check(), Ok(()));
+    let faults: &[fn(&mut Plan)] = &[
+        |plan| plan.wires = Wires(0),
+        |plan| plan.wires = Wires(5),
+        |plan| plan.limit = 1,
+        |plan| plan.limit = 4,
+        |plan| plan.bus_count = 0,
+        |plan| plan.bus_count = 1,
+        |plan| plan.bus_count = 3,
+        |plan| plan.module_count = 0,
+        |plan| plan.module_count = 3,
+        |plan| plan.module_count = 13,
+        |plan| plan.time = Cycles(66),
+        |plan| plan.buses.swap(0, 1),
+        |plan| plan.buses[0].width = Wires(0),
+        |plan| plan.buses[1].busy = Cycles(8),
+        |plan| plan.buses[2].busy = Cycles(1),
+        |plan| plan.modules[0].number = 2,
+        |plan| plan.modules[1].number = 40,
+        |plan| plan.modules[1].bus = 0,
+        |plan| plan.modules[1].bus = 3,
+        |plan| plan.modules[1].wires = Wires(0),
+        |plan| plan.modules[1].wires = Wires(4),
+        |plan| plan.modules[1].cycles = Cycles(0),
+        |plan| plan.modules[1].cycles = Cycles(10),
+        |plan| plan.modules[11] = Planned { number: 39, ..Planned::default() },
+    ];
+    for (index, fault) in faults.iter().enumerate() {
+        let mut plan = best();
+        fault(&mut plan);
+        assert_eq!(plan.check(), Err(Refusal::new(12)), "fault {index}");
+    }
+    assert_eq!(refusal(entries::write_plan(&plan_bytes(&best())[..299], &mut [0; 196])), 12);
+}
+
+#[test]
+fn plan_file_of_t1() {
+    let module = |number, bus, wires, cycles: u64| [&[number, bus, wires, 0][..], &cycles.to_le_bytes()].concat();
+    let bus = |width, busy: u64| [&[width, 0, 0, 0][..], &busy.to_le_bytes()].concat();
+    let trailer = [&[0, 0, 24, 0, 4, 2, 2, 2][..], &65u64.to_le_bytes()].concat();
+    let file = [module(1, 1, 1, 65), module(2, 2, 3, 9), bus(1, 65), bus(3, 9), trailer].concat();
+    assert_eq!(plan_file::write(&best()), file);
+    assert_eq!(plan_file::read(&file), Ok(best()));
+}
+
+#[test]
+fn no_other_file_is_good() {
+    let file = plan_file::write(&best());
+    for length in 0..file.len() {
+        assert_eq!(refusal(plan_file::read(&file[..length])), 12);
+        assert_eq!(refusal(plan_file::read(&file[file.len() - length..])), 12);
+    }
+    assert_eq!(refusal(plan_file::read(&[&file[..], &[0]].concat())), 12);
+    for place in 0..file.len() {
+        for bit in 0..8 {
+            let mut damaged = file.clone();
+            damaged[place] ^= 1 << bit;
+            // Some flips give another good plan, which then is a file of its own.
+            if let Ok(other) = plan_file::read(&damaged) {
+                assert_eq!(plan_file::write(&other), damaged);
+            }
+        }
+    }
+}

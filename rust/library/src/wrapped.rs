@@ -1,0 +1,57 @@
+//! Every entry of the library on slices.
+//!
+//! The calls are sound for all slices: the library is proved to stay within the lengths it is given, a slice's pointer is never null even when
+//! it is empty, and a slice that is written cannot overlap one that is read.
+
+use crate::answer::Answer;
+use crate::declared::*;
+
+/// Reads a SOC text to its record.
+pub fn read_soc(text: &[u8], record: &mut [u8]) -> Answer {
+    Answer::from_number(unsafe { tallowwing_read_soc(text.as_ptr(), text.len(), record.as_mut_ptr(), record.len()) })
+}
+
+/// Writes the written form of a SOC record.
+pub fn write_soc(record: &[u8], text: &mut [u8]) -> Answer {
+    Answer::from_number(unsafe { tallowwing_write_soc(record.as_ptr(), record.len(), text.as_mut_ptr(), text.len()) })
+}
+
+/// Lays out the wrapper of a module for one of its tests at a width.
+pub fn layout(record: &[u8], module: u32, test: u32, width: u32, layout: &mut [u8]) -> Answer {
+    Answer::from_number(unsafe { tallowwing_layout(record.as_ptr(), record.len(), module, test, width, layout.as_mut_ptr(), layout.len()) })
+}
+
+/// The cycles of one test of a module at a width.
+pub fn test_time(record: &[u8], module: u32, test: u32, width: u32) -> Answer {
+    Answer::from_number(unsafe { tallowwing_test_time(record.as_ptr(), record.len(), module, test, width) })
+}
+
+/// A module's time, in cycles, on a bus of a width.
+pub fn module_time(record: &[u8], module: u32, width: u32) -> Answer {
+    Answer::from_number(unsafe { tallowwing_module_time(record.as_ptr(), record.len(), module, width) })
+}
+
+/// The fewest wires that give a module's time on a bus of a width.
+pub fn module_wires(record: &[u8], module: u32, width: u32) -> Answer {
+    Answer::from_number(unsafe { tallowwing_module_wires(record.as_ptr(), record.len(), module, width) })
+}
+
+/// Finds the first plan of least time for W wires and limit B.
+pub fn plan(record: &[u8], wires: u32, limit: u32, plan: &mut [u8]) -> Answer {
+    Answer::from_number(unsafe { tallowwing_plan(record.as_ptr(), record.len(), wires, limit, plan.as_mut_ptr(), plan.len()) })
+}
+
+/// Writes the plan file of a plan record.
+pub fn write_plan(plan: &[u8], file: &mut [u8]) -> Answer {
+    Answer::from_number(unsafe { tallowwing_write_plan(plan.as_ptr(), plan.len(), file.as_mut_ptr(), file.len()) })
+}
+
+/// Reads a plan file, the part used and no more, to its record.
+pub fn read_plan(file: &[u8], plan: &mut [u8]) -> Answer {
+    Answer::from_number(unsafe { tallowwing_read_plan(file.as_ptr(), file.len(), plan.as_mut_ptr(), plan.len()) })
+}
+
+/// Lists the plan for a line `Plan W B` and the SOC text behind it, or the line `refused N line L`.
+pub fn listing(input: &[u8], listing: &mut [u8]) -> Answer {
+    Answer::from_number(unsafe { tallowwing_listing(input.as_ptr(), input.len(), listing.as_mut_ptr(), listing.len()) })
+}

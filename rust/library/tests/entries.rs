@@ -1,0 +1,74 @@
+//! Every entry answers through the wrappers, empty slices included. What the answers have to be is held against `independent` elsewhere.
+
+use tallowwing_library::*;
+
+const T1: &[u8] = b"SocName t1
+TotalModules 3
+Options Power 0 XY 0
+Module 0 Level 0 Inputs 0 Outputs 0 Bidirs 0 ScanChains 0 :
+Module 0 TotalTests 0
+Module 1 Level 1 Inputs 0 Outputs 0 Bidirs 0 ScanChains 1 : 10
+Module 1 TotalTests 1
+Module 1 Test 1 ScanUse 1 TamUse 1 Patterns 5
+Module 2 Level 1 Inputs 3 Outputs 2 Bidirs 0 ScanChains 0 :
+Module 2 TotalTests 1
+Module 2 Test 1 ScanUse 1 TamUse 1 Patterns 4
+";
+
+const fn refused(number: u8) -> Answer {
+    Answer::Refused { number, line: 0 }
+}
+
+fn record() -> Vec<u8> {
+    let mut record = vec![0; SOC_BYTES];
+    assert_eq!(read_soc(T1, &mut record), Answer::Figure(SOC_BYTES as u64));
+    record
+}
+
+#[test]
+fn text_goes_to_the_record_and_back() {
+    let mut text = vec![0; TEXT_MAX];
+    assert_eq!(write_soc(&record(), &mut text), Answer::Figure(T1.len() as u64));
+    assert_eq!(&text[..T1.len()], T1);
+}
+
+#[test]
+fn times_of_t1() {
+    let (record, mut lent) = (record(), [0; LAYOUT_BYTES]);
+    assert_eq!(layout(&record, 1, 1, 2, &mut lent), Answer::Figure(LAYOUT_BYTES as u64));
+    assert_eq!(lent[..8], [10, 0, 0, 0, 0, 0, 0, 0]);
+    assert_eq!(test_time(&record, 2, 1, 2), Answer::Figure(13));
+    assert_eq!(module_time(&record, 2, 4), Answer::Figure(9));
+    assert_eq!(module_wires(&record, 2, 4), Answer::Figure(3));
+}
+
+#[test]
+fn plan_goes_to_the_file_and_back() {
+    let (mut planned, mut file, mut again) = ([0; PLAN_BYTES], [0; PLAN_FILE_MAX], [0; PLAN_BYTES]);
+    assert_eq!(plan(&record(), 4, 2, &mut planned), Answer::Figure(PLAN_BYTES as u64));
+    assert_eq!(write_plan(&planned, &mut file), Answer::Figure(64));
+    assert_eq!(read_plan(&file[..64], &mut again), Answer::Figure(PLAN_BYTES as u64));
+    assert_eq!(planned, again);
+}
+
+#[test]
+fn empty_slices_are_refused_and_no_more() {
+    assert_eq!(read_soc(&[], &mut []), refused(6));
+    assert_eq!(read_soc(T1, &mut []), refused(11));
+    assert_eq!(write_soc(&[], &mut []), refused(14));
+    assert_eq!(layout(&[], 0, 0, 0, &mut []), refused(14));
+    assert_eq!(test_time(&[], 0, 0, 0), refused(14));
+    assert_eq!(module_time(&[], 0, 0), refused(14));
+    assert_eq!(module_wires(&[], 0, 0), refused(14));
+    assert_eq!(plan(&[], 0, 0, &mut []), refused(14));
+    assert_eq!(write_plan(&[], &mut []), refused(12));
+    assert_eq!(read_plan(&[], &mut []), refused(12));
+    assert_eq!(listing(&[], &mut []), refused(11));
+}
+
+#[test]
+fn no_input_is_listed_as_refused() {
+    let mut lent = [0; LISTING_MAX];
+    assert_eq!(listing(&[], &mut lent), Answer::Figure(17));
+    assert_eq!(&lent[..17], b"refused 3 line 0\n");
+}
