@@ -1,0 +1,3 @@
+pub mod AskedLaws
+pub mod FrontLaws
+pub mod ListingLaws
