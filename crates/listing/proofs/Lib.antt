@@ -1,1 +1,4 @@
+pub mod AskedLaws
+pub mod FrontLaws
 pub mod LineLaws
+pub mod ListingLaws

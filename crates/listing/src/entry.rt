@@ -27,8 +27,8 @@ pub struct Listed {
 }
 
 // What is printed for a good record.
-fn put_answer(buf: &mut [u8; 2048], s: Soc, wires: u32, limit: u32) -> usize
-    requires { ⌜ goodSoc s ≡ true ⌝ }
+fn put_answer(buf: &mut [u8], s: Soc, wires: u32, limit: u32) -> usize
+    requires { ⌜ (goodSoc s ≡ true) × (listingMax ≤ length (now buf)) ⌝ }
     ensures { λ r. ⌜ Put (writtenLines (planPrinted s (planAnswer s wires limit))) 0 (now (buf .entry)) (now (buf .exit)) r × (length (writtenLines (planPrinted s (planAnswer s wires limit))) ≤ listingMax) ⌝ }
 {
     let answer = plan::plan(s, Wires(wires), limit);
@@ -39,7 +39,8 @@ fn put_answer(buf: &mut [u8; 2048], s: Soc, wires: u32, limit: u32) -> usize
 }
 
 // What is printed for a SOC text, where the first line is good.
-fn put_text(buf: &mut [u8; 2048], text: &[u8], wires: u32, limit: u32) -> usize
+fn put_text(buf: &mut [u8], text: &[u8], wires: u32, limit: u32) -> usize
+    requires { ⌜ listingMax ≤ length (now buf) ⌝ }
     ensures { λ r. ⌜ Put (writtenLines (textPrinted (record { wires = wires; limit = limit }) (readSoc (now (text .entry))))) 0 (now (buf .entry)) (now (buf .exit)) r × (length (writtenLines (textPrinted (record { wires = wires; limit = limit }) (readSoc (now (text .entry))))) ≤ listingMax) ⌝ }
 {
     let read = text::read_soc(text);
@@ -49,7 +50,8 @@ fn put_text(buf: &mut [u8; 2048], text: &[u8], wires: u32, limit: u32) -> usize
     put_answer(&mut *buf, read.soc, wires, limit)
 }
 
-fn put_listed(buf: &mut [u8; 2048], input: &[u8]) -> usize
+fn put_listed(buf: &mut [u8], input: &[u8]) -> usize
+    requires { ⌜ listingMax ≤ length (now buf) ⌝ }
     ensures { λ r. ⌜ Put (listed (now (input .entry))) 0 (now (buf .entry)) (now (buf .exit)) r × (length (listed (now (input .entry))) ≤ listingMax) ⌝ }
 {
     let line = fields::line_at(input, 0);

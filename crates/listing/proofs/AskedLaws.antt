@@ -1,0 +1,33 @@
+-- Laws of the input's first line: where it ends, and what it asks for where it is short enough and where it is not. Assumes nothing.
+use Prim.Native.Nat.{ℕ, _≤_, _<_}
+use mathlib.Core.Path.{_≡_, refl}
+use mathlib.Core.List.{List, [], _∷_}
+use native.Mathlib.Omega.{arith}
+use borrow.Author.Tests.{le-leb, lt-leb}
+use lib.ListN.{length}
+use Rattle.fields.specs.Fields.{fieldsOf}
+use Rattle.fields.specs.Lines.{untilLf, lineEnding, lineAt}
+use Rattle.fields.proofs.LineLaws.{line-is}
+use Rattle.lines.specs.Parts.{refuses, whole}
+use Rattle.listing.specs.Asked.{planLineMax, planLine, firstLine, asked}
+
+-- the first line and its end lie in the input; an empty input has an empty one
+pub record FirstLine (input : List ℕ) : Type 0 where
+  pub end : lineAt input 0 .to ≤ lineAt input 0 .next
+  pub inside : lineAt input 0 .next ≤ length input
+
+pub first-line : (input : List ℕ) → FirstLine input
+unfolding lineAt lineEnding untilLf
+first-line [] = record { end = omega arith; inside = omega arith }
+first-line (b ∷ input) =
+    let l = line-is (b ∷ input) 0 (lineAt (b ∷ input) 0) (omega arith) refl in
+    record { end = l .end; inside = l .inside }
+
+module _ (input : List ℕ) where
+  pub asked-long : planLineMax < lineAt input 0 .next → asked input ≡ refuses 3
+  unfolding asked
+  asked-long h = simp (lt-leb (lineAt input 0 .next) planLineMax h)
+
+  pub asked-short : lineAt input 0 .next ≤ planLineMax → asked input ≡ whole planLine (fieldsOf (firstLine input))
+  unfolding asked
+  asked-short h = simp (le-leb (lineAt input 0 .next) planLineMax h)

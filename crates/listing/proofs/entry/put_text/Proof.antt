@@ -1,0 +1,46 @@
+-- `listing::entry::put_text` meets its contract. The record of a text that is not refused is good. Assumes nothing.
+use borrow.Author.Needs.{needs}
+use native.Mathlib.Omega.{arith}
+use mathlib.Core.Path.{ap}
+use Rattle.writing.specs.Written.{writtenLines}
+use Rattle.listing.specs.Listing.{listingMax}
+use Rattle.listing.proofs.ListingLaws.{put-as, text-refused, text-read, read-good}
+use Rattle.listing.proofs.entry.put_text.Statement.{statement}
+use Rattle.listing.proofs.entry.put_text.Tie as tie
+
+read-soc-requires : tie.Need-read-soc-requires
+read-soc-requires c κs = search needs
+
+put-refusal-requires : tie.Need-put-refusal-requires
+put-refusal-requires c κs = omega (arith, c .before .before .before .before .before .before .pre)
+
+same-length : tie.Need-same-length
+same-length c = search needs
+
+returns : tie.Need-returns
+returns c =
+    let k = c .before .before in
+    let t = k .before .before in
+    let r = t .before .before in
+    let s = r .before .before .before in
+    put-as 55 (ap writtenLines (text-refused (record { wires = s .args .wires; limit = s .args .limit }) (s .args .text .now) _ (r .read-soc .ensures) (t .if1 .taken))) (omega arith) (k .put-refusal .ensures)
+
+put-answer-requires : tie.Need-put-answer-requires
+put-answer-requires c κs =
+    let t = c .before in
+    let r = t .before .before in
+    (read-good _ _ (r .read-soc .ensures) (t .if1 .left), r .before .before .before .pre)
+
+same-length-2 : tie.Need-same-length-2
+same-length-2 c = search needs
+
+returns-2 : tie.Need-returns-2
+returns-2 c =
+    let k = c .before .before in
+    let t = k .before .before in
+    let r = t .before .before in
+    let s = r .before .before .before in
+    put-as listingMax (ap writtenLines (text-read (record { wires = s .args .wires; limit = s .args .limit }) (s .args .text .now) _ (r .read-soc .ensures) (t .if1 .left))) (omega arith) (k .put-answer .ensures)
+
+pub put-text-spec : {M : Type 1} → statement M
+put-text-spec = tie.close (tie.spec read-soc-requires put-refusal-requires same-length returns put-answer-requires same-length-2 returns-2)
