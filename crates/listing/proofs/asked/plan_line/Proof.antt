@@ -4,6 +4,7 @@ use mathlib.Core.Path.{_≡_, sym, ap, _∙_}
 use Rattle.fields.specs.Bytes.{bytes}
 use Rattle.fields.specs.Fields.{fieldsOf}
 use Rattle.fields.specs.Readers.{bytesDue, pastIs}
+use Rattle.fields.proofs.AnswerLaws.{word-is}
 use Rattle.fields.proofs.ReaderLaws.{after-no, after-got}
 use Rattle.lines.specs.Parts.{closed}
 use Rattle.lines.proofs.HeadLaws.{closed-no}
@@ -13,7 +14,7 @@ use Rattle.listing.proofs.asked.plan_line.Tie as tie
 
 -- what the call answers
 keyword : (c : tie.After-past-word) → let l = c .before .before .before .args .l .now in pastIs l (c .past-word .result) ≡ bytesDue (bytes "Plan") (fieldsOf l)
-keyword c = c .past-word .ensures
+keyword c = word-is _ _ _ (c .past-word .ensures)
 
 slice-aggregate-past-word : tie.Need-slice-aggregate-past-word
 slice-aggregate-past-word c = search needs

@@ -6,6 +6,7 @@ use mathlib.Core.Path.{_≡_, sym, ap, _∙_}
 use lib.ListN.{drop}
 use Rattle.fields.specs.Fields.{fieldsOf}
 use Rattle.fields.specs.Readers.{got, between, figureIs}
+use Rattle.fields.proofs.AnswerLaws.{number-is}
 use Rattle.fields.proofs.ReaderLaws.{after-no, after-got, between-within}
 use Rattle.lines.proofs.HeadLaws.{closed-no, closed-blank, closed-more}
 use Rattle.listing.specs.Asked.{askedMax, planNumbers, askedAnswer}
@@ -15,11 +16,11 @@ use Rattle.listing.proofs.asked.plan_numbers.Tie as tie
 -- what each call answers
 first : (c : tie.After-figure-at) → let s = c .before .before in
     figureIs (s .args .l .now) (c .figure-at .result) ≡ between 0 askedMax (fieldsOf (drop (s .args .at) (s .args .l .now)))
-first c = c .figure-at .ensures
+first c = number-is _ _ _ _ (c .figure-at .ensures)
 
 second : (c : tie.After-figure-at2) → let w = c .before .before in let l = w .before .before .before .before .args .l .now in
     figureIs l (c .figure-at2 .result) ≡ between 0 askedMax (fieldsOf (drop (w .w .given .0 .1 .0) l))
-second c = c .figure-at2 .ensures
+second c = number-is _ _ _ _ (c .figure-at2 .ensures)
 
 -- W is read, and B behind it
 wires : (c : tie.After-w) → let s = c .before .before .before .before in let l = s .args .l .now in
