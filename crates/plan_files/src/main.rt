@@ -41,74 +41,28 @@ fn at_most(n: usize, s: &[u8]) -> usize
     if n <= s.len() { n } else { s.len() }
 }
 
-// The file of t1's plan for 4 wires and limit 2, by hand: module 1 on bus 1, module 2 on bus 2, the buses, the trailer.
+// The file of t1's plan for 4 wires and limit 2, by hand: module 1 on bus 1, module 2 on bus 2, the buses, the trailer. All other bytes are 0.
 fn by_hand() -> [u8; 64] {
-    [
-        1,
-        1,
-        1,
-        0,
-        65,
-        0,
-        0,
-        0,
-        0,
-        0,
-        0,
-        0,
-        2,
-        2,
-        3,
-        0,
-        9,
-        0,
-        0,
-        0,
-        0,
-        0,
-        0,
-        0,
-        1,
-        0,
-        0,
-        0,
-        65,
-        0,
-        0,
-        0,
-        0,
-        0,
-        0,
-        0,
-        3,
-        0,
-        0,
-        0,
-        9,
-        0,
-        0,
-        0,
-        0,
-        0,
-        0,
-        0,
-        0,
-        0,
-        24,
-        0,
-        4,
-        2,
-        2,
-        2,
-        65,
-        0,
-        0,
-        0,
-        0,
-        0,
-        0,
-        0,
-    ]
+    let mut file = [0u8; 64];
+    file[0] = 1;
+    file[1] = 1;
+    file[2] = 1;
+    file[4] = 65;
+    file[12] = 2;
+    file[13] = 2;
+    file[14] = 3;
+    file[16] = 9;
+    file[24] = 1;
+    file[28] = 65;
+    file[36] = 3;
+    file[40] = 9;
+    file[50] = 24;
+    file[52] = 4;
+    file[53] = 2;
+    file[54] = 2;
+    file[55] = 2;
+    file[56] = 65;
+    file
 }
 
 // Whether a file that is accepted is the file of what it says.
