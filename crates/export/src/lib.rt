@@ -92,8 +92,8 @@ pub extern "C" fn tallowwing_module_wires(soc: &[u8], module: u32, width: u32) -
     ensures { λ r. ⌜ r ≡ moduleWiresCode (now (soc .entry)) «module» width ⌝ }
 {
     let s = records::soc_in(soc);
-    let time = wrapper::module_time(s, module, Wires(width));
-    code_of(time.refusal, time.wires.0 as u64)
+    let best = wrapper::module_time(s, module, Wires(width));
+    code_of(best.refusal, best.wires.0 as u64)
 }
 
 #[no_mangle]
@@ -113,19 +113,19 @@ pub extern "C" fn tallowwing_write_plan(from: &[u8], into: &mut [u8]) -> u64
     ensures { λ r. ⌜ (r ≡ writePlanCode (now (from .entry)) (now (into .entry))) × (now (into .exit) ≡ writePlanHeld (now (from .entry)) (now (into .entry))) ⌝ }
 {
     let p = records::plan_in(from);
-    let written = planfile::write_plan(p, &mut *into);
-    code_of(written.refusal, written.len as u64)
+    let filed = planfile::write_plan(p, &mut *into);
+    code_of(filed.refusal, filed.len as u64)
 }
 
 #[no_mangle]
 pub extern "C" fn tallowwing_read_plan(file: &[u8], into: &mut [u8]) -> u64
     ensures { λ r. ⌜ (r ≡ readPlanCode (now (file .entry)) (now (into .entry))) × (now (into .exit) ≡ readPlanHeld (now (file .entry)) (now (into .entry))) ⌝ }
 {
-    let read = planfile::read_plan(file);
-    if read.refusal.number != 0 {
-        return code_of(read.refusal, 0);
+    let held = planfile::read_plan(file);
+    if held.refusal.number != 0 {
+        return code_of(held.refusal, 0);
     }
-    code_of_bytes(records::plan_bytes(read.plan, &mut *into))
+    code_of_bytes(records::plan_bytes(held.plan, &mut *into))
 }
 
 #[no_mangle]

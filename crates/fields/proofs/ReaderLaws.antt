@@ -27,7 +27,7 @@ unfoldable pub prepend : {E S A : Type 0} → List A → Got E S (List A) → Go
 prepend xs (no c) = no c
 prepend xs (got ys s) = got (xs ++ ys) s
 
-prepend-after : {E S A : Type 0} (x : A) (xs : List A) (g : Got E S (List A)) → prepend xs (after g (λ ys. give (x ∷ ys))) ≡ prepend (xs ++ x ∷ []) g
+pub prepend-after : {E S A : Type 0} (x : A) (xs : List A) (g : Got E S (List A)) → prepend xs (after g (λ ys. give (x ∷ ys))) ≡ prepend (xs ++ x ∷ []) g
 unfolding prepend after
 prepend-after x xs (no c) = refl
 prepend-after x xs (got ys s) = ap (λ l. got l s) (sym (append-snoc xs x ys))

@@ -1,9 +1,8 @@
--- Laws of a module's first line: places that are filled from the front, where those behind are spare; what a chain's length and a rule give
--- from what they read; and that a level that was read is within its limit. Assumes nothing.
+-- Laws of a module's first line: places that are filled from the front, where those behind are spare; what a chain's length gives
+-- from what it reads; and that a level that was read is within its limit. Assumes nothing.
 use native.Mathlib.Omega.{arith}
 use Prim.Native.Nat.{ℕ, _+_, _-_, _≤_, _<_}
 use mathlib.Core.Path.{_≡_, refl, sym, ap, _∙_}
-use mathlib.Core.Bool.{Bool, true, false}
 use mathlib.Core.List.{List, _++_}
 use lib.ListN.{length, take, drop, set, replicate, length-replicate, replicate-append-replicate, take-append-drop}
 use lib.Seq.{length-take-le, drop-drop, drop-at, drop-set-lt}
@@ -14,7 +13,6 @@ use Rattle.soc.specs.Limits.{levelMax, lengthMax}
 use Rattle.soc.specs.Places.{padded}
 use Rattle.soc.specs.Record.{flipFlops}
 use Rattle.lines.specs.Kinds.{level, chainLength}
-use Rattle.lines.specs.Parts.{rule}
 
 module _ {A : Type 0} (n : ℕ) (z : A) where
   drop-replicate : (m : ℕ) → m ≤ n → drop m (replicate n z) ≡ replicate (n - m) z
@@ -50,16 +48,6 @@ module _ (fs : List (List ℕ)) where
   pub chain-got : (n : ℕ) (gs : List (List ℕ)) → between 1 lengthMax fs ≡ got n gs → chainLength fs ≡ got (flipFlops n) gs
   unfolding chainLength
   chain-got n gs e = after-got (between 1 lengthMax fs) _ n gs e
-
--- a rule that is kept, and one that is broken
-module _ (b : Bool) (fs : List (List ℕ)) where
-  pub rule-got : b ≡ true → rule b fs ≡ got tt fs
-  unfolding rule
-  rule-got h = rw h
-
-  pub rule-no : b ≡ false → rule b fs ≡ no 5
-  unfolding rule
-  rule-no h = rw h
 
 -- what stands behind a value that two readings gave: the first gave one, with which the second went on
 record Came {E S A B : Type 0} (g : Got E S A) (k : A → Reads E S B) (b : B) (t : S) : Type 0 where

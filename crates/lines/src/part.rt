@@ -6,10 +6,11 @@ use fields::Past;
 use soc::NOT_GIVEN;
 ghost use mathlib.Core.Path.{_≡_};
 ghost use Prim.Native.Nat.{_≤_};
-ghost use lib.ListN.{drop};
-ghost use Rattle.fields.specs.Fields.{fieldsOf};
+ghost use lib.ListN.{length, drop};
+ghost use Rattle.fields.specs.Fields.{fieldsOf, part};
+ghost use Rattle.fields.specs.Numbers.{decimalOf};
 ghost use Rattle.fields.specs.Readers.{pastIs};
-ghost use Rattle.lines.specs.Parts.{due, keyDue, flag, keyFlag, orNotGiven, keyGiven, isNext, flagIs, givenFigure};
+ghost use Rattle.lines.specs.Parts.{due, keyDue, flag, keyFlag, givenIs, orNotGiven, keyGiven, isNext, flagIs, givenFigure};
 
 // Whether a line was read.
 pub enum Verdict {
@@ -81,6 +82,23 @@ pub(crate) fn key_flag(l: &[u8], at: usize, w: &[u8]) -> Flag
     }
 }
 
+// A number from 0 to high, in the field from a to e.
+fn given_number(l: &[u8], a: usize, e: usize, high: u32) -> Given
+    requires { ⌜ (a ≤ e) × (e ≤ length (now l)) × (high ≤ 16777215) ⌝ }
+    ensures { λ r. ⌜ givenFigure (now (l .entry)) r ≡ givenIs high (decimalOf (part (now (l .entry)) a e)) (fieldsOf (drop e (now (l .entry)))) ⌝ }
+{
+    match fields::number_of(&l[a..e]) {
+        Number::Bad => Given::No(4),
+        Number::Value(v) => {
+            if v <= high as u64 {
+                Given::Is(v as i32, e)
+            } else {
+                Given::No(4)
+            }
+        }
+    }
+}
+
 // A number from 0 to high, or -1.
 fn given_at(l: &[u8], at: usize, high: u32) -> Given
     requires { ⌜ high ≤ 16777215 ⌝ }
@@ -92,16 +110,7 @@ fn given_at(l: &[u8], at: usize, high: u32) -> Given
             if fields::same_bytes(&l[a..e], b"-1") {
                 return Given::Is(NOT_GIVEN, e);
             }
-            match fields::number_of(&l[a..e]) {
-                Number::Bad => Given::No(4),
-                Number::Value(v) => {
-                    if v <= high as u64 {
-                        Given::Is(v as i32, e)
-                    } else {
-                        Given::No(4)
-                    }
-                }
-            }
+            given_number(l, a, e, high)
         }
     }
 }

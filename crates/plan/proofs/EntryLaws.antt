@@ -16,7 +16,7 @@ use Rattle.soc.specs.Places.{padded}
 use Rattle.soc.specs.Planned.{plannedOf, plannedIs}
 use Rattle.soc.specs.declared.planned.Planned.{Planned}
 use Rattle.soc.specs.declared.record.Soc.{Soc}
-use Rattle.soc.proofs.PlaceLaws.{padded-take, padded-set}
+use Rattle.soc.proofs.PlaceLaws.{padded-take, padded-set, padded-at}
 use Rattle.wrapper.specs.Answers.{wires, cycles}
 use Rattle.plans.specs.Plans.{Plan, IsPlan, sum, busyFrom, busies}
 use Rattle.plans.specs.Listed.{bestPlan}
@@ -31,7 +31,7 @@ use Rattle.plan.specs.declared.record.PlacedModule.{PlacedModule}
 use Rattle.plan.specs.declared.tables.Tables.{Tables}
 use Rattle.plan.specs.declared.widths.Found.{Found}
 use Rattle.plan.proofs.SearchLaws.{busy-append, length-busies}
-use Rattle.plan.proofs.TableLaws.{padded-at, table-time, table-wires, busies-same, time-same, best-same}
+use Rattle.plan.proofs.TableLaws.{table-time, table-wires, busies-same, time-same, best-same}
 
 -- an array is filled at the place behind those in use
 fill-step : {A : Type 0} (n : ℕ) (z v : A) (list xs : List A) (i : ℕ) → list ≡ padded n z xs → length xs ≡ i → i < n → set list i v ≡ padded n z (xs ++ v ∷ [])

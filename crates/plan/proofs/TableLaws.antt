@@ -25,6 +25,7 @@ use Rattle.wrapper.proofs.KeptLaws.{good-kept}
 use Rattle.plans.specs.Plans.{Plan, IsPlan, sum, busyFrom, busies, largest, timeOf}
 use Rattle.plans.specs.Listed.{plans, firstLeast, firstOf, bestPlan}
 use Rattle.plans.proofs.ListedLaws.{sound}
+use Rattle.soc.proofs.PlaceLaws.{padded-at}
 use Rattle.plan.specs.Answers.{plannedModule, timeIn, wiresIn}
 use Rattle.plan.specs.Search.{tableTime, timeMax, IsTable}
 use Rattle.plan.specs.Tables.{TimesStand, timesAt, TablesAre}
@@ -40,15 +41,6 @@ replicate-at : {A : Type 0} (n : ℕ) (z : A) (i : ℕ) → getD (replicate n z)
 replicate-at zero z i = refl
 replicate-at (suc n) z zero = refl
 replicate-at (suc n) z (suc i) = replicate-at n z i
-
-append-at : {A : Type 0} (n : ℕ) (z : A) (xs : List A) (i : ℕ) → getD (xs ++ replicate n z) i z ≡ getD xs i z
-append-at n z [] i = replicate-at n z i
-append-at n z (x ∷ xs) zero = refl
-append-at n z (x ∷ xs) (suc i) = append-at n z xs i
-
-pub padded-at : {A : Type 0} (n : ℕ) (z : A) (xs : List A) (i : ℕ) → getD (padded n z xs) i z ≡ getD xs i z
-unfolding padded
-padded-at n z xs i = append-at (n - length xs) z xs i
 
 -- a module's times and wires at the widths from u on
 module _ {A : Type 0} (f : Best → A) (z : A) (d : Module) where

@@ -11,6 +11,7 @@ use borrow.Author.Tests.{le-leb, lt-leb}
 use borrow.Rule.Slice.PartMut.{putMid}
 use lib.ListN.{length, getD, take, drop, set, length-append, length-drop, length-set, drop-of-length-le}
 use lib.Seq.{take-all, take-at, drop-at, take-suc, drop-drop, length-take-le}
+use Rattle.fields.proofs.PutLaws.{partFrom, part-rest}
 use Rattle.units.specs.Refusals.{accepted}
 use Rattle.plan.specs.declared.record.Bus.{Bus}
 use Rattle.plan.specs.declared.record.PlacedModule.{PlacedModule}
@@ -58,13 +59,6 @@ eight v =
 pub little-eight : (v : ℕ) → little 8 v ≡ eight v
 unfolding little eight
 little-eight v = simp div-div-eq-div-mul
-
--- the part from a place on
-abbrev pub partFrom : ℕ → List ℕ → List ℕ
-partFrom at b = take (length b - at) (drop at b)
-
-part-rest : (at : ℕ) (b : List ℕ) → partFrom at b ≡ drop at b
-part-rest at b = take-all (length b - at) (drop at b) (simp length-drop (omega arith))
 
 pub part-room : (at n : ℕ) (b : List ℕ) → n + at ≤ length b → n ≤ length (partFrom at b)
 part-room at n b h = rw part-rest (simp length-drop (omega arith))

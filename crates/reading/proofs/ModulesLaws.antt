@@ -1,21 +1,15 @@
 -- Laws of reading the modules of a text one by one. Assumes nothing.
 use Prim.Native.Nat.{ℕ, suc, _+_, _-_, _≤_, _<_}
 use native.Mathlib.Omega.{arith}
-use mathlib.Core.Path.{_≡_, refl, sym, ap}
+use mathlib.Core.Path.{_≡_, ap}
 use mathlib.Core.List.{List, [], _∷_, _++_, append-nil}
-use lib.Seq.{append-snoc}
 use Rattle.units.specs.declared.Refusal.{Refusal}
 use Rattle.fields.specs.Lines.{Line}
-use Rattle.fields.specs.Readers.{Got, no, got, after, give}
-use Rattle.fields.proofs.ReaderLaws.{prepend}
+use Rattle.fields.specs.Readers.{Got, no, got, after}
+use Rattle.fields.proofs.ReaderLaws.{prepend, prepend-after}
 use Rattle.soc.specs.declared.record.Module.{Module}
 use Rattle.lines.specs.Kinds.{Options}
 use Rattle.reading.specs.Reading.{moduleLines, modules}
-
-prepend-after : {E S A : Type 0} (x : A) (xs : List A) (g : Got E S (List A)) → prepend xs (after g (λ ys. give (x ∷ ys))) ≡ prepend (xs ++ x ∷ []) g
-unfolding prepend after
-prepend-after x xs (no c) = refl
-prepend-after x xs (got ys s) = ap (λ l. got l s) (sym (append-snoc xs x ys))
 
 -- n modules of which i are read, ds, the last of them with level last
 module _ (o : Options) (n i last : ℕ) (ds : List Module) (ls : List Line) where

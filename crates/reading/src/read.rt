@@ -21,7 +21,7 @@ ghost use Rattle.soc.specs.Limits.{modulesMax};
 ghost use Rattle.soc.specs.Places.{padded};
 ghost use Rattle.soc.specs.Record.{noModule};
 ghost use Rattle.fields.specs.Lines.{linesFrom};
-ghost use Rattle.reading.specs.Reading.{modules, rest, behindName, soc, refusedSoc, answer, readSoc};
+ghost use Rattle.reading.specs.Reading.{modules, rest, behindName, soc, refusedSoc, acceptedSoc, answer, readSoc};
 ghost use Rattle.reading.specs.Steps.{Inside, linesAt, StepMeans, nameIn};
 
 pub const TEXT_MAX: usize = 61440;
@@ -80,6 +80,24 @@ fn modules_step(text: &[u8], p: Place, n: usize, power: bool, xy: bool) -> Modul
     }
 }
 
+// What a text says whose lines are all read.
+fn accepted_soc(name: NameLine, n: usize, power: bool, xy: bool, modules: [Module; 40]) -> SocRead
+    ensures { λ r. ⌜ r ≡ acceptedSoc (record { «name_len» = name .len; name = name .name; power = power; xy = xy; «module_count» = n; modules = modules }) ⌝ }
+{
+    let bytes = name.name;
+    SocRead {
+        refusal: Refusal::none(),
+        soc: Soc {
+            name_len: name.len,
+            name: bytes,
+            power,
+            xy,
+            module_count: n,
+            modules,
+        },
+    }
+}
+
 // The modules of a text whose first three lines are read, and nothing behind them.
 fn modules_to_end(text: &[u8], p: Place, name: NameLine, n: usize, power: bool, xy: bool) -> SocRead
     requires { ⌜ Inside (now text) p × (n ≤ 40) ⌝ }
@@ -92,19 +110,8 @@ fn modules_to_end(text: &[u8], p: Place, name: NameLine, n: usize, power: bool, 
         Step::Next(q) => match due_line(text, q) {
             Due::Line(_, _, line, _) => refused_soc(Refusal::at(3, line)),
             Due::Missing => {
-                let bytes = name.name;
                 let modules = read.modules;
-                SocRead {
-                    refusal: Refusal::none(),
-                    soc: Soc {
-                        name_len: name.len,
-                        name: bytes,
-                        power,
-                        xy,
-                        module_count: n,
-                        modules,
-                    },
-                }
+                accepted_soc(name, n, power, xy, modules)
             }
         },
     }

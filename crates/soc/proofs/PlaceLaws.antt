@@ -87,3 +87,15 @@ unfolding padded
 padded-set n z v xs h =
     let e : n - length xs ≡ suc (n - (length xs + 1)) = omega arith in
     rw (e, set-append-seam, length-append, append-assoc)
+
+-- a spare place holds what stands for nothing
+spare-behind : {A : Type 0} (z : A) (xs : List A) (m i : ℕ) → getD (xs ++ replicate m z) i z ≡ getD xs i z
+spare-behind z [] zero i = refl
+spare-behind z [] (suc m) zero = refl
+spare-behind z [] (suc m) (suc i) = spare-behind z [] m i
+spare-behind z (x ∷ xs) m zero = refl
+spare-behind z (x ∷ xs) m (suc i) = spare-behind z xs m i
+
+pub padded-at : {A : Type 0} (n : ℕ) (z : A) (xs : List A) (i : ℕ) → getD (padded n z xs) i z ≡ getD xs i z
+unfolding padded
+padded-at n z xs i = spare-behind z xs (n - length xs) i

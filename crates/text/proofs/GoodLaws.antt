@@ -21,7 +21,7 @@ use Rattle.soc.specs.declared.record.Test.{Test}
 use Rattle.soc.specs.declared.record.Module.{Module}
 use Rattle.soc.specs.declared.record.Soc.{Soc}
 use Rattle.soc.proofs.PlaceLaws.{padded-none}
-use Rattle.text.proofs.LineBack.{padded-back}
+use Rattle.text.proofs.LineBack.{padded-back, spare-length}
 
 -- what a good module keeps
 pub record GoodModule (power xy : Bool) (m last : ℕ) (d : Module) : Type 0 where
@@ -93,9 +93,6 @@ spare-test t h =
     let r = eqb-true (t .patterns) 0 (c .0) in
     let w = none-z (t .power) (c .1) in
     λ i. record { «scan_use» = p i; «tam_use» = q i; patterns = r i; power = w i }
-
-spare-length : (f : FlipFlops) → spareLength f ≡ true → f ≡ flipFlops 0
-spare-length f h = ap flipFlops (eqb-true (f .0) 0 h)
 
 -- places of which none is in use
 all-spare : {A : Type 0} (p : A → Bool) (z : A) → ((x : A) → p x ≡ true → x ≡ z) → (n : ℕ) (l : List A) → length l ≡ n → allOf p l ≡ true → l ≡ replicate n z

@@ -122,7 +122,7 @@ padded-back p z s n i l e h g =
     let m : n - length (take i l) ≡ length (drop i l) = simp (length-take, length-drop) (omega arith) in
     rw (m, ← all-spare p z s (drop i l) g) (take-append-drop i l)
 
-spare-length : (f : FlipFlops) → spareLength f ≡ true → f ≡ flipFlops 0
+pub spare-length : (f : FlipFlops) → spareLength f ≡ true → f ≡ flipFlops 0
 spare-length f h = ap flipFlops (eqb-true (f .0) 0 h)
 
 -- the lines

@@ -19,6 +19,7 @@ use Rattle.soc.specs.Rules.{none, goodLength, spareLength, goodTest, spareTest,
 use Rattle.soc.specs.declared.record.Test.{Test}
 use Rattle.soc.specs.declared.record.Module.{Module}
 use Rattle.soc.specs.declared.record.Soc.{Soc}
+use Rattle.soc.proofs.PlaceLaws.{padded-at}
 use Rattle.wrapper.specs.Fit.{longest, longestAfter}
 use Rattle.wrapper.specs.Chains.{numberedFrom, usedChains, thread, empty, threaded}
 use Rattle.wrapper.specs.Answers.{widthMax, noChain, front, orderOf, Threadable}
@@ -26,7 +27,7 @@ use Rattle.wrapper.specs.Scans.{scanOf, scanIf, Short, Kept}
 use Rattle.wrapper.specs.declared.chains.Chain.{Chain}
 use Rattle.wrapper.specs.Times.{inputCells, outputCells}
 use Rattle.wrapper.proofs.FitLaws.{longest-cells, zeros-longest}
-use Rattle.wrapper.proofs.ChainLaws.{Each, each-at, ordered-each, numbered-each, ordered-length, numbered-length, order-front, padded-at, thread-length, threaded-longest, thread-held}
+use Rattle.wrapper.proofs.ChainLaws.{Each, each-at, ordered-each, numbered-each, ordered-length, numbered-length, order-front, thread-length, threaded-longest, thread-held}
 
 -- what holds of each place in use, of each spare one and of nothing holds of every place
 module _ {A : Type 0} (P : A → Type 0) (e : A) (z : P e) where
@@ -164,8 +165,8 @@ pub kept-threadable : (d : Module) (scan : Bool) → Kept d → Threadable (orde
 kept-threadable d scan k =
     record {
       count = used-few d scan k;
-      number = λ i h. rw (padded-at chainsMax noChain (usedChains d scan) i h) (used-at d scan k i h .0);
-      length = λ i h. rw (padded-at chainsMax noChain (usedChains d scan) i h) (omega (arith, used-at d scan k i h .1));
+      number = λ i h. rw (padded-at chainsMax noChain (usedChains d scan) i) (used-at d scan k i h .0);
+      length = λ i h. rw (padded-at chainsMax noChain (usedChains d scan) i) (omega (arith, used-at d scan k i h .1));
     }
 
 -- 64 chains of 4,096 flip-flops

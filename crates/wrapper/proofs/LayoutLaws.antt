@@ -15,6 +15,7 @@ use Rattle.soc.specs.Limits.{chainsMax}
 use Rattle.soc.specs.Places.{padded}
 use Rattle.soc.specs.Record.{chainsOf, flipFlops}
 use Rattle.soc.specs.declared.record.Module.{Module}
+use Rattle.soc.proofs.PlaceLaws.{padded-at}
 use Rattle.wrapper.specs.Fit.{longest, goes, placed, withCells, longestAfter}
 use Rattle.wrapper.specs.Chains.{numberedFrom, ordered, usedChains, Threaded, thread, empty, threaded}
 use Rattle.wrapper.specs.Times.{inputCells, outputCells, scanIn, scanOut}
@@ -242,17 +243,6 @@ module _ (d : Module) (scan : Bool) (k : ℕ) (pos : 1 ≤ k) where
       ∙ cells-sum (outputCells d) (threaded d scan k .lengths) (omega (arith, threaded-width d scan k))
 
 -- what the layout holds of each wrapper chain
-zeros-behind : {A : Type 0} (z : A) (xs : List A) (m i : ℕ) → getD (xs ++ replicate m z) i z ≡ getD xs i z
-zeros-behind z [] zero i = refl
-zeros-behind z [] (suc m) zero = refl
-zeros-behind z [] (suc m) (suc i) = zeros-behind z [] m i
-zeros-behind z (x ∷ xs) m zero = refl
-zeros-behind z (x ∷ xs) m (suc i) = zeros-behind z xs m i
-
-padded-at : {A : Type 0} (n : ℕ) (z : A) (xs : List A) (i : ℕ) → getD (padded n z xs) i z ≡ getD xs i z
-unfolding padded
-padded-at n z xs i = zeros-behind z xs (n - length xs) i
-
 pub layout-flip-flops : (d : Module) → length (d .chains) ≡ chainsMax → (scan : Bool) (k : ℕ) → 1 ≤ k → (i : ℕ) → getD (layoutOf d (threaded d scan k) .«flip_flops») i (flipFlops 0) ≡ flipFlops (lengthsIn (suc i) (layoutOf d (threaded d scan k) .«chain_of») (chainsOf d))
 unfolding layoutOf
 layout-flip-flops d sized scan k pos i =

@@ -12,7 +12,7 @@ use Rattle.fields.proofs.ReaderLaws.{after-no, after-got, key-between-within}
 use Rattle.soc.specs.Limits.{levelMax}
 use Rattle.lines.specs.Parts.{keyed}
 use Rattle.lines.specs.Kinds.{moduleDue, level}
-use Rattle.lines.proofs.LevelLaws.{rule-got, rule-no}
+use Rattle.lines.proofs.PartLaws.{rule-kept, rule-broken}
 use Rattle.lines.proofs.level.level_part.Statement.{statement}
 use Rattle.lines.proofs.level.level_part.Tie as tie
 
@@ -65,11 +65,11 @@ returns-2 c = sym (after-got _ _ _ _ (due (c .before .before .before .before .be
 
 returns-3 : tie.Need-returns-3
 unfolding level
-returns-3 c = sym (after-got _ _ _ _ (due (c .before .before .before .before .before .before .before .before)) ∙ after-got _ _ _ _ (found (c .before .before .before)) ∙ after-got _ _ _ _ (rule-got _ _ (sym (c .before .keeps-level-rule .ensures) ∙ c .if1 .taken)))
+returns-3 c = sym (after-got _ _ _ _ (due (c .before .before .before .before .before .before .before .before)) ∙ after-got _ _ _ _ (found (c .before .before .before)) ∙ after-got _ _ _ _ (rule-kept _ _ (sym (c .before .keeps-level-rule .ensures) ∙ c .if1 .taken)))
 
 returns-4 : tie.Need-returns-4
 unfolding level
-returns-4 c = sym (after-got _ _ _ _ (due (c .before .before .before .before .before .before .before .before)) ∙ after-got _ _ _ _ (found (c .before .before .before)) ∙ after-no _ _ _ (rule-no _ _ (sym (c .before .keeps-level-rule .ensures) ∙ c .if1 .left)))
+returns-4 c = sym (after-got _ _ _ _ (due (c .before .before .before .before .before .before .before .before)) ∙ after-got _ _ _ _ (found (c .before .before .before)) ∙ after-no _ _ _ (rule-broken _ _ (sym (c .before .keeps-level-rule .ensures) ∙ c .if1 .left)))
 
 pub level-part-spec : {M : Type 1} → statement M
 level-part-spec =

@@ -1,18 +1,13 @@
 -- `lines::part::given_at` meets its contract. What `next_field` names is the first field, by the law of fields; where it is not `-1`, its
--- number is cut at a cap that is over the limit, so that the test on the cut number is the one on the number. Assumes nothing.
+-- number decides. Assumes nothing.
 use borrow.Author.Needs.{needs}
 use native.Mathlib.Omega.{arith}
-use Prim.Native.Nat.{_<_}
 use mathlib.Core.Path.{_≡_, sym, ap, _∙_}
 use lib.ListN.{drop}
-use lib.IntN.{pos}
 use Rattle.fields.specs.Fields.{fieldsOf, part}
-use Rattle.fields.specs.Numbers.{decimalOf, cut}
-use Rattle.fields.specs.declared.number.Number.the-variants.{Value}
+use Rattle.fields.specs.Numbers.{decimalOf}
 use Rattle.fields.proofs.FieldLaws.{FieldIs, next-field, next-nothing}
-use Rattle.soc.proofs.FigureLaws.{figure-back}
 use Rattle.lines.specs.Parts.{orNotGiven, givenIs}
-use Rattle.lines.proofs.PartLaws.{given-bad, given-got, given-above}
 use Rattle.lines.proofs.part.given_at.Statement.{statement}
 use Rattle.lines.proofs.part.given_at.Tie as tie
 
@@ -28,11 +23,6 @@ unfolding orNotGiven
 found c =
     let a = c .before .before .before .before .before in
     ap (orNotGiven (a .before .before .before .before .args .high)) (field a .is) ∙ simp (sym (c .before .same-bytes .ensures) ∙ c .if1 .left)
-
--- the number that was read
-value : (c : tie.After-v) → let a = c .before .before .before .before .before .before .before .before .before in
-    cut (decimalOf (part (a .before .before .before .before .args .l .now) (a .a .given .0 .0) (a .a .given .0 .1 .0))) ≡ Value (c .v .given .0 .0)
-value c = sym (c .before .before .number-of .ensures) ∙ c .v .given .1
 
 next-field-requires : tie.Need-next-field-requires
 next-field-requires c κs = search needs
@@ -65,26 +55,8 @@ returns c =
     let a = k .before .before .before .before in
     sym (ap (orNotGiven (a .before .before .before .before .args .high)) (field a .is) ∙ simp (sym (k .same-bytes .ensures) ∙ c .if1 .taken))
 
-sub-number-of : tie.Need-sub-number-of
-sub-number-of c = let f = field (c .before .before .before .before .before) in omega arith
-
-part-number-of-start : tie.Need-part-number-of-start
-part-number-of-start c = let f = field (c .before .before .before .before .before) in omega arith
-
-part-number-of-end : tie.Need-part-number-of-end
-part-number-of-end c = let f = field (c .before .before .before .before .before) in omega arith
-
-number-of-requires : tie.Need-number-of-requires
-number-of-requires c κs = search needs
-
-enum-told-2 : tie.Need-enum-told-2
-enum-told-2 c = search needs
-
-enum-known-v : tie.Need-enum-known-v
-enum-known-v c = search needs
-
-cast-t25 : tie.Need-cast-t25
-cast-t25 c = search needs
+given-number-requires : tie.Need-given-number-requires
+given-number-requires c κs = let a = c .before .before .before .before .before in let f = field a in (omega arith, f .high, a .before .before .before .before .pre)
 
 returns-2 : tie.Need-returns-2
 unfolding orNotGiven
@@ -93,23 +65,7 @@ returns-2 c =
     sym (ap (orNotGiven (n .before .before .args .high)) (next-nothing _ _ (sym (n .next-field .ensures) ∙ c .enum-told .given .1)))
 
 returns-3 : tie.Need-returns-3
-returns-3 c =
-    let k = c .before .before in
-    sym (found (k .before .before) ∙ given-bad _ _ _ (sym (k .number-of .ensures) ∙ c .enum-told2 .given .1))
-
-returns-4 : tie.Need-returns-4
-returns-4 c =
-    let v = c .before .before in
-    let z = v .before .before .before .before in
-    let high = z .before .before .before .before .before .before .before .before .before .args .high in
-    let small : v .v .given .0 .0 < 2147483648 = omega arith in
-    rw (figure-back (pos (v .v .given .0 .0)) (record { sfits = small })) (sym (found z ∙ given-got high _ _ _ (value v) (c .if2 .taken) (omega arith)))
-
-returns-5 : tie.Need-returns-5
-returns-5 c =
-    let v = c .before .before in
-    let z = v .before .before .before .before in
-    sym (found z ∙ given-above (z .before .before .before .before .before .before .before .before .before .args .high) _ _ _ (value v) (c .if2 .left))
+returns-3 c = c .given-number .ensures ∙ sym (found (c .before))
 
 pub given-at-spec : {M : Type 1} → statement M
 given-at-spec =
@@ -124,14 +80,6 @@ given-at-spec =
     slice-aggregate-same-bytes
     same-bytes-requires
     returns
-    sub-number-of
-    part-number-of-start
-    part-number-of-end
-    number-of-requires
-    enum-told-2
-    enum-known-v
-    cast-t25
+    given-number-requires
     returns-2
-    returns-3
-    returns-4
-    returns-5)
+    returns-3)

@@ -48,8 +48,8 @@ refused-soc-requires-2 c κs = search needs
 enum-told : tie.Need-enum-told
 enum-told c = search needs
 
-none-requires : tie.Need-none-requires
-none-requires c κs = search needs
+accepted-soc-requires : tie.Need-accepted-soc-requires
+accepted-soc-requires c κs = search needs
 
 returns : tie.Need-returns
 unfolding rest answer
@@ -67,11 +67,11 @@ returns-2 c =
 returns-3 : tie.Need-returns-3
 unfolding rest answer
 returns-3 c =
-    let e = c .before .before .before in
+    let e = c .before .before in
     let d = e .before .before in
     let k = d .before .before in
     let m = k .before .before in
-    rw (c .none .ensures, m .modules-step .ensures .1)
+    rw (c .accepted-soc .ensures, m .modules-step .ensures .1)
     (sym (ap answer (after-got _ _ _ _ (read k .0) ∙ after-got _ _ _ _ (no-more-end _ (due-missing _ _ _ (d .due-line .ensures) (e .enum-told .given .1))))))
 
 pub modules-to-end-spec : {M : Type 1} → statement M
@@ -87,7 +87,7 @@ modules-to-end-spec =
     at-requires
     refused-soc-requires-2
     enum-told
-    none-requires
+    accepted-soc-requires
     returns
     returns-2
     returns-3)
