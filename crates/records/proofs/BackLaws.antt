@@ -1,5 +1,5 @@
--- Laws of records read back from their bytes: what the bytes of a plan record say is that plan where its figures fit their words, and what those
--- of a good SOC record say is that record. Assumes nothing.
+-- Laws of records read back from their bytes: what the bytes of a plan record or of a SOC record say is that record where its figures fit their
+-- words, as those of a good one do. Assumes nothing.
 use Prim.Native.Nat.{ℕ, _<_}
 use mathlib.Core.Path.{_≡_, refl, _∙_}
 use mathlib.Core.Bool.{true}
@@ -14,6 +14,7 @@ use Rattle.soc.specs.Sized.{SizedModule, Sized}
 use Rattle.soc.specs.declared.record.Module.{Module}
 use Rattle.soc.specs.declared.record.Soc.{Soc}
 use Rattle.plan.specs.declared.record.BusPlan.{BusPlan}
+use Rattle.planfile.specs.Good.{goodPlan}
 use Rattle.planfile.specs.Bytes.{each}
 use Rattle.planfile.proofs.BackLaws.{Whole}
 use Rattle.records.specs.Words.{word, wordAt, flagWord, places}
@@ -23,6 +24,7 @@ use Rattle.records.proofs.FormLaws.{sized-module, head-length, soc-leng
 use Rattle.records.proofs.StandLaws.{Stands, stands-whole, stands-first, stands-behind, part-stands, number-stands, number-first, number-behind, places-stand, all-stand}
 use Rattle.records.proofs.FitLaws.{FitPlan, FitModule, FitSoc}
 use Rattle.records.proofs.GoodLaws.{good-fits}
+use Rattle.records.proofs.GoodPlanLaws.{good-plan-fits}
 use Rattle.records.proofs.PlanBackLaws.{plan-stands}
 use Rattle.records.proofs.ModuleBackLaws.{flag-back, flag-small, flag-fits, module-back, module-flags}
 
@@ -33,6 +35,10 @@ plan-in b e = rw (eq-eqb (length b) planLength e)
 
 pub plan-back : (p : BusPlan) → Whole p → FitPlan p → planIn (planBytes p) ≡ p
 plan-back p w f = plan-in (planBytes p) (plan-length p (w .buses) (w .modules)) ∙ plan-stands p w f (stands-whole (planBytes p))
+
+-- a good one's figures fit
+pub good-plan-back : (p : BusPlan) → Whole p → goodPlan p ≡ true → planIn (planBytes p) ≡ p
+good-plan-back p w g = plan-back p w (good-plan-fits p w g)
 
 -- the figures at the front of a SOC record
 record HeadIs (s : Soc) (b : List ℕ) : Type 0 where

@@ -23,7 +23,7 @@ use Rattle.soc.specs.declared.record.Soc.{Soc}
 use Rattle.records.proofs.FitLaws.{Fits4, FitTest, FitLength, FitModule, FitSoc}
 
 -- what each test on an element gives, all of them have
-all-each : {A : Type 0} (p : A → Bool) (P : A → Type 0) → ((x : A) → p x ≡ true → P x) → (z : A) (xs : List A) → allOf p xs ≡ true → (i : ℕ) → i < length xs → P (getD xs i z)
+pub all-each : {A : Type 0} (p : A → Bool) (P : A → Type 0) → ((x : A) → p x ≡ true → P x) → (z : A) (xs : List A) → allOf p xs ≡ true → (i : ℕ) → i < length xs → P (getD xs i z)
 unfolding allOf
 all-each p P g z [] e i h = absurd (omega arith)
 all-each p P g z (x ∷ xs) e zero h = g x (and-both (p x) (allOf p xs) e .0)

@@ -3,6 +3,7 @@ pub mod EachLaws
 pub mod FitLaws
 pub mod FormLaws
 pub mod GoodLaws
+pub mod GoodPlanLaws
 pub mod HeldLaws
 pub mod ModuleBackLaws
 pub mod PlaceLaws
