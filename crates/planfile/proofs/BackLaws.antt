@@ -237,10 +237,10 @@ little-length (suc n) v = ap suc (little-length n (v / 256))
 number-front : (n v : ℕ) (post : List ℕ) → v < 256 ^ n → number (take n (little n v ++ post)) ≡ v
 number-front n v post h = rw (take-at (little n v) post n (little-length n v)) (number-little n v h)
 
-abbrev SmallModule : PlacedModule → Type 0
+abbrev pub SmallModule : PlacedModule → Type 0
 SmallModule x = x .cycles .0 < 256 ^ 8
 
-abbrev SmallBus : Bus → Type 0
+abbrev pub SmallBus : Bus → Type 0
 SmallBus x = x .busy .0 < 256 ^ 8
 
 module-first : (x : PlacedModule) (post : List ℕ) → SmallModule x → moduleAt (moduleBytes x ++ post) 0 ≡ x
@@ -357,14 +357,14 @@ pub record Whole (p : BusPlan) : Type 0 where
   pub modules : length (p .modules) ≡ 12
 
 -- what reading a plan back asks
-record Ready (p : BusPlan) : Type 0 where
-  few-modules : p .«module_count» ≤ 12
-  few-buses : p .«bus_count» ≤ 3
-  modules : length (modulesOf p) ≡ p .«module_count»
-  buses : length (busesOf p) ≡ p .«bus_count»
-  small-modules : (i : ℕ) → i < length (modulesOf p) → SmallModule (getD (modulesOf p) i noPlaced)
-  small-buses : (i : ℕ) → i < length (busesOf p) → SmallBus (getD (busesOf p) i noBus)
-  small-time : p .time .0 < 256 ^ 8
+pub record Ready (p : BusPlan) : Type 0 where
+  pub few-modules : p .«module_count» ≤ 12
+  pub few-buses : p .«bus_count» ≤ 3
+  pub modules : length (modulesOf p) ≡ p .«module_count»
+  pub buses : length (busesOf p) ≡ p .«bus_count»
+  pub small-modules : (i : ℕ) → i < length (modulesOf p) → SmallModule (getD (modulesOf p) i noPlaced)
+  pub small-buses : (i : ℕ) → i < length (busesOf p) → SmallBus (getD (busesOf p) i noBus)
+  pub small-time : p .time .0 < 256 ^ 8
 
 times-both : (p : BusPlan) → goodTimes p ≡ true → (busyFrom (modulesOf p) 1 (busesOf p) ≡ true) × (p .time .0 ≡ largestBusy (busesOf p))
 unfolding goodTimes
@@ -372,7 +372,7 @@ times-both p e =
     let a = and-both (busyFrom (modulesOf p) 1 (busesOf p)) (eqb (p .time .0) (largestBusy (busesOf p))) e in
     (a .0, eqb-true (p .time .0) (largestBusy (busesOf p)) (a .1))
 
-ready : (p : BusPlan) → Whole p → goodPlan p ≡ true → Ready p
+pub ready : (p : BusPlan) → Whole p → goodPlan p ≡ true → Ready p
 ready p w e =
     let g = good-figures p e in
     let t = times-both p (good-parts p e .times) in
@@ -433,7 +433,7 @@ placed-spare x e =
     let r : record { number = x .number; bus = x .bus; wires = wires (x .wires .0); cycles = cycles (x .cycles .0) } ≡ noPlaced = rw (n, u, w, c) in
     r
 
-spare-both : (p : BusPlan) → spareRest p ≡ true → (allOf spareBus (drop (p .«bus_count») (p .buses)) ≡ true) × (allOf sparePlaced (drop (p .«module_count») (p .modules)) ≡ true)
+pub spare-both : (p : BusPlan) → spareRest p ≡ true → (allOf spareBus (drop (p .«bus_count») (p .buses)) ≡ true) × (allOf sparePlaced (drop (p .«module_count») (p .modules)) ≡ true)
 unfolding spareRest
 spare-both p e = and-both (allOf spareBus (drop (p .«bus_count») (p .buses))) (allOf sparePlaced (drop (p .«module_count») (p .modules))) e
 

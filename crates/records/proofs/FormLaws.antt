@@ -52,11 +52,11 @@ pub head-length : (s : Soc) → length (s .name) ≡ 32 → length (headBytes s)
 unfolding headBytes
 head-length s n = simp (length-append, word-length, n)
 
-chain-length : (f : FlipFlops) → length (lengthBytes f) ≡ 4
+pub chain-length : (f : FlipFlops) → length (lengthBytes f) ≡ 4
 unfolding lengthBytes
 chain-length f = word-length (f .0)
 
-sized-module : (d : Module) → SizedModule d → length (moduleBytes d) ≡ 416
+pub sized-module : (d : Module) → SizedModule d → length (moduleBytes d) ≡ 416
 sized-module d z = module-length d (each-length lengthBytes 4 (d .chains) 64 (flipFlops 0) (z .chains) (λ i h. chain-length _)) (each-length testBytes 16 (d .tests) 8 noTest (z .tests) (λ i h. test-length _))
 
 pub soc-length : (s : Soc) → Sized s → length (socBytes s) ≡ socLength

@@ -1,7 +1,14 @@
+pub mod BackLaws
 pub mod EachLaws
+pub mod FitLaws
 pub mod FormLaws
+pub mod GoodLaws
+pub mod GoodPlanLaws
 pub mod HeldLaws
+pub mod ModuleBackLaws
 pub mod PlaceLaws
+pub mod PlanBackLaws
 pub mod SignLaws
+pub mod StandLaws
 pub mod WholeLaws
 pub mod WordLaws
