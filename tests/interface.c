@@ -1,0 +1,79 @@
+/* Calls every function of include/tallowwing.h from C on document 01's text t1, and holds the answers against the document's figures. */
+#include "tallowwing.h"
+
+#include <stdio.h>
+#include <string.h>
+
+static const char text[] =
+    "SocName t1\n"
+    "TotalModules 3\n"
+    "Options Power 0 XY 0\n"
+    "Module 0 Level 0 Inputs 0 Outputs 0 Bidirs 0 ScanChains 0 :\n"
+    "Module 0 TotalTests 0\n"
+    "Module 1 Level 1 Inputs 0 Outputs 0 Bidirs 0 ScanChains 1 : 10\n"
+    "Module 1 TotalTests 1\n"
+    "Module 1 Test 1 ScanUse 1 TamUse 1 Patterns 5\n"
+    "Module 2 Level 1 Inputs 3 Outputs 2 Bidirs 0 ScanChains 0 :\n"
+    "Module 2 TotalTests 1\n"
+    "Module 2 Test 1 ScanUse 1 TamUse 1 Patterns 4\n";
+
+static const char listing[] =
+    "soc t1 wires 4 limit 2 time 65\n"
+    "bus 1 width 1 busy 65\n"
+    "bus 2 width 3 busy 9\n"
+    "module 1 bus 1 wires 1 cycles 65\n"
+    "module 2 bus 2 wires 3 cycles 9\n";
+
+static int failures;
+
+static void expect(const char *what, uint64_t answer, uint64_t number, uint64_t figure)
+{
+    if (answer % 256 != number || answer / 256 != figure) {
+        fprintf(stderr, "interface: %s: number %u, figure %lu\n", what, (unsigned)(answer % 256), (unsigned long)(answer / 256));
+        failures++;
+    }
+}
+
+static void expect_bytes(const char *what, const void *found, const void *due, size_t length)
+{
+    if (memcmp(found, due, length) != 0) {
+        fprintf(stderr, "interface: %s: other bytes\n", what);
+        failures++;
+    }
+}
+
+int main(void)
+{
+    static uint8_t soc[TALLOWWING_SOC_BYTES], written[TALLOWWING_TEXT_MAX], layout[TALLOWWING_LAYOUT_BYTES];
+    static uint8_t plan[TALLOWWING_PLAN_BYTES], again[TALLOWWING_PLAN_BYTES], file[TALLOWWING_PLAN_FILE_MAX];
+    static uint8_t input[9 + sizeof text], listed[TALLOWWING_LISTING_MAX];
+    const size_t length = sizeof text - 1;
+
+    expect("read", tallowwing_read_soc((const uint8_t *)text, length, soc, sizeof soc), 0, TALLOWWING_SOC_BYTES);
+    expect("read a part", tallowwing_read_soc((const uint8_t *)text, 26, soc, sizeof soc), 6, 0);
+    expect("read, wrong line", tallowwing_read_soc((const uint8_t *)text, 20, soc, sizeof soc), 3, 2);
+    expect("read, no room", tallowwing_read_soc((const uint8_t *)text, length, soc, sizeof soc - 1), 11, 0);
+    expect("write", tallowwing_write_soc(soc, sizeof soc, written, sizeof written), 0, length);
+    expect_bytes("written", written, text, length);
+    expect("layout", tallowwing_layout(soc, sizeof soc, 2, 1, 3, layout, sizeof layout), 0, TALLOWWING_LAYOUT_BYTES);
+    expect("layout, no test", tallowwing_layout(soc, sizeof soc, 2, 2, 3, layout, sizeof layout), 13, 0);
+    expect("test time", tallowwing_test_time(soc, sizeof soc, 2, 1, 1), 0, 18);
+    expect("module time", tallowwing_module_time(soc, sizeof soc, 2, 4), 0, 9);
+    expect("module wires", tallowwing_module_wires(soc, sizeof soc, 2, 4), 0, 3);
+    expect("width", tallowwing_module_wires(soc, sizeof soc, 2, 65), 7, 0);
+    expect("plan", tallowwing_plan(soc, sizeof soc, 4, 2, plan, sizeof plan), 0, TALLOWWING_PLAN_BYTES);
+    expect("write a plan", tallowwing_write_plan(plan, sizeof plan, file, sizeof file), 0, 64);
+    expect("read a plan", tallowwing_read_plan(file, 64, again, sizeof again), 0, TALLOWWING_PLAN_BYTES);
+    expect_bytes("plan", again, plan, sizeof plan);
+    expect("read a longer plan", tallowwing_read_plan(file, 65, again, sizeof again), 12, 0);
+    memcpy(input, "Plan 4 2\n", 9);
+    memcpy(input + 9, text, length);
+    expect("listing", tallowwing_listing(input, 9 + length, listed, sizeof listed), 0, sizeof listing - 1);
+    expect_bytes("listing", listed, listing, sizeof listing - 1);
+    soc[36] = 2;
+    expect("bad flag", tallowwing_module_time(soc, sizeof soc, 2, 4), 14, 0);
+
+    if (failures == 0)
+        puts("interface: every function of the header, from C");
+    return failures != 0;
+}
