@@ -28,11 +28,13 @@ use Rattle.soc.proofs.PlaceLaws.{all-replicate, padded-length, padded-take, pad
 use Rattle.lines.specs.Parts.{Whole, refuses, says, whole}
 use Rattle.lines.specs.Kinds.{Name, Options, Shape, Second, nameLine, totalLine, optionsLine, levelLine, secondLine, testsLine, testLine}
 use Rattle.lines.specs.Written.{givenField, moduleFields, nameFields, totalFields, optionsFields, levelFields, positionFields, testsFields}
+use Rattle.text.proofs.LineBack.{position-says}
 use Rattle.text.proofs.LineOnly.{after-only, NameSays, name-only, TotalSays, total-only, options-only, ShapeSays, level-only, second-only-position, second-only-tests, tests-only, test-only}
+use Rattle.text.proofs.GoodLaws.{good-spare}
 use Rattle.reading.specs.Lines.{judged, line, noMore}
 use Rattle.reading.specs.Reading.{Body, behind, body, moduleOf, moduleTests, moduleRest, moduleLines, modules, socOf, behindName, soc}
 use Rattle.reading.specs.Reading as reading
-use Rattle.text.specs.Describes.{TestLines, ModuleLines, ModulesLines, Describes, fieldsIn}
+use Rattle.text.specs.Describes.{Sayable, TestLines, ModuleLines, ModulesLines, Describes, fieldsIn}
 
 -- what was given, and what was left
 pub got-only : {E S A : Type 0} {a b : A} {s t : S} → _≡_ {A = Got E S A} (got a s) (got b t) → (a ≡ b) × (s ≡ t)
@@ -98,7 +100,7 @@ countFields m t = moduleFields m (bytes "TotalTests" ∷ decimal t ∷ [])
 
 pub record BodyRead (m : ℕ) (xy : Bool) (ls : List Line) (b : Body) (rest : List Line) : Type 0 where
   pub position : List (List (List ℕ))
-  pub position-is : ((xy ≡ true) × (position ≡ placeFields m (b .x) (b .y) ∷ [])) ⊎ ((b .x ≡ notGiven) × (b .y ≡ notGiven) × (position ≡ []))
+  pub position-is : ((xy ≡ true) × Sayable (b .x) × Sayable (b .y) × (position ≡ placeFields m (b .x) (b .y) ∷ [])) ⊎ ((b .x ≡ notGiven) × (b .y ≡ notGiven) × (position ≡ []))
   pub lines : map fieldsIn ls ≡ position ++ countFields m (b .tests) ∷ map fieldsIn rest
   pub good : goodPosition xy (b .x) (b .y) ≡ true
   pub most : b .tests ≤ testsMax
@@ -112,6 +114,7 @@ behind-read m xy (Second.tests t) l ls b rest w h =
     rw (← g .0) (record { position = []; position-is = inr (refl, refl, refl); lines = ap₂ (λ f q. f ∷ map fieldsIn q) (s .fields) (g .1); good = refl; most = s .most })
 behind-read m xy (Second.position px py) l ls b rest w h =
     let s = second-only-position m xy (l .fields) px py w in
+    let y = position-says px py (s .good) in
     let a = after-only h in
     let c = line-only (testsLine m) ls (a .value) (a .left) (a .first) in
     let t = tests-only m (c .first .fields) (a .value) (c .says) in
@@ -120,7 +123,7 @@ behind-read m xy (Second.position px py) l ls b rest w h =
     ap (map fieldsIn) (c .lines) ∙ ap₂ (λ f q. f ∷ map fieldsIn q) (t .fields) (g .1) in
     rw (← g .0) (record {
       position = placeFields m px py ∷ [];
-      position-is = inl (s .option, refl);
+      position-is = inl (s .option, y .0, y .1, refl);
       lines = ap₂ (λ f q. f ∷ q) (s .fields) k;
       good = ap (λ o. goodPosition o px py) (s .option) ∙ s .good;
       most = t .most;
@@ -295,9 +298,10 @@ module _ (name : Name) (n : ℕ) (o : Options) (ds : List Module) where
       let e : a .fields ≡ nameFields (socOf name n o ds) = m .0 in
       let f : b .fields ≡ totalFields (socOf name n o ds) = t .fields in
       let g : c .fields ≡ optionsFields (socOf name n o ds) = options-only (c .fields) o w in
+      let y : goodSoc (socOf name n o ds) ≡ true = simp (m .1, le-leb 1 n (t .least), le-leb n modulesMax (t .most), u, r .good, z) in
       record {
-        described = record { modules = r .fields; modules-are = rw u (r .are); lines-are = cc };
-        good = simp (m .1, le-leb 1 n (t .least), le-leb n modulesMax (t .most), u, r .good, z);
+        described = record { modules = r .fields; modules-are = rw u (r .are); lines-are = cc; spare = good-spare (socOf name n o ds) y };
+        good = y;
         sized =
             record {
               name = m .2;

@@ -74,7 +74,7 @@ made-passes p f fs a h ls gs e =
 -- a module's tests
 
 test-said : (power : Bool) (m i : ℕ) (t : Test) (fs : List (List ℕ)) → TestLine power m i t fs → goodTest power t ≡ true → whole (kinds.testLine m i power) fs ≡ says t
-test-said power m i t fs (ps, (inl w), e) h = rw (e, w .1, w .0) (test-back m i true t (rw (w .0) at h))
+test-said power m i t fs (ps, (inl w), e) h = rw (e, w .2, w .0) (test-back m i true t (rw (w .0) at h))
 test-said power m i t fs (ps, (inr w), e) h = rw (e, w .1) (test-back-out m i power t h (w .0))
 
 pub tests-pass : {power : Bool} {m i : ℕ} {ts : List Test} {ls : List (List (List ℕ))} → TestLines power m i ts ls → allOf (goodTest power) ts ≡ true
@@ -96,7 +96,7 @@ body-passes : (xy : Bool) (m : ℕ) (d : Module) (ps : List (List (List ℕ))) �
     → Passes (body m xy) (ps ++ testsFields m d ∷ []) (bodyOf d)
 unfolding body behind
 body-passes xy m d ps (inl w) h k =
-    rw (w .1, w .0)
+    rw (w .3, w .0)
     (then-passes (line (kinds.secondLine m true)) (behind m) (positionFields m d ∷ []) (testsFields m d ∷ []) (Second.position (d .x) (d .y)) (bodyOf d)
     (line-passes (kinds.secondLine m true) (positionFields m d) (Second.position (d .x) (d .y)) (position-back m d (rw (w .0) at h)))
     (made-passes (line (kinds.testsLine m)) (λ t. record { x = d .x; y = d .y; tests = t }) (testsFields m d ∷ []) (d .«test_count»)

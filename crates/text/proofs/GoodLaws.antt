@@ -1,8 +1,8 @@
--- Laws of good records as a reader and a writer meet them: the parts of what `goodSoc` and `goodModule` ask for, each by name, and that a
--- spare place holds the record with 0 throughout. Assumes nothing.
+-- Laws of good records as a reader and a writer meet them: the parts of what `goodSoc` and `goodModule` ask for, each by name, that the
+-- places no line speaks of hold 0, and that a spare place holds the record with 0 throughout. Assumes nothing.
 use Prim.Native.Nat.{ℕ, suc, _+_, _-_, _≤_, _<_}
 use mathlib.Core.Path.{_≡_, refl, sym, ap, _∙_}
-use mathlib.Core.Bool.{Bool, true, false≢true}
+use mathlib.Core.Bool.{Bool, true, _&&_, false≢true}
 use mathlib.Core.List.{List, [], _∷_}
 use native.Mathlib.Omega.{arith}
 use borrow.Author.Tests.{eqb-true, leb-true, not-true}
@@ -11,16 +11,18 @@ use lib.IntN.{ℤ, pos, negsuc}
 use lib.ListN.{length, getD, take, drop, replicate, length-take, length-drop, take-append-drop}
 use lib.Seq.{getD-take, getD-drop}
 use Rattle.units.specs.declared.FlipFlops.{FlipFlops}
+use Rattle.fields.specs.Names.{nameMax, isName}
 use Rattle.fields.proofs.TestLaws.{and-both}
 use Rattle.soc.specs.Limits.{modulesMax, levelMax, chainsMax, testsMax}
-use Rattle.soc.specs.Places.{allOf, padded}
-use Rattle.soc.specs.Record.{modulesOf, testsOf, flipFlops, noTest, noModule}
-use Rattle.soc.specs.Rules.{noneZ, spareLength, goodTest, spareTest, levelRule, goodTerminals, goodChains, goodPosition, goodTests, goodModule, goodModules, spareModule, goodName, goodSoc}
+use Rattle.soc.specs.Places.{allOf, filled, padded}
+use Rattle.soc.specs.Record.{nameOf, modulesOf, chainsOf, testsOf, flipFlops, noTest, noModule}
+use Rattle.soc.specs.Rules.{none, noneZ, goodLength, spareLength, goodTest, spareTest, levelRule, goodTerminals, goodChains, goodPosition, goodTests, goodModule, goodModules, spareModule, goodName, goodSoc}
 use Rattle.soc.specs.Sized.{SizedModule, Sized}
 use Rattle.soc.specs.declared.record.Test.{Test}
 use Rattle.soc.specs.declared.record.Module.{Module}
 use Rattle.soc.specs.declared.record.Soc.{Soc}
 use Rattle.soc.proofs.PlaceLaws.{padded-none}
+use Rattle.text.specs.Describes.{spareIn, Spare}
 use Rattle.text.proofs.LineBack.{padded-back, spare-length}
 
 -- what a good module keeps
@@ -76,6 +78,35 @@ good-soc s h =
       count = leb-true (s .«module_count») modulesMax (c .0);
       modules = e .0;
       spare = e .1;
+    }
+
+-- the places that no line speaks of hold 0
+good-spare-in : (power xy : Bool) (m last : ℕ) (d : Module) → goodModule power xy m last d ≡ true → spareIn d ≡ true
+unfolding spareIn goodChains
+good-spare-in power xy m last d h =
+    let g = good-module power xy m last d h in
+    let a = and-both (leb (d .«chain_count») chainsMax) (filled (d .«chain_count») goodLength spareLength (d .chains)) (g .chains) in
+    let b = and-both (allOf goodLength (chainsOf d)) (allOf spareLength (drop (d .«chain_count») (d .chains))) (a .1) in
+    simp (b .1, g .spare)
+
+good-spare-each : (power xy : Bool) (m last : ℕ) (ds : List Module) → goodModules power xy m last ds ≡ true → allOf spareIn ds ≡ true
+unfolding allOf goodModules
+good-spare-each power xy m last [] h = refl
+good-spare-each power xy m last (d ∷ ds) h =
+    let q = and-both (goodModule power xy m last d) (goodModules power xy (suc m) (d .level) ds) h in
+    simp (good-spare-in power xy m last d (q .0), good-spare-each power xy (suc m) (d .level) ds (q .1))
+
+pub good-spare : (s : Soc) → goodSoc s ≡ true → Spare s
+unfolding goodName
+good-spare s h =
+    let g = good-soc s h in
+    let a = and-both (leb (s .«name_len») nameMax) (isName (nameOf s) && allOf none (drop (s .«name_len») (s .name))) (g .name) in
+    let b = and-both (isName (nameOf s)) (allOf none (drop (s .«name_len») (s .name))) (a .1) in
+    record {
+      room = leb-true (s .«name_len») nameMax (a .0);
+      name = b .1;
+      modules = g .spare;
+      within = good-spare-each (s .power) (s .xy) 0 0 (modulesOf s) (g .modules);
     }
 
 none-z : (z : ℤ) → noneZ z ≡ true → z ≡ pos 0

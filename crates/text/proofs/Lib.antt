@@ -5,6 +5,7 @@ pub mod GoodLaws
 pub mod LineBack
 pub mod LineOnly
 pub mod LineRefuses
+pub mod Once
 pub mod Refused
 pub mod RoundTrip
 pub mod TextLaws

@@ -4,6 +4,7 @@ use Prim.Native.Nat.{ℕ, suc, _-_, _≤_}
 use mathlib.Core.Path.{_≡_, refl, sym, ap, _∙_}
 use mathlib.Core.Bool.{Bool, true, false, cond, not, _&&_, _||_, false≢true, true≢false, or-false}
 use mathlib.Core.List.{List, [], _∷_, map}
+use mathlib.Core.Logic.{inl, inr}
 use native.Mathlib.Omega.{arith}
 use borrow.Author.Tests.{eqb-true, eq-eqb, leb-true, le-leb}
 use lib.Dec.{leb}
@@ -28,6 +29,7 @@ use Rattle.soc.specs.declared.record.Soc.{Soc}
 use Rattle.lines.specs.Parts.{whole, closed, says, due, dueIs, flag, givenIs, orNotGiven, name, rule, isNext}
 use Rattle.lines.specs.Kinds.{Second, namePart, nameLine, totalLine, optionsPart, optionsLine, level, terminals, chainLength, lengthsPart, chainsPart, levelLine, pairRule, positionPart, totalTests, testsPart, secondPart, secondLine, testsLine, powerPart, uses, testDue, patternsPart, testLine}
 use Rattle.lines.specs.Written.{flagField, givenField, lengthField, nameFields, totalFields, optionsFields, levelFields, positionFields, testsFields, powerFields, testFields}
+use Rattle.text.specs.Describes.{Sayable}
 
 -- the parts of a line
 
@@ -73,6 +75,11 @@ not-minus l h = go (sameBytes l (bytes "-1")) refl
 abbrev pub mayBe : ℕ → ℤ → Bool
 mayBe high z = isNotGiven z || upTo high z
 
+-- such a figure has a form in a text
+pub may-say : (high : ℕ) (z : ℤ) → mayBe high z ≡ true → Sayable z
+may-say high (pos n) h = inl (n, refl)
+may-say high (negsuc n) h = inr (not-given (negsuc n) (simp or-false at h))
+
 pub given-back : (high : ℕ) (z : ℤ) → mayBe high z ≡ true → (fs : List (List ℕ)) → orNotGiven high (givenField z ∷ fs) ≡ got z fs
 unfolding orNotGiven givenIs givenField sameBytes
 given-back high (pos n) h fs = simp (not-minus (decimal n) (decimal-plain n), decimal-back n, h)
@@ -93,6 +100,9 @@ pub good-position : (x y : ℤ) → goodPosition true x y ≡ true → (mayBe po
 unfolding goodPosition
 good-position x y h = both-or-neither (isNotGiven x) (isNotGiven y) (upTo positionMax x) (upTo positionMax y) (given-not positionMax x) (given-not positionMax y) h
 
+pub position-says : (x y : ℤ) → goodPosition true x y ≡ true → Sayable x × Sayable y
+position-says x y h = let p = good-position x y h in (may-say positionMax x (p .0), may-say positionMax y (p .1))
+
 pub length-back : (f : FlipFlops) → goodLength f ≡ true → (fs : List (List ℕ)) → chainLength (lengthField f ∷ fs) ≡ got f fs
 unfolding chainLength lengthField after
 length-back f h fs =
@@ -107,7 +117,7 @@ lengths-back (l ∷ ls) n i e h =
     rw (sym e, length-back l (p .0) (map lengthField ls), lengths-back ls (length ls) (suc i) refl (p .1))
 
 -- spare places are those that `padded` makes
-all-spare : {A : Type 0} (p : A → Bool) (z : A) → ((x : A) → p x ≡ true → x ≡ z) → (l : List A) → allOf p l ≡ true → l ≡ replicate (length l) z
+pub all-spare : {A : Type 0} (p : A → Bool) (z : A) → ((x : A) → p x ≡ true → x ≡ z) → (l : List A) → allOf p l ≡ true → l ≡ replicate (length l) z
 unfolding allOf
 all-spare p z s [] h = refl
 all-spare p z s (x ∷ l) h =
@@ -200,6 +210,10 @@ good-test power t h =
     let p = and-both (leb 1 (t .patterns)) (leb (t .patterns) patternsMax && goodPower power (t .power)) h in
     let q = and-both (leb (t .patterns) patternsMax) (goodPower power (t .power)) (p .1) in
     (leb-true 1 (t .patterns) (p .0), leb-true (t .patterns) patternsMax (q .0), q .1)
+
+pub power-says : (t : Test) → goodTest true t ≡ true → Sayable (t .power)
+unfolding goodPower
+power-says t h = may-say powerMax (t .power) (good-test true t h .2)
 
 -- what a test line's power field, or its end, says of it
 test-power : (m i : ℕ) (power : Bool) (t : Test) (ps : List (List ℕ)) → goodTest power t ≡ true → powerPart power ps ≡ got (t .power) [] → whole (testLine m i power) (testFields m i t ps) ≡ says t

@@ -27,7 +27,8 @@ use Rattle.soc.specs.declared.record.Test.{Test}
 use Rattle.lines.specs.Parts.{whole, closed, says, due, dueIs, keyDue, flag, keyFlag, givenIs, orNotGiven, keyGiven, name, rule, isNext}
 use Rattle.lines.specs.Kinds.{Name, Options, Terminals, Shape, Second, Uses, namePart, nameLine, totalLine, optionsPart, optionsLine, level, terminals, chainLength, lengthsPart, chainsPart, levelLine, pairRule, positionPart, totalTests, testsPart, secondPart, secondLine, testsLine, powerPart, uses, testDue, patternsPart, testLine}
 use Rattle.lines.specs.Written.{flagField, givenField, lengthField, moduleFields, powerFields, testFields}
-use Rattle.text.proofs.LineBack.{mayBe}
+use Rattle.text.specs.Describes.{Sayable, PowerPart}
+use Rattle.text.proofs.LineBack.{mayBe, may-say}
 
 -- a line that says a: its reading leaves no field
 pub closed-only : {A : Type 0} (g : FieldsGot A) (a : A) → closed g ≡ says a → g ≡ got a []
@@ -535,7 +536,7 @@ uses-part fs u gs h =
 
 record PowerSays (power : Bool) (fs : List (List ℕ)) (w : ℤ) : Type 0 where
   good : goodPower power w ≡ true
-  fields : ((power ≡ true) × (fs ≡ bytes "Power" ∷ givenField w ∷ [])) ⊎ ((w ≡ notGiven) × (fs ≡ []))
+  fields : ((power ≡ true) × Sayable w × (fs ≡ bytes "Power" ∷ givenField w ∷ [])) ⊎ ((w ≡ notGiven) × (fs ≡ []))
 
 power-out : (power : Bool) (fs : List (List ℕ)) (w : ℤ) → _≡_ {A = FieldsGot ℤ} (got notGiven fs) (got w []) → PowerSays power fs w
 unfolding goodPower
@@ -549,7 +550,7 @@ power-part false fs w h = power-out false fs w h
 power-part true [] w h = power-out true [] w h
 power-part true (f ∷ fs) w h =
     let k = key-given-only (bytes "Power") (f ∷ fs) [] powerMax w h in
-    record { good = k .may; fields = inl (refl, k .fields) }
+    record { good = k .may; fields = inl (refl, may-say powerMax w (k .may), k .fields) }
 
 record PatternsSay (power : Bool) (u : Uses) (fs : List (List ℕ)) (t : Test) : Type 0 where
   left : List (List ℕ)
@@ -588,7 +589,7 @@ pub record TestSays (m i : ℕ) (power : Bool) (fs : List (List ℕ)) (t : Test)
   pub last : List (List ℕ)
   pub fields : fs ≡ testFields m i t last
   pub good : goodTest power t ≡ true
-  pub behind : ((power ≡ true) × (last ≡ powerFields t)) ⊎ ((t .power ≡ notGiven) × (last ≡ []))
+  pub behind : PowerPart power t last
 
 pub test-only : (m i : ℕ) (power : Bool) (fs : List (List ℕ)) (t : Test) → whole (testLine m i power) fs ≡ says t → TestSays m i power fs t
 unfolding testLine testFields powerFields

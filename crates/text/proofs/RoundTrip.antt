@@ -1,15 +1,14 @@
--- Laws of reading and writing together: a text that describes a good record is read as it, so the written form is read back; a text describes
--- one record at most, and what is read rests on the lines alone. Assumes nothing.
+-- Laws of reading and writing together: a text that describes a good record is read as it, so the written form is read back; no two good
+-- records are written alike, and what is read rests on the lines alone. Assumes nothing.
 use Prim.Native.Nat.{ℕ, _≤_}
 use mathlib.Core.Path.{_≡_, sym, ap, _∙_}
 use mathlib.Core.Bool.{true}
-use mathlib.Core.List.{List, []}
+use mathlib.Core.List.{List}
 use borrow.Author.Tests.{le-leb}
 use lib.ListN.{length}
 use Rattle.fields.specs.Bytes.{badByte}
 use Rattle.fields.specs.declared.byte.BadByte.the-variants.{Nowhere}
 use Rattle.fields.specs.Lines.{linesFrom}
-use Rattle.fields.specs.Readers.{got}
 use Rattle.soc.specs.Rules.{goodSoc}
 use Rattle.soc.specs.Sized.{Sized}
 use Rattle.soc.specs.declared.record.Soc.{Soc}
@@ -18,6 +17,7 @@ use Rattle.text.specs.Describes.{Describes, fieldLines}
 use Rattle.reading.specs.Reading.{textMax, acceptedSoc, soc, answer, unlessBad, readSoc}
 use Rattle.writing.specs.Written.{writtenSoc}
 use Rattle.text.proofs.Described.{reads-described}
+use Rattle.text.proofs.Once.{described-once}
 use Rattle.text.proofs.WrittenForm.{written-allowed, written-read}
 
 -- a text that is short and has no bad byte is read by its lines
@@ -33,16 +33,9 @@ describes-accepted t s z h b r g = reads-lines t h b ∙ ap answer (reads-descri
 pub round-trip : (s : Soc) → Sized s → goodSoc s ≡ true → length (writtenSoc s) ≤ textMax → readSoc (writtenSoc s) ≡ acceptedSoc s
 round-trip s z g short = describes-accepted (writtenSoc s) s z short (written-allowed s g) (written-read s g) g
 
--- a text describes one good record at most
-pub described-once : (t : List ℕ) (r s : Soc) → Sized r → Sized s → goodSoc r ≡ true → goodSoc s ≡ true → Describes r (fieldLines t) → Describes s (fieldLines t) → r ≡ s
-described-once t r s y z g h p q =
-    let a : soc (linesFrom 1 t 0) ≡ got r [] = reads-described r (linesFrom 1 t 0) y g p in
-    let b : soc (linesFrom 1 t 0) ≡ got s [] = reads-described s (linesFrom 1 t 0) z h q in
-    cc
-
 -- two good records are not written alike
 pub written-once : (r s : Soc) → Sized r → Sized s → goodSoc r ≡ true → goodSoc s ≡ true → writtenSoc r ≡ writtenSoc s → r ≡ s
-written-once r s y z g h e = described-once (writtenSoc s) r s y z g h (rw e at (written-read r g)) (written-read s h)
+written-once r s y z g h e = described-once (writtenSoc s) r s y z (rw e at (written-read r g)) (written-read s h)
 
 -- two texts with the same lines, each with its number and fields, are read alike: spacing and line ends count for nothing
 pub same-lines : (t u : List ℕ) → length t ≤ textMax → length u ≤ textMax → badByte 1 t ≡ Nowhere → badByte 1 u ≡ Nowhere → linesFrom 1 t 0 ≡ linesFrom 1 u 0 → readSoc t ≡ readSoc u

@@ -27,17 +27,17 @@ use Rattle.soc.specs.declared.record.Test.{Test}
 use Rattle.soc.specs.declared.record.Module.{Module}
 use Rattle.soc.specs.declared.record.Soc.{Soc}
 use Rattle.lines.specs.Written.{flagField, givenField, lengthField, nameFields, totalFields, optionsFields, levelFields, positionFields, testsFields, powerFields, testFields}
-use Rattle.text.proofs.LineBack.{not-given, good-test}
+use Rattle.text.proofs.LineBack.{not-given, good-test, power-says, position-says}
 use Rattle.text.specs.Describes.{PowerPart, TestLines, PositionPart, ModuleLines, ModulesLines, Describes, fieldsIn, fieldLines}
 use Rattle.writing.specs.Written.{testLines, positionLines, moduleLinesOf, moduleLinesFrom, socLines, writtenLines, writtenSoc}
-use Rattle.text.proofs.GoodLaws.{good-module, good-soc}
+use Rattle.text.proofs.GoodLaws.{good-module, good-soc, good-spare}
 
 -- the lines of the written form describe the record
 
 power-described : (power : Bool) (t : Test) → goodTest power t ≡ true → PowerPart power t (cond power (powerFields t) [])
 unfolding goodPower
 power-described false t h = inr (not-given (t .power) (simp or-false at (good-test false t h .2)), refl)
-power-described true t h = inl (refl, refl)
+power-described true t h = inl (refl, power-says t h, refl)
 
 tests-described : (power : Bool) (m i : ℕ) (ts : List Test) → allOf (goodTest power) ts ≡ true → TestLines power m i ts (testLines power m i ts)
 unfolding testLines allOf
@@ -51,7 +51,7 @@ unfolding positionLines goodPosition
 position-described false m d h =
     let q = and-both _ _ (simp or-false at h) in
     inr (not-given (d .x) (q .0), not-given (d .y) (q .1), refl)
-position-described true m d h = inl (refl, refl)
+position-described true m d h = let p = position-says (d .x) (d .y) h in inl (refl, p .0, p .1, refl)
 
 module-described : (power xy : Bool) (m last : ℕ) (d : Module) → goodModule power xy m last d ≡ true → ModuleLines power xy m d (moduleLinesOf power xy m d)
 unfolding moduleLinesOf
@@ -78,6 +78,7 @@ written-describes s h = record {
   modules = moduleLinesFrom (s .power) (s .xy) 0 (modulesOf s);
   modules-are = modules-described (s .power) (s .xy) 0 0 (modulesOf s) (good-soc s h .modules);
   lines-are = refl;
+  spare = good-spare s h;
 }
 
 -- the fields of the lines can stand in a text
