@@ -2,18 +2,8 @@
 
 use tallowwing_library::*;
 
-const T1: &[u8] = b"SocName t1
-TotalModules 3
-Options Power 0 XY 0
-Module 0 Level 0 Inputs 0 Outputs 0 Bidirs 0 ScanChains 0 :
-Module 0 TotalTests 0
-Module 1 Level 1 Inputs 0 Outputs 0 Bidirs 0 ScanChains 1 : 10
-Module 1 TotalTests 1
-Module 1 Test 1 ScanUse 1 TamUse 1 Patterns 5
-Module 2 Level 1 Inputs 3 Outputs 2 Bidirs 0 ScanChains 0 :
-Module 2 TotalTests 1
-Module 2 Test 1 ScanUse 1 TamUse 1 Patterns 4
-";
+/// Document 01's text t1.
+const T1: &[u8] = include_bytes!("../../../examples/t1.soc");
 
 const fn refused(number: u8) -> Answer {
     Answer::Refused { number, line: 0 }

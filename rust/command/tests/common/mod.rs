@@ -7,18 +7,8 @@ use std::path::{Path, PathBuf};
 use std::process::{Command, Output, Stdio};
 use std::sync::atomic::{AtomicUsize, Ordering};
 
-pub const T1: &str = "SocName t1
-TotalModules 3
-Options Power 0 XY 0
-Module 0 Level 0 Inputs 0 Outputs 0 Bidirs 0 ScanChains 0 :
-Module 0 TotalTests 0
-Module 1 Level 1 Inputs 0 Outputs 0 Bidirs 0 ScanChains 1 : 10
-Module 1 TotalTests 1
-Module 1 Test 1 ScanUse 1 TamUse 1 Patterns 5
-Module 2 Level 1 Inputs 3 Outputs 2 Bidirs 0 ScanChains 0 :
-Module 2 TotalTests 1
-Module 2 Test 1 ScanUse 1 TamUse 1 Patterns 4
-";
+/// Document 01's text t1.
+pub const T1: &str = include_str!("../../../../examples/t1.soc");
 
 pub const T1_LISTING: &str = "soc t1 wires 4 limit 2 time 65
 bus 1 width 1 busy 65

@@ -11,19 +11,7 @@ pub const T1_LISTING: &str = "soc t1 wires 4 limit 2 time 65\nbus 1 width 1 busy
 
 /// Document 01's text t1.
 pub fn t1() -> String {
-    "SocName t1
-TotalModules 3
-Options Power 0 XY 0
-Module 0 Level 0 Inputs 0 Outputs 0 Bidirs 0 ScanChains 0 :
-Module 0 TotalTests 0
-Module 1 Level 1 Inputs 0 Outputs 0 Bidirs 0 ScanChains 1 : 10
-Module 1 TotalTests 1
-Module 1 Test 1 ScanUse 1 TamUse 1 Patterns 5
-Module 2 Level 1 Inputs 3 Outputs 2 Bidirs 0 ScanChains 0 :
-Module 2 TotalTests 1
-Module 2 Test 1 ScanUse 1 TamUse 1 Patterns 4
-"
-    .to_string()
+    include_str!("../../../../examples/t1.soc").to_string()
 }
 
 /// The record of a text that is good.
