@@ -1,14 +1,12 @@
 -- What the functions for other languages answer: one number, whose lowest byte is the refusal's number or 0, above it the refusal's line, or the figure
 -- that the function gives.
-use Prim.Native.Nat.{ℕ, _+_, _*_, _%_, _^_}
+use Prim.Native.Nat.{ℕ, _+_, _*_, _%_}
 use mathlib.Core.Bool.{cond}
 use mathlib.Core.List.{List}
 use lib.ListN.{length}
 use lib.Dec.{leb, eqb}
-use Rattle.units.specs.Refusals.{refused}
 use Rattle.units.specs.declared.Refusal.{Refusal}
 use Rattle.fields.specs.Written.{putFront}
-use Rattle.soc.specs.declared.record.Soc.{Soc}
 use Rattle.reading.specs.Reading.{readSoc}
 use Rattle.writing.specs.Written as soctext
 use Rattle.wrapper.specs.Answers.{layoutAnswer, testTimeAnswer, moduleTimeAnswer}

@@ -65,7 +65,7 @@ fn put_listed(buf: &mut [u8], input: &[u8]) -> usize
 pub fn listing(input: &[u8], buf: &mut [u8]) -> Listed
     ensures { λ r. ⌜ (r ≡ listingAnswer (now (input .entry)) (now (buf .entry))) × (now (buf .exit) ≡ listingLeaves (now (input .entry)) (now (buf .entry))) × (length (listed (now (input .entry))) ≤ listingMax) ⌝ }
 {
-    let mut form = [0u8; 2048];
+    let mut form = [0u8; LISTING_MAX];
     let n = put_listed(&mut form, input);
     if buf.len() < n {
         return Listed {

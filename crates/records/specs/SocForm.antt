@@ -1,10 +1,9 @@
 -- A SOC record as bytes: 16,688 of them. The name and each module, chain and test has its place, spare ones included.
-use Prim.Native.Nat.{ℕ, _+_, _*_}
+use Prim.Native.Nat.{ℕ, _+_}
 use mathlib.Core.Bool.{Bool, cond, _&&_}
 use mathlib.Core.List.{List, _++_}
 use lib.ListN.{length, take, drop}
 use lib.Dec.{leb, eqb}
-use Rattle.units.specs.Refusals.{accepted, refused}
 use Rattle.units.specs.declared.FlipFlops.{FlipFlops}
 use Rattle.fields.specs.Names.{nameMax}
 use Rattle.soc.specs.Limits.{modulesMax, chainsMax, testsMax}
