@@ -5,8 +5,8 @@ use Rattle.soc.specs.Planned.{isPlanned, plannedFrom}
 use Rattle.wrapper.specs.Fit.{longest, better, bestFrom, goes, placed, withCells, longestAfter}
 use Rattle.wrapper.specs.Chains.{numberedFrom, insert, ordered, usedChains, thread, threaded}
 use Rattle.wrapper.specs.Times.{scanIn, scanOut, testCycles, testTime, sumTimes, figure, bestTo, moduleBest}
-use Rattle.plans.specs.Plans.{busyFrom, busies, largest, timeOf}
-use Rattle.plans.specs.Listed.{upward, widthLists, placements, plansOn, plans, firstLeast, firstOf, bestPlan}
+use Rattle.plan_rules.specs.Plans.{busyFrom, busies, largest, timeOf}
+use Rattle.plan_rules.specs.Listed.{upward, widthLists, placements, plansOn, plans, firstLeast, firstOf, bestPlan}
 use Rattle.plan.specs.Answers.{timeIn, bestFor}
 use Rattle.figures.specs.Figures.{figures, computedOf, statedOf}
 

@@ -4,7 +4,7 @@ use mathlib.Core.Bool.{true}
 use mathlib.Core.List.{List, [], _∷_, _++_}
 use lib.ListN.{length}
 use Rattle.wrapper.specs.Times.{figure, scanIn, scanOut, moduleBest}
-use Rattle.plans.specs.Plans.{timeOf}
+use Rattle.plan_rules.specs.Plans.{timeOf}
 use Rattle.plan.specs.Answers.{timeIn, bestFor}
 use Rattle.figures.specs.Cores.{coreA, oneChain, terminals, nothing, t1, twoCopies}
 

@@ -8,7 +8,7 @@ use lib.ListN.{length}
 use Rattle.fields.specs.Fields.{fieldsOf}
 use Rattle.fields.specs.Lines.{untilLf, lineEnding, lineAt}
 use Rattle.fields.proofs.LineLaws.{line-is}
-use Rattle.lines.specs.Parts.{refuses, whole}
+use Rattle.text_lines.specs.Parts.{refuses, whole}
 use Rattle.listing.specs.Asked.{planLineMax, planLine, firstLine, asked}
 
 -- the first line and its end lie in the input; an empty input has an empty one

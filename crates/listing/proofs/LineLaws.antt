@@ -15,9 +15,9 @@ use Rattle.soc.specs.declared.record.Soc.{Soc}
 use Rattle.plan.specs.declared.record.Bus.{Bus}
 use Rattle.plan.specs.declared.record.PlacedModule.{PlacedModule}
 use Rattle.plan.specs.declared.record.BusPlan.{BusPlan}
-use Rattle.planfile.specs.Good.{busesOf, modulesOf}
-use Rattle.writing.specs.Written.{writtenLines}
-use Rattle.writing.proofs.RunLaws.{written-append, front-more}
+use Rattle.plan_file.specs.Good.{busesOf, modulesOf}
+use Rattle.text_writer.specs.Written.{writtenLines}
+use Rattle.text_writer.proofs.RunLaws.{written-append, front-more}
 use Rattle.listing.specs.Listing.{refusalFields, socFields, busFields, busLines, moduleFields, moduleLines, planLines}
 
 -- figures are below 2⁶⁴, which has 20 digits

@@ -17,11 +17,11 @@ use Rattle.fields.specs.Lines.{untilLf, lineAt}
 use Rattle.fields.specs.Puts.{Put}
 use Rattle.soc.specs.Rules.{goodSoc}
 use Rattle.soc.specs.declared.record.Soc.{Soc}
-use Rattle.lines.specs.Parts.{Whole, refuses, says}
-use Rattle.reading.specs.Reading.{textMax, refusedSoc, acceptedSoc, readSoc}
-use Rattle.reading.specs.declared.read.SocRead.{SocRead}
+use Rattle.text_lines.specs.Parts.{Whole, refuses, says}
+use Rattle.text_reader.specs.Reading.{textMax, refusedSoc, acceptedSoc, readSoc}
+use Rattle.text_reader.specs.declared.read.SocRead.{SocRead}
 use Rattle.text.proofs.Acceptance.{accepts-or-refuses, accepted-good}
-use Rattle.writing.specs.Written.{writtenLines}
+use Rattle.text_writer.specs.Written.{writtenLines}
 use Rattle.plan.specs.Answers.{planAnswer}
 use Rattle.plan.specs.declared.record.PlanAnswer.{PlanAnswer}
 use Rattle.listing.specs.Asked.{planLineMax, Wanted, textBehind, asked, askedAnswer}

@@ -8,7 +8,7 @@ use lib.Dec.{leb}
 use Rattle.fields.specs.Fields.{fieldsOf}
 use Rattle.fields.specs.Lines.{lineAt}
 use Rattle.fields.specs.Readers.{Reader, _>>=_, _>>_, give, word, between}
-use Rattle.lines.specs.Parts.{Whole, refuses, says, whole}
+use Rattle.text_lines.specs.Parts.{Whole, refuses, says, whole}
 use Rattle.listing.specs.declared.asked.Asked.{Asked}
 use Rattle.listing.specs.declared.asked.Asked.the-variants.{No, For}
 

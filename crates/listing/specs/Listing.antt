@@ -10,16 +10,16 @@ use Rattle.fields.specs.Bytes.{bytes}
 use Rattle.fields.specs.Written.{decimal, putFront}
 use Rattle.soc.specs.Record.{nameOf}
 use Rattle.soc.specs.declared.record.Soc.{Soc}
-use Rattle.lines.specs.Parts.{Whole, refuses, says}
-use Rattle.reading.specs.Reading.{readSoc}
-use Rattle.reading.specs.declared.read.SocRead.{SocRead}
-use Rattle.writing.specs.Written.{writtenLines}
+use Rattle.text_lines.specs.Parts.{Whole, refuses, says}
+use Rattle.text_reader.specs.Reading.{readSoc}
+use Rattle.text_reader.specs.declared.read.SocRead.{SocRead}
+use Rattle.text_writer.specs.Written.{writtenLines}
 use Rattle.plan.specs.Answers.{planAnswer}
 use Rattle.plan.specs.declared.record.Bus.{Bus}
 use Rattle.plan.specs.declared.record.PlacedModule.{PlacedModule}
 use Rattle.plan.specs.declared.record.BusPlan.{BusPlan}
 use Rattle.plan.specs.declared.record.PlanAnswer.{PlanAnswer}
-use Rattle.planfile.specs.Good.{busesOf, modulesOf}
+use Rattle.plan_file.specs.Good.{busesOf, modulesOf}
 use Rattle.listing.specs.Asked.{Wanted, asked, textBehind}
 use Rattle.listing.specs.declared.entry.Listed.{Listed}
 

@@ -6,7 +6,7 @@ ghost use mathlib.Core.Path.{_≡_};
 ghost use lib.ListN.{drop};
 ghost use Rattle.fields.specs.Fields.{fieldsOf};
 ghost use Rattle.fields.specs.Lines.{lineAt};
-ghost use Rattle.lines.specs.Parts.{whole};
+ghost use Rattle.text_lines.specs.Parts.{whole};
 ghost use Rattle.listing.specs.Asked.{planNumbers, planLine, asked, askedAnswer};
 
 const PLAN_LINE_MAX: usize = 32;

@@ -12,8 +12,8 @@ ghost use Prim.Native.Nat.{_≤_};
 ghost use lib.ListN.{length};
 ghost use Rattle.fields.specs.Puts.{Put};
 ghost use Rattle.soc.specs.Rules.{goodSoc};
-ghost use Rattle.reading.specs.Reading.{readSoc};
-ghost use Rattle.writing.specs.Written.{writtenLines};
+ghost use Rattle.text_reader.specs.Reading.{readSoc};
+ghost use Rattle.text_writer.specs.Written.{writtenLines};
 ghost use Rattle.plan.specs.Answers.{planAnswer};
 ghost use Rattle.listing.specs.Listing.{planPrinted, textPrinted, listed, listingMax, listingAnswer, listingLeaves};
 

@@ -9,8 +9,8 @@ ghost use Prim.Native.Nat.{_+_, _≤_};
 ghost use mathlib.Core.List.{[], _∷_};
 ghost use lib.ListN.{length, take};
 ghost use Rattle.fields.specs.Puts.{Put};
-ghost use Rattle.writing.specs.Written.{writtenLines};
-ghost use Rattle.planfile.specs.Good.{busesOf, modulesOf};
+ghost use Rattle.text_writer.specs.Written.{writtenLines};
+ghost use Rattle.plan_file.specs.Good.{busesOf, modulesOf};
 ghost use Rattle.listing.specs.Listing.{refusalFields, socFields, busFields, busLines, moduleFields, moduleLines, planLines};
 
 // `refused N line L`.

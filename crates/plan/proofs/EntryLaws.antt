@@ -18,9 +18,9 @@ use Rattle.soc.specs.declared.planned.Planned.{Planned}
 use Rattle.soc.specs.declared.record.Soc.{Soc}
 use Rattle.soc.proofs.PlaceLaws.{padded-take, padded-set, padded-at}
 use Rattle.wrapper.specs.Answers.{wires, cycles}
-use Rattle.plans.specs.Plans.{Plan, IsPlan, sum, busyFrom, busies}
-use Rattle.plans.specs.Listed.{bestPlan}
-use Rattle.plans.proofs.Demand.{best-is}
+use Rattle.plan_rules.specs.Plans.{Plan, IsPlan, sum, busyFrom, busies}
+use Rattle.plan_rules.specs.Listed.{bestPlan}
+use Rattle.plan_rules.proofs.Demand.{best-is}
 use Rattle.plan.specs.Search.{tableTime, foundOf}
 use Rattle.plan.specs.Answers.{limitMax, plannedMax, timeIn, noBus, noPlaced, busRecords, moduleRecords, bestFor, planRecord}
 use Rattle.plan.specs.Records.{IsFound, busesIs, placedAt, placedFrom, modulesIs}

@@ -9,9 +9,9 @@ use lib.ListN.{length, getD, drop, length-append, length-drop}
 use lib.Seq.{take-append-seam}
 use lib.Dec.{ltb}
 use borrow.Author.Tests.{ltb-true, lt-ltb, le-ltb}
-use Rattle.plans.specs.Plans.{Plan, timeOf}
-use Rattle.plans.specs.Listed.{placements, plan, firstLeast, firstOf}
-use Rattle.plans.proofs.ListedLaws.{placements-sound}
+use Rattle.plan_rules.specs.Plans.{Plan, timeOf}
+use Rattle.plan_rules.specs.Listed.{placements, plan, firstLeast, firstOf}
+use Rattle.plan_rules.proofs.ListedLaws.{placements-sound}
 use Rattle.plan.specs.Search.{tableTime, timeOn, Ready, Placed, Best, keepPlans, keepAll, held, IsTable, AreWidths, Buffers, Searched}
 use Rattle.plan.proofs.PlaceLaws.{ready-first, placed-first}
 

@@ -9,8 +9,8 @@ use native.Mathlib.Numerals.{add-one}
 use native.Mathlib.Nat.{eq-or-lt-of-le, suc-mul, le-div-iff-mul-le, div-lt-iff-lt-mul, div-le-self, mul-comm}
 use lib.ListN.{length, getD, take, drop, set, length-set, drop-of-length-le}
 use lib.Seq.{getD-set-same, getD-set-other, getD-take, take-suc-set, set-split, take-take, take-at, length-take-le}
-use Rattle.plans.specs.Plans.{Plan, timeOf}
-use Rattle.plans.specs.Listed.{upward, widthLists, placements, plan, plansOn}
+use Rattle.plan_rules.specs.Plans.{Plan, timeOf}
+use Rattle.plan_rules.specs.Listed.{upward, widthLists, placements, plan, plansOn}
 use Rattle.plan.specs.Search.{tableTime, keepPlans, held, AreWidths, Buffers, Widening, Searched, plansBehind}
 use Rattle.plan.proofs.WidthLaws.{upward-next, upward-end, starts, width-lists-one, width-lists-more, plans-on-append, plans-on-one}
 use Rattle.plan.proofs.KeepLaws.{keep-plans-append}

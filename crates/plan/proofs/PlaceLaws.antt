@@ -6,8 +6,8 @@ use native.Mathlib.Omega.{arith}
 use native.Mathlib.Numerals.{add-one}
 use lib.ListN.{length, getD, take, set, replicate, length-set}
 use lib.Seq.{take-suc-set, take-set-le, take-take, take-length, length-take-le, set-set, set-getD}
-use Rattle.plans.specs.Plans.{busies, largest, timeOf}
-use Rattle.plans.specs.Listed.{upward, placements}
+use Rattle.plan_rules.specs.Plans.{busies, largest, timeOf}
+use Rattle.plan_rules.specs.Listed.{upward, placements}
 use Rattle.plan.specs.Search.{keepAll, timeOn, tableTime, timeMax, TimeIn, Ready, Placed}
 use Rattle.plan.proofs.SearchLaws.{keep-append, keep-none, keep-one, largest-grows, length-busies, busies-one, busies-most, largest-set, upward-step, upward-end, tries, placements-more, busies-none, largest-zeros}
 

@@ -12,9 +12,9 @@ use borrow.Author.Tests.{eqb-true}
 use Rattle.soc.specs.Planned.{plannedOf}
 use Rattle.soc.specs.declared.record.Soc.{Soc}
 use Rattle.soc.proofs.PlaceLaws.{padded-take}
-use Rattle.plans.specs.Plans.{Plan, IsPlan, busyFrom, busies, largest, timeOf}
-use Rattle.plans.specs.Order.{Before}
-use Rattle.plans.proofs.Demand.{best-is, best-least, best-first, best-unique}
+use Rattle.plan_rules.specs.Plans.{Plan, IsPlan, busyFrom, busies, largest, timeOf}
+use Rattle.plan_rules.specs.Order.{Before}
+use Rattle.plan_rules.proofs.Demand.{best-is, best-least, best-first, best-unique}
 use Rattle.plan.specs.Answers.{limitMax, plannedMax, timeIn, bestFor, noBus, noPlaced, busRecords, moduleRecords, planRecord, planAnswer}
 use Rattle.plan.specs.declared.record.Bus.{Bus}
 use Rattle.plan.specs.declared.record.BusPlan.{BusPlan}

@@ -10,8 +10,8 @@ use native.Mathlib.Numerals.{add-one}
 use lib.ListN.{length, getD, set, replicate}
 use lib.Dec.{ltb, eqb}
 use borrow.Author.Tests.{lt-ltb, le-ltb, eq-eqb, ne-eqb}
-use Rattle.plans.specs.Plans.{busyFrom, busies, largest}
-use Rattle.plans.specs.Listed.{upward, placements}
+use Rattle.plan_rules.specs.Plans.{busyFrom, busies, largest}
+use Rattle.plan_rules.specs.Listed.{upward, placements}
 use Rattle.plan.specs.Search.{keepAll}
 
 module _ (time : List ℕ → ℕ) where

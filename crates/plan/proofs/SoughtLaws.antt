@@ -7,9 +7,9 @@ use mathlib.Core.List.{List, [], _∷_, _++_, map-id}
 use native.Mathlib.Omega.{arith}
 use lib.ListN.{length, getD, take, drop, replicate, length-replicate, take-append-drop}
 use lib.Seq.{getD-take, length-take-le, length-front, take-at}
-use Rattle.plans.specs.Plans.{Plan, busies, largest, timeOf}
-use Rattle.plans.specs.Listed.{upward, widthLists, plan, plansOn, plans, bestPlan}
-use Rattle.plans.proofs.ListedLaws.{some}
+use Rattle.plan_rules.specs.Plans.{Plan, busies, largest, timeOf}
+use Rattle.plan_rules.specs.Listed.{upward, widthLists, plan, plansOn, plans, bestPlan}
+use Rattle.plan_rules.proofs.ListedLaws.{some}
 use Rattle.plan.specs.Search.{tableTime, timeMax, noTime, Best, keepPlans, held, IsTable, Buffers, Widening, Searched, plansBehind}
 use Rattle.plan.proofs.SearchLaws.{busies-most}
 use Rattle.plan.proofs.KeepLaws.{timed, keep-plans-append, keep-plans-first}

@@ -22,9 +22,9 @@ use Rattle.wrapper.specs.Answers as answers
 use Rattle.wrapper.proofs.BestLaws.{time-at, time-falls}
 use Rattle.wrapper.proofs.TimeLaws.{module-most}
 use Rattle.wrapper.proofs.KeptLaws.{good-kept}
-use Rattle.plans.specs.Plans.{Plan, IsPlan, sum, busyFrom, busies, largest, timeOf}
-use Rattle.plans.specs.Listed.{plans, firstLeast, firstOf, bestPlan}
-use Rattle.plans.proofs.ListedLaws.{sound}
+use Rattle.plan_rules.specs.Plans.{Plan, IsPlan, sum, busyFrom, busies, largest, timeOf}
+use Rattle.plan_rules.specs.Listed.{plans, firstLeast, firstOf, bestPlan}
+use Rattle.plan_rules.proofs.ListedLaws.{sound}
 use Rattle.soc.proofs.PlaceLaws.{padded-at}
 use Rattle.plan.specs.Answers.{plannedModule, timeIn, wiresIn}
 use Rattle.plan.specs.Search.{tableTime, timeMax, IsTable}

@@ -12,8 +12,8 @@ use lib.Seq.{take-suc, getD-drop, length-take-le}
 use borrow.Author.Tests.{ne-eqb}
 use Rattle.soc.specs.Places.{padded}
 use Rattle.soc.proofs.PlaceLaws.{padded-set}
-use Rattle.plans.specs.Listed.{upward, widthLists, placements, plan, plansOn}
-use Rattle.plans.proofs.SkipLaws.{total, lower-single, lower-shared}
+use Rattle.plan_rules.specs.Listed.{upward, widthLists, placements, plan, plansOn}
+use Rattle.plan_rules.proofs.SkipLaws.{total, lower-single, lower-shared}
 use Rattle.plan.specs.Search.{tableTime, timeOn, IsTable, AreWidths}
 
 pub plans-on-append : (n c : ℕ) (vss wss : List (List ℕ)) → plansOn n c (vss ++ wss) ≡ plansOn n c vss ++ plansOn n c wss

@@ -13,8 +13,8 @@ use Rattle.soc.specs.declared.record.Module.{Module}
 use Rattle.soc.specs.declared.record.Soc.{Soc}
 use Rattle.wrapper.specs.Times.{moduleBest}
 use Rattle.wrapper.specs.Answers.{wires, cycles, widthMax}
-use Rattle.plans.specs.Plans.{Plan, busies, timeOf}
-use Rattle.plans.specs.Listed.{bestPlan}
+use Rattle.plan_rules.specs.Plans.{Plan, busies, timeOf}
+use Rattle.plan_rules.specs.Listed.{bestPlan}
 use Rattle.plan.specs.declared.record.Bus.{Bus}
 use Rattle.plan.specs.declared.record.PlacedModule.{PlacedModule}
 use Rattle.plan.specs.declared.record.BusPlan.{BusPlan}

@@ -6,7 +6,7 @@ use lib.ListN.{length, getD, take}
 use Rattle.soc.specs.Places.{padded}
 use Rattle.soc.specs.declared.planned.Planned.{Planned}
 use Rattle.wrapper.specs.Answers.{wires, cycles}
-use Rattle.plans.specs.Plans.{busies}
+use Rattle.plan_rules.specs.Plans.{busies}
 use Rattle.plan.specs.Answers.{limitMax, plannedMax, noBus, noPlaced, busRecords}
 use Rattle.plan.specs.declared.record.Bus.{Bus}
 use Rattle.plan.specs.declared.record.PlacedModule.{PlacedModule}

@@ -6,8 +6,8 @@ use mathlib.Core.List.{List, [], _∷_, _++_, map}
 use lib.ListN.{length, getD, take, drop, replicate}
 use lib.Dec.{ltb}
 use Rattle.soc.specs.Places.{padded}
-use Rattle.plans.specs.Plans.{Plan, busies, largest, timeOf}
-use Rattle.plans.specs.Listed.{placements, plan, plansOn}
+use Rattle.plan_rules.specs.Plans.{Plan, busies, largest, timeOf}
+use Rattle.plan_rules.specs.Listed.{placements, plan, plansOn}
 use Rattle.plan.specs.declared.widths.Found.{Found}
 
 -- the time of module i, from 0, at width w

@@ -21,7 +21,7 @@ ghost use mathlib.Core.Bool.{true};
 ghost use Prim.Native.Nat.{_≤_};
 ghost use lib.ListN.{length, take};
 ghost use Rattle.soc.specs.Planned.{plannedOf, plannedIs};
-ghost use Rattle.plans.specs.Plans.{busyFrom, busies};
+ghost use Rattle.plan_rules.specs.Plans.{busyFrom, busies};
 ghost use Rattle.plan.specs.Search.{tableTime, IsTable};
 ghost use Rattle.plan.specs.Tables.{TablesAre};
 ghost use Rattle.plan.specs.Answers.{refusedPlan, bestFor, planRecord, planAnswer};

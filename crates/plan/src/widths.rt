@@ -9,7 +9,7 @@ ghost use mathlib.Core.Bool.{true, false};
 ghost use mathlib.Core.List.{List, map, _++_, _∷_};
 ghost use Prim.Native.Nat.{ℕ, _+_, _-_, _≤_, _<_};
 ghost use lib.ListN.{length, getD, take, drop};
-ghost use Rattle.plans.specs.Listed.{plan, placements, widthLists, bestPlan};
+ghost use Rattle.plan_rules.specs.Listed.{plan, placements, widthLists, bestPlan};
 ghost use Rattle.plan.specs.Search.{tableTime, timeOn, held, IsTable, AreWidths, Buffers, plansBehind, foundOf, foundIn, Widening, Searched};
 
 // The first plan of least time: its buses, their widths, the bus of each module, and its time. Spare places are 0.

@@ -67,16 +67,16 @@ fn by_hand() -> [u8; 64] {
 
 // Whether a file that is accepted is the file of what it says.
 fn is_its_own(file: &[u8]) -> bool {
-    let read = planfile::read_plan(file);
+    let read = plan_file::read_plan(file);
     let mut buffer = [0u8; 200];
-    let w = planfile::write_plan(read.plan, &mut buffer);
+    let w = plan_file::write_plan(read.plan, &mut buffer);
     let n = at_most(w.len, &buffer);
     fields::same_bytes(file, &buffer[..n])
 }
 
 // A file: refused (0), accepted as the file of what it says (1), or accepted and not that file (2).
 fn told(file: &[u8]) -> u8 {
-    let read = planfile::read_plan(file);
+    let read = plan_file::read_plan(file);
     if read.refusal.number != 0 {
         return 0;
     }
@@ -136,7 +136,7 @@ fn show_bytes(file: &mut [u8]) {
 
 fn show_file(p: BusPlan) {
     let mut buffer = [170u8; 200];
-    let w = planfile::write_plan(p, &mut buffer);
+    let w = plan_file::write_plan(p, &mut buffer);
     print_figure(b"refused ", w.refusal.number as u64);
     print_figure(b", written ", w.len as u64);
     print_byte(b", the byte behind is ", buffer[199]);
@@ -149,7 +149,7 @@ fn show_file(p: BusPlan) {
 }
 
 fn show_read(file: &[u8]) {
-    let read = planfile::read_plan(file);
+    let read = plan_file::read_plan(file);
     print_figure(b"a file of ", file.len() as u64);
     print_figure(b" bytes: refused ", read.refusal.number as u64);
     print(b"\n");
@@ -158,7 +158,7 @@ fn show_read(file: &[u8]) {
 fn show_t1(p: BusPlan) {
     let hand = by_hand();
     let mut buffer = [0u8; 64];
-    let w = planfile::write_plan(p, &mut buffer);
+    let w = plan_file::write_plan(p, &mut buffer);
     print_figure(b"t1: written ", w.len as u64);
     if fields::same_bytes(&hand, &buffer) {
         print(b", as by hand\n");
@@ -188,7 +188,7 @@ fn show_lengths(file: &[u8]) {
 
 fn show_short(p: BusPlan) {
     let mut buffer = [170u8; 63];
-    let w = planfile::write_plan(p, &mut buffer);
+    let w = plan_file::write_plan(p, &mut buffer);
     print_figure(b"63 bytes lent: refused ", w.refusal.number as u64);
     print_byte(b", the first byte is ", buffer[0]);
     print(b"\n");
@@ -199,7 +199,7 @@ fn show_bad(p: BusPlan) {
     let mut q = p;
     q.limit = 4;
     let mut buffer = [170u8; 64];
-    let w = planfile::write_plan(q, &mut buffer);
+    let w = plan_file::write_plan(q, &mut buffer);
     print_figure(b"limit 4: refused ", w.refusal.number as u64);
     print_byte(b", the first byte is ", buffer[0]);
     print(b"\n");

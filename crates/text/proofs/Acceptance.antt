@@ -20,10 +20,10 @@ use Rattle.soc.specs.Record.{noSoc}
 use Rattle.soc.specs.Rules.{goodName, goodSoc}
 use Rattle.soc.specs.Sized.{Sized}
 use Rattle.soc.specs.declared.record.Soc.{Soc}
-use Rattle.reading.specs.Lines.{LinesRead}
-use Rattle.reading.specs.Reading.{textMax, soc, refusedSoc, acceptedSoc, answer, unlessBad, readSoc}
+use Rattle.text_reader.specs.Lines.{LinesRead}
+use Rattle.text_reader.specs.Reading.{textMax, soc, refusedSoc, acceptedSoc, answer, unlessBad, readSoc}
 use Rattle.text.specs.Describes.{Describes, fieldLines}
-use Rattle.reading.specs.declared.read.SocRead.{SocRead}
+use Rattle.text_reader.specs.declared.read.SocRead.{SocRead}
 use Rattle.text.proofs.Accepted.{Read, soc-only}
 use Rattle.text.proofs.Refused.{soc-refuses}
 

@@ -25,15 +25,15 @@ use Rattle.soc.specs.declared.record.Test.{Test}
 use Rattle.soc.specs.declared.record.Module.{Module}
 use Rattle.soc.specs.declared.record.Soc.{Soc}
 use Rattle.soc.proofs.PlaceLaws.{all-replicate, padded-length, padded-take, padded-drop}
-use Rattle.lines.specs.Parts.{Whole, refuses, says, whole}
-use Rattle.lines.specs.Kinds.{Name, Options, Shape, Second, nameLine, totalLine, optionsLine, levelLine, secondLine, testsLine, testLine}
-use Rattle.lines.specs.Written.{givenField, moduleFields, nameFields, totalFields, optionsFields, levelFields, positionFields, testsFields}
+use Rattle.text_lines.specs.Parts.{Whole, refuses, says, whole}
+use Rattle.text_lines.specs.Kinds.{Name, Options, Shape, Second, nameLine, totalLine, optionsLine, levelLine, secondLine, testsLine, testLine}
+use Rattle.text_lines.specs.Written.{givenField, moduleFields, nameFields, totalFields, optionsFields, levelFields, positionFields, testsFields}
 use Rattle.text.proofs.LineBack.{position-says}
 use Rattle.text.proofs.LineOnly.{after-only, NameSays, name-only, TotalSays, total-only, options-only, ShapeSays, level-only, second-only-position, second-only-tests, tests-only, test-only}
 use Rattle.text.proofs.GoodLaws.{good-spare}
-use Rattle.reading.specs.Lines.{judged, line, noMore}
-use Rattle.reading.specs.Reading.{Body, behind, body, moduleOf, moduleTests, moduleRest, moduleLines, modules, socOf, behindName, soc}
-use Rattle.reading.specs.Reading as reading
+use Rattle.text_reader.specs.Lines.{judged, line, noMore}
+use Rattle.text_reader.specs.Reading.{Body, behind, body, moduleOf, moduleTests, moduleRest, moduleLines, modules, socOf, behindName, soc}
+use Rattle.text_reader.specs.Reading as reading
 use Rattle.text.specs.Describes.{Sayable, TestLines, ModuleLines, ModulesLines, Describes, fieldsIn}
 
 -- what was given, and what was left

@@ -20,13 +20,13 @@ use Rattle.soc.specs.Sized.{SizedModule, Sized}
 use Rattle.soc.specs.declared.record.Test.{Test}
 use Rattle.soc.specs.declared.record.Module.{Module}
 use Rattle.soc.specs.declared.record.Soc.{Soc}
-use Rattle.lines.specs.Parts.{says, whole}
-use Rattle.lines.specs.Kinds.{Name, Options, Shape, Second}
-use Rattle.lines.specs.Kinds as kinds
-use Rattle.lines.specs.Written.{nameFields, totalFields, optionsFields, levelFields, positionFields, testsFields}
+use Rattle.text_lines.specs.Parts.{says, whole}
+use Rattle.text_lines.specs.Kinds.{Name, Options, Shape, Second}
+use Rattle.text_lines.specs.Kinds as kinds
+use Rattle.text_lines.specs.Written.{nameFields, totalFields, optionsFields, levelFields, positionFields, testsFields}
 use Rattle.text.proofs.LineBack.{name-back, total-back, options-back, level-back, position-back, tests-back, second-back, test-back, test-back-out}
-use Rattle.reading.specs.Lines.{LinesReader, judged, line, noMore}
-use Rattle.reading.specs.Reading.{Body, behind, body, tests, moduleOf, moduleTests, moduleRest, moduleLines, modules, socOf, rest, behindName, soc}
+use Rattle.text_reader.specs.Lines.{LinesReader, judged, line, noMore}
+use Rattle.text_reader.specs.Reading.{Body, behind, body, tests, moduleOf, moduleTests, moduleRest, moduleLines, modules, socOf, rest, behindName, soc}
 use Rattle.text.specs.Describes.{TestLine, TestLines, PositionPart, ModuleLines, ModulesLines, Describes, fieldsIn}
 use Rattle.text.proofs.GoodLaws.{GoodModule, good-module, GoodSoc, good-soc, AllSized, sized-first, sized-rest, sized-modules, sized-front, modules-padded, tests-padded}
 

@@ -26,9 +26,9 @@ use Rattle.soc.specs.Rules.{none, isNotGiven, upTo, goodLength, spareLength, go
 use Rattle.soc.specs.declared.record.Test.{Test}
 use Rattle.soc.specs.declared.record.Module.{Module}
 use Rattle.soc.specs.declared.record.Soc.{Soc}
-use Rattle.lines.specs.Parts.{whole, closed, says, due, dueIs, flag, givenIs, orNotGiven, name, rule, isNext}
-use Rattle.lines.specs.Kinds.{Second, namePart, nameLine, totalLine, optionsPart, optionsLine, level, terminals, chainLength, lengthsPart, chainsPart, levelLine, pairRule, positionPart, totalTests, testsPart, secondPart, secondLine, testsLine, powerPart, uses, testDue, patternsPart, testLine}
-use Rattle.lines.specs.Written.{flagField, givenField, lengthField, nameFields, totalFields, optionsFields, levelFields, positionFields, testsFields, powerFields, testFields}
+use Rattle.text_lines.specs.Parts.{whole, closed, says, due, dueIs, flag, givenIs, orNotGiven, name, rule, isNext}
+use Rattle.text_lines.specs.Kinds.{Second, namePart, nameLine, totalLine, optionsPart, optionsLine, level, terminals, chainLength, lengthsPart, chainsPart, levelLine, pairRule, positionPart, totalTests, testsPart, secondPart, secondLine, testsLine, powerPart, uses, testDue, patternsPart, testLine}
+use Rattle.text_lines.specs.Written.{flagField, givenField, lengthField, nameFields, totalFields, optionsFields, levelFields, positionFields, testsFields, powerFields, testFields}
 use Rattle.text.specs.Describes.{Sayable}
 
 -- the parts of a line

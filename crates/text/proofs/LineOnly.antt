@@ -24,9 +24,9 @@ use Rattle.soc.specs.Places.{padded, allOf}
 use Rattle.soc.specs.Record.{flipFlops, notGiven}
 use Rattle.soc.specs.Rules.{isNotGiven, upTo, goodLength, goodPower, goodPosition, goodTest, levelRule}
 use Rattle.soc.specs.declared.record.Test.{Test}
-use Rattle.lines.specs.Parts.{whole, closed, says, due, dueIs, keyDue, flag, keyFlag, givenIs, orNotGiven, keyGiven, name, rule, isNext}
-use Rattle.lines.specs.Kinds.{Name, Options, Terminals, Shape, Second, Uses, namePart, nameLine, totalLine, optionsPart, optionsLine, level, terminals, chainLength, lengthsPart, chainsPart, levelLine, pairRule, positionPart, totalTests, testsPart, secondPart, secondLine, testsLine, powerPart, uses, testDue, patternsPart, testLine}
-use Rattle.lines.specs.Written.{flagField, givenField, lengthField, moduleFields, powerFields, testFields}
+use Rattle.text_lines.specs.Parts.{whole, closed, says, due, dueIs, keyDue, flag, keyFlag, givenIs, orNotGiven, keyGiven, name, rule, isNext}
+use Rattle.text_lines.specs.Kinds.{Name, Options, Terminals, Shape, Second, Uses, namePart, nameLine, totalLine, optionsPart, optionsLine, level, terminals, chainLength, lengthsPart, chainsPart, levelLine, pairRule, positionPart, totalTests, testsPart, secondPart, secondLine, testsLine, powerPart, uses, testDue, patternsPart, testLine}
+use Rattle.text_lines.specs.Written.{flagField, givenField, lengthField, moduleFields, powerFields, testFields}
 use Rattle.text.specs.Describes.{Sayable, PowerPart}
 use Rattle.text.proofs.LineBack.{mayBe, may-say}
 

@@ -15,8 +15,8 @@ use Rattle.fields.specs.Readers.{no, got, FieldsGot, Reader, _>>=_, _>>_, after
 use Rattle.soc.specs.Limits.{modulesMax, levelMax, terminalsMax, chainsMax, lengthMax, testsMax, patternsMax, positionMax, powerMax}
 use Rattle.soc.specs.Record.{notGiven}
 use Rattle.soc.specs.Rules.{levelRule}
-use Rattle.lines.specs.Parts.{whole, closed, refuses, due, dueIs, keyDue, flag, keyFlag, givenIs, orNotGiven, keyGiven, name, rule, isNext}
-use Rattle.lines.specs.Kinds.{Terminals, Uses, namePart, nameLine, totalLine, optionsPart, optionsLine, moduleDue, level, terminals, chainLength, lengthsPart, chainsPart, levelLine, pairRule, positionPart, totalTests, testsPart, secondPart, secondLine, testsLine, powerPart, uses, testDue, patternsPart, testLine}
+use Rattle.text_lines.specs.Parts.{whole, closed, refuses, due, dueIs, keyDue, flag, keyFlag, givenIs, orNotGiven, keyGiven, name, rule, isNext}
+use Rattle.text_lines.specs.Kinds.{Terminals, Uses, namePart, nameLine, totalLine, optionsPart, optionsLine, moduleDue, level, terminals, chainLength, lengthsPart, chainsPart, levelLine, pairRule, positionPart, totalTests, testsPart, secondPart, secondLine, testsLine, powerPart, uses, testDue, patternsPart, testLine}
 
 -- a reading refuses only with a number from 3 to 5
 pub record Fair {A : Type 0} (g : FieldsGot A) : Type 0 where

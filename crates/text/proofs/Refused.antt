@@ -9,12 +9,12 @@ use Rattle.units.specs.Refusals.{refused}
 use Rattle.units.specs.declared.Refusal.{Refusal}
 use Rattle.fields.specs.Lines.{Line}
 use Rattle.fields.specs.Readers.{no, got, Reader, _>>=_, _>>_, after, each}
-use Rattle.lines.specs.Parts.{Whole, refuses, says, whole}
-use Rattle.lines.specs.Kinds.{Name, Options, Shape, Second, nameLine, totalLine, optionsLine, levelLine, secondLine, testsLine, testLine}
+use Rattle.text_lines.specs.Parts.{Whole, refuses, says, whole}
+use Rattle.text_lines.specs.Kinds.{Name, Options, Shape, Second, nameLine, totalLine, optionsLine, levelLine, secondLine, testsLine, testLine}
 use Rattle.text.proofs.LineRefuses.{name-refuses, total-refuses, options-refuses, level-refuses, second-refuses, tests-refuses, test-refuses}
-use Rattle.reading.specs.Lines.{LinesRead, LinesReader, judged, line, noMore}
-use Rattle.reading.specs.Reading.{Body, behind, body, tests, moduleTests, moduleRest, moduleLines, modules, behindName, soc}
-use Rattle.reading.specs.Reading as reading
+use Rattle.text_reader.specs.Lines.{LinesRead, LinesReader, judged, line, noMore}
+use Rattle.text_reader.specs.Reading.{Body, behind, body, tests, moduleTests, moduleRest, moduleLines, modules, behindName, soc}
+use Rattle.text_reader.specs.Reading as reading
 
 -- 3 to 6
 abbrev pub Number : Refusal → Type 0

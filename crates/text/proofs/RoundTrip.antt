@@ -12,10 +12,10 @@ use Rattle.fields.specs.Lines.{linesFrom}
 use Rattle.soc.specs.Rules.{goodSoc}
 use Rattle.soc.specs.Sized.{Sized}
 use Rattle.soc.specs.declared.record.Soc.{Soc}
-use Rattle.reading.specs.declared.read.SocRead.{SocRead}
+use Rattle.text_reader.specs.declared.read.SocRead.{SocRead}
 use Rattle.text.specs.Describes.{Describes, fieldLines}
-use Rattle.reading.specs.Reading.{textMax, acceptedSoc, soc, answer, unlessBad, readSoc}
-use Rattle.writing.specs.Written.{writtenSoc}
+use Rattle.text_reader.specs.Reading.{textMax, acceptedSoc, soc, answer, unlessBad, readSoc}
+use Rattle.text_writer.specs.Written.{writtenSoc}
 use Rattle.text.proofs.Described.{reads-described}
 use Rattle.text.proofs.Once.{described-once}
 use Rattle.text.proofs.WrittenForm.{written-allowed, written-read}

@@ -10,9 +10,9 @@ use Rattle.fields.specs.declared.byte.BadByte.the-variants.{Nowhere}
 use Rattle.soc.specs.Rules.{goodSoc}
 use Rattle.soc.specs.Sized.{Sized}
 use Rattle.soc.specs.declared.record.Soc.{Soc}
-use Rattle.reading.specs.Reading.{textMax, readSoc, acceptedSoc}
-use Rattle.writing.specs.Written.{writtenSoc}
-use Rattle.writing.proofs.SizeLaws.{written-short}
+use Rattle.text_reader.specs.Reading.{textMax, readSoc, acceptedSoc}
+use Rattle.text_writer.specs.Written.{writtenSoc}
+use Rattle.text_writer.proofs.SizeLaws.{written-short}
 use Rattle.text.specs.Describes.{Describes, fieldLines}
 use Rattle.text.proofs.Acceptance.{accepted-good, accepted-sized, accepted-describes}
 use Rattle.text.proofs.RoundTrip as back

@@ -26,10 +26,10 @@ use Rattle.soc.specs.Rules.{none, goodPower, goodPosition, goodTest, goodModule
 use Rattle.soc.specs.declared.record.Test.{Test}
 use Rattle.soc.specs.declared.record.Module.{Module}
 use Rattle.soc.specs.declared.record.Soc.{Soc}
-use Rattle.lines.specs.Written.{flagField, givenField, lengthField, nameFields, totalFields, optionsFields, levelFields, positionFields, testsFields, powerFields, testFields}
+use Rattle.text_lines.specs.Written.{flagField, givenField, lengthField, nameFields, totalFields, optionsFields, levelFields, positionFields, testsFields, powerFields, testFields}
 use Rattle.text.proofs.LineBack.{not-given, good-test, power-says, position-says}
 use Rattle.text.specs.Describes.{PowerPart, TestLines, PositionPart, ModuleLines, ModulesLines, Describes, fieldsIn, fieldLines}
-use Rattle.writing.specs.Written.{testLines, positionLines, moduleLinesOf, moduleLinesFrom, socLines, writtenLines, writtenSoc}
+use Rattle.text_writer.specs.Written.{testLines, positionLines, moduleLinesOf, moduleLinesFrom, socLines, writtenLines, writtenSoc}
 use Rattle.text.proofs.GoodLaws.{good-module, good-soc, good-spare}
 
 -- the lines of the written form describe the record

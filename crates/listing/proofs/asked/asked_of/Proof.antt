@@ -8,7 +8,7 @@ use lib.ListN.{length, take}
 use lib.Seq.{length-take-le}
 use Rattle.fields.specs.Fields.{fieldsOf}
 use Rattle.fields.specs.declared.line.OneLine.{OneLine}
-use Rattle.lines.specs.Parts.{whole}
+use Rattle.text_lines.specs.Parts.{whole}
 use Rattle.listing.specs.Asked.{planLine, askedAnswer}
 use Rattle.listing.proofs.AskedLaws.{first-line, asked-long, asked-short}
 use Rattle.listing.proofs.asked.asked_of.Statement.{statement}

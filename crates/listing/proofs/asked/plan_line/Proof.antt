@@ -6,8 +6,8 @@ use Rattle.fields.specs.Fields.{fieldsOf}
 use Rattle.fields.specs.Readers.{bytesDue, pastIs}
 use Rattle.fields.proofs.AnswerLaws.{word-is}
 use Rattle.fields.proofs.ReaderLaws.{after-no, after-got}
-use Rattle.lines.specs.Parts.{closed}
-use Rattle.lines.proofs.HeadLaws.{closed-no}
+use Rattle.text_lines.specs.Parts.{closed}
+use Rattle.text_lines.proofs.HeadLaws.{closed-no}
 use Rattle.listing.specs.Asked.{planLine, askedAnswer}
 use Rattle.listing.proofs.asked.plan_line.Statement.{statement}
 use Rattle.listing.proofs.asked.plan_line.Tie as tie

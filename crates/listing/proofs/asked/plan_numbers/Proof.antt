@@ -8,7 +8,7 @@ use Rattle.fields.specs.Fields.{fieldsOf}
 use Rattle.fields.specs.Readers.{got, between, figureIs}
 use Rattle.fields.proofs.AnswerLaws.{number-is}
 use Rattle.fields.proofs.ReaderLaws.{after-no, after-got, between-within}
-use Rattle.lines.proofs.HeadLaws.{closed-no, closed-blank, closed-more}
+use Rattle.text_lines.proofs.HeadLaws.{closed-no, closed-blank, closed-more}
 use Rattle.listing.specs.Asked.{askedMax, planNumbers, askedAnswer}
 use Rattle.listing.proofs.asked.plan_numbers.Statement.{statement}
 use Rattle.listing.proofs.asked.plan_numbers.Tie as tie

@@ -3,10 +3,10 @@
 use borrow.Author.Needs.{needs}
 use native.Mathlib.Omega.{arith}
 use mathlib.Core.Path.{ap}
-use Rattle.writing.specs.Written.{writtenLines}
-use Rattle.writing.proofs.GoodLaws.{soc-figures}
-use Rattle.planfile.proofs.GoodLaws.{GoodFigures, good-figures}
-use Rattle.planfile.proofs.PlannerLaws.{planner-answers-good}
+use Rattle.text_writer.specs.Written.{writtenLines}
+use Rattle.text_writer.proofs.GoodLaws.{soc-figures}
+use Rattle.plan_file.proofs.GoodLaws.{GoodFigures, good-figures}
+use Rattle.plan_file.proofs.PlannerLaws.{planner-answers-good}
 use Rattle.listing.proofs.ListingLaws.{put-as, plan-refused, plan-found}
 use Rattle.listing.proofs.entry.put_answer.Statement.{statement}
 use Rattle.listing.proofs.entry.put_answer.Tie as tie

@@ -9,7 +9,7 @@ use lib.ListN.{length, getD, take, length-map, length-append}
 use Rattle.fields.specs.Puts.{Put}
 use Rattle.fields.proofs.PutLaws.{put-none, put-then}
 use Rattle.plan.specs.Answers.{noBus}
-use Rattle.writing.specs.Written.{writtenLines}
+use Rattle.text_writer.specs.Written.{writtenLines}
 use Rattle.listing.specs.Listing.{busFields, busLines}
 use Rattle.listing.proofs.LineLaws.{busesText, buses-more}
 use Rattle.listing.proofs.put_lines.put_buses.Statement.{statement}

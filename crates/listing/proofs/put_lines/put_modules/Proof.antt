@@ -9,7 +9,7 @@ use lib.ListN.{length, getD, take, length-map, length-append}
 use Rattle.fields.specs.Puts.{Put}
 use Rattle.fields.proofs.PutLaws.{put-none, put-then}
 use Rattle.plan.specs.Answers.{noPlaced}
-use Rattle.writing.specs.Written.{writtenLines}
+use Rattle.text_writer.specs.Written.{writtenLines}
 use Rattle.listing.specs.Listing.{moduleFields, moduleLines}
 use Rattle.listing.proofs.LineLaws.{modulesText, modules-more}
 use Rattle.listing.proofs.put_lines.put_modules.Statement.{statement}

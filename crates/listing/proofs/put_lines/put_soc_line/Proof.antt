@@ -11,7 +11,7 @@ use Rattle.fields.specs.Bytes.{bytes}
 use Rattle.fields.specs.Written.{decimal}
 use Rattle.fields.proofs.PutLaws.{due-all, due-put, due-key, put-is}
 use Rattle.soc.specs.Record.{nameOf}
-use Rattle.writing.specs.Written.{writtenLines}
+use Rattle.text_writer.specs.Written.{writtenLines}
 use Rattle.listing.specs.Listing.{socFields}
 use Rattle.listing.proofs.LineLaws.{soc-text, soc-size}
 use Rattle.listing.proofs.put_lines.put_soc_line.Statement.{statement}

@@ -6,7 +6,7 @@ use Prim.Native.Nat.{_-_, _*_, _≤_, _<_}
 use mathlib.Core.Path.{_≡_, _∙_}
 use mathlib.Core.Logic.{⊎-elim}
 use lib.ListN.{length, take}
-use Rattle.plans.specs.Plans.{busyFrom}
+use Rattle.plan_rules.specs.Plans.{busyFrom}
 use Rattle.plan.specs.Search.{tableTime, timeMax}
 use Rattle.plan.proofs.EntryLaws.{busy-none, busy-here, busy-else}
 use Rattle.plan.proofs.entry.busy_of.Statement.{statement}

@@ -7,7 +7,7 @@ use Prim.Native.Nat.{ℕ, _-_, _*_, _/_, _≤_, _<_}
 use mathlib.Core.Path.{_≡_, refl, ap, _∙_}
 use mathlib.Core.Bool.{false≢true}
 use lib.ListN.{length, getD}
-use Rattle.plans.proofs.SkipLaws.{total}
+use Rattle.plan_rules.proofs.SkipLaws.{total}
 use Rattle.plan.specs.Search.{tableTime, timeMax, timeOn}
 use Rattle.plan.proofs.WidthLaws.{total-step, last-single, last-shared}
 use Rattle.plan.proofs.widths.may_beat.Statement.{statement}

@@ -1,0 +1,35 @@
+-- `c_interface::tallowwing_module_wires` meets its contract: the answer for the record in the bytes, as a code. Assumes nothing.
+use borrow.Author.Needs.{needs}
+use mathlib.Core.Path.{ap, _∙_}
+use Rattle.wrapper.specs.Answers.{moduleTimeAnswer}
+use Rattle.c_interface.specs.Codes.{code}
+use Rattle.c_interface.proofs.tallowwing_module_wires.Statement.{statement}
+use Rattle.c_interface.proofs.tallowwing_module_wires.Tie as tie
+
+soc-in-requires : tie.Need-soc-in-requires
+soc-in-requires c κs = search needs
+
+module-time-requires : tie.Need-module-time-requires
+module-time-requires c κs = search needs
+
+cast-code-of : tie.Need-cast-code-of
+cast-code-of c = search needs
+
+code-of-requires : tie.Need-code-of-requires
+code-of-requires c κs = search needs
+
+returns : tie.Need-returns
+returns c =
+    let t = c .before .before in
+    let s = t .before .before .before in
+    c .code-of .ensures ∙ ap (λ a. code (a .refusal) (a .wires .0)) (t .module-time .ensures ∙ ap (λ d. moduleTimeAnswer d (s .args .«module») (s .args .width)) (t .before .soc-in .ensures))
+
+pub tallowwing-module-wires-spec : {M : Type 1} → statement M
+tallowwing-module-wires-spec =
+    tie.close
+    (tie.spec
+    soc-in-requires
+    module-time-requires
+    cast-code-of
+    code-of-requires
+    returns)

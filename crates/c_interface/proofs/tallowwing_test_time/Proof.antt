@@ -1,0 +1,31 @@
+-- `c_interface::tallowwing_test_time` meets its contract: the answer for the record in the bytes, as a code. Assumes nothing.
+use borrow.Author.Needs.{needs}
+use mathlib.Core.Path.{ap, _∙_}
+use Rattle.wrapper.specs.Answers.{testTimeAnswer}
+use Rattle.c_interface.specs.Codes.{code}
+use Rattle.c_interface.proofs.tallowwing_test_time.Statement.{statement}
+use Rattle.c_interface.proofs.tallowwing_test_time.Tie as tie
+
+soc-in-requires : tie.Need-soc-in-requires
+soc-in-requires c κs = search needs
+
+test-time-requires : tie.Need-test-time-requires
+test-time-requires c κs = search needs
+
+code-of-requires : tie.Need-code-of-requires
+code-of-requires c κs = search needs
+
+returns : tie.Need-returns
+returns c =
+    let t = c .before in
+    let s = t .before .before .before in
+    c .code-of .ensures ∙ ap (λ a. code (a .refusal) (a .cycles .0)) (t .test-time .ensures ∙ ap (λ d. testTimeAnswer d (s .args .«module») (s .args .test) (s .args .width)) (t .before .soc-in .ensures))
+
+pub tallowwing-test-time-spec : {M : Type 1} → statement M
+tallowwing-test-time-spec =
+    tie.close
+    (tie.spec
+    soc-in-requires
+    test-time-requires
+    code-of-requires
+    returns)

@@ -1,0 +1,95 @@
+-- What the functions for other languages answer: one number, whose lowest byte is the refusal's number or 0, above it the refusal's line, or the figure
+-- that the function gives.
+use Prim.Native.Nat.{ℕ, _+_, _*_, _%_}
+use mathlib.Core.Bool.{cond}
+use mathlib.Core.List.{List}
+use lib.ListN.{length}
+use lib.Dec.{leb, eqb}
+use Rattle.units.specs.declared.Refusal.{Refusal}
+use Rattle.fields.specs.Written.{putFront}
+use Rattle.text_reader.specs.Reading.{readSoc}
+use Rattle.text_writer.specs.Written as soctext
+use Rattle.wrapper.specs.Answers.{layoutAnswer, testTimeAnswer, moduleTimeAnswer}
+use Rattle.plan.specs.Answers.{planAnswer}
+use Rattle.plan_file.specs.Files as planfile
+use Rattle.listing.specs.Listing.{listingAnswer, listingLeaves}
+use Rattle.c_forms.specs.SocForm.{socIn, socBytes}
+use Rattle.c_forms.specs.PlanForm.{planIn, planBytes}
+use Rattle.c_forms.specs.LayoutForm.{layoutBytes}
+
+-- what stands above the lowest byte has 56 bits
+abbrev pub aboveMax : ℕ
+aboveMax = 72057594037927936
+
+unfoldable pub above : ℕ → ℕ → ℕ
+above n v = n + 256 * (v % aboveMax)
+
+-- nothing refused, and a figure; or the refusal
+unfoldable pub code : Refusal → ℕ → ℕ
+code r v = cond (eqb (r .number) 0) (above 0 v) (above (r .number) (r .line))
+
+-- k bytes put, of a result that is never empty; 0 says that there was no room
+unfoldable pub bytesCode : ℕ → ℕ
+bytesCode k = cond (eqb k 0) (above 11 0) (above 0 k)
+
+-- a result of bytes w at the front of a lent buffer; without the room 11
+unfoldable pub given : List ℕ → List ℕ → ℕ
+given w buf = cond (leb (length w) (length buf)) (above 0 (length w)) (above 11 0)
+
+-- a result of bytes w where nothing is refused: the answer, and what the lent buffer then holds
+unfoldable pub givenUnless : Refusal → List ℕ → List ℕ → ℕ
+givenUnless r w buf = cond (eqb (r .number) 0) (given w buf) (above (r .number) (r .line))
+
+unfoldable pub heldUnless : Refusal → List ℕ → List ℕ → List ℕ
+heldUnless r w buf = cond (eqb (r .number) 0) (putFront w buf) buf
+
+abbrev pub readCode : List ℕ → List ℕ → ℕ
+readCode text buf = givenUnless (readSoc text .refusal) (socBytes (readSoc text .soc)) buf
+
+abbrev pub readHeld : List ℕ → List ℕ → List ℕ
+readHeld text buf = heldUnless (readSoc text .refusal) (socBytes (readSoc text .soc)) buf
+
+abbrev pub writeCode : List ℕ → List ℕ → ℕ
+writeCode b buf = code (soctext.writeAnswer (socIn b) buf .refusal) (soctext.writeAnswer (socIn b) buf .len)
+
+abbrev pub writeHeld : List ℕ → List ℕ → List ℕ
+writeHeld b buf = soctext.writeLeaves (socIn b) buf
+
+abbrev pub layoutCode : List ℕ → ℕ → ℕ → ℕ → List ℕ → ℕ
+layoutCode b m i w buf = givenUnless (layoutAnswer (socIn b) m i w .refusal) (layoutBytes (layoutAnswer (socIn b) m i w)) buf
+
+abbrev pub layoutHeld : List ℕ → ℕ → ℕ → ℕ → List ℕ → List ℕ
+layoutHeld b m i w buf = heldUnless (layoutAnswer (socIn b) m i w .refusal) (layoutBytes (layoutAnswer (socIn b) m i w)) buf
+
+abbrev pub testTimeCode : List ℕ → ℕ → ℕ → ℕ → ℕ
+testTimeCode b m i w = code (testTimeAnswer (socIn b) m i w .refusal) (testTimeAnswer (socIn b) m i w .cycles .0)
+
+abbrev pub moduleTimeCode : List ℕ → ℕ → ℕ → ℕ
+moduleTimeCode b m w = code (moduleTimeAnswer (socIn b) m w .refusal) (moduleTimeAnswer (socIn b) m w .cycles .0)
+
+abbrev pub moduleWiresCode : List ℕ → ℕ → ℕ → ℕ
+moduleWiresCode b m w = code (moduleTimeAnswer (socIn b) m w .refusal) (moduleTimeAnswer (socIn b) m w .wires .0)
+
+abbrev pub planCode : List ℕ → ℕ → ℕ → List ℕ → ℕ
+planCode b W B buf = givenUnless (planAnswer (socIn b) W B .refusal) (planBytes (planAnswer (socIn b) W B .plan)) buf
+
+abbrev pub planHeld : List ℕ → ℕ → ℕ → List ℕ → List ℕ
+planHeld b W B buf = heldUnless (planAnswer (socIn b) W B .refusal) (planBytes (planAnswer (socIn b) W B .plan)) buf
+
+abbrev pub writePlanCode : List ℕ → List ℕ → ℕ
+writePlanCode b buf = code (planfile.writeAnswer (planIn b) buf .refusal) (planfile.writeAnswer (planIn b) buf .len)
+
+abbrev pub writePlanHeld : List ℕ → List ℕ → List ℕ
+writePlanHeld b buf = planfile.writeLeaves (planIn b) buf
+
+abbrev pub readPlanCode : List ℕ → List ℕ → ℕ
+readPlanCode f buf = givenUnless (planfile.readAnswer f .refusal) (planBytes (planfile.readAnswer f .plan)) buf
+
+abbrev pub readPlanHeld : List ℕ → List ℕ → List ℕ
+readPlanHeld f buf = heldUnless (planfile.readAnswer f .refusal) (planBytes (planfile.readAnswer f .plan)) buf
+
+abbrev pub listingCode : List ℕ → List ℕ → ℕ
+listingCode input buf = code (listingAnswer input buf .refusal) (listingAnswer input buf .len)
+
+abbrev pub listingHeld : List ℕ → List ℕ → List ℕ
+listingHeld input buf = listingLeaves input buf

@@ -1,0 +1,137 @@
+// Every entry of the library for callers in other languages, on numbers and bytes (include/tallowwing.h). An answer is one number: its lowest byte
+// is the refusal's number or 0, above it stands the refusal's line, or the figure that the function gives.
+use units::Refusal;
+use units::Wires;
+ghost use mathlib.Core.Path.{_≡_};
+ghost use Rattle.c_interface.specs.Codes.{above, code, bytesCode, readCode, readHeld, writeCode, writeHeld, layoutCode, layoutHeld, testTimeCode, moduleTimeCode, moduleWiresCode, planCode, planHeld, writePlanCode, writePlanHeld, readPlanCode, readPlanHeld, listingCode, listingHeld};
+
+// v has 56 bits: a line and a length stay far below, and a time has at most 46.
+fn above_byte(n: u8, v: u64) -> u64
+    ensures { λ r. ⌜ r ≡ above n v ⌝ }
+{
+    n as u64 + 256 * (v % 72057594037927936)
+}
+
+fn code_of(r: Refusal, v: u64) -> u64
+    ensures { λ c. ⌜ c ≡ code r v ⌝ }
+{
+    if r.number == 0 {
+        return above_byte(0, v);
+    }
+    above_byte(r.number, r.line as u64)
+}
+
+// Where k bytes of a result were put, and 0 says that there was no room.
+fn code_of_bytes(k: usize) -> u64
+    ensures { λ c. ⌜ c ≡ bytesCode k ⌝ }
+{
+    if k == 0 {
+        return above_byte(11, 0);
+    }
+    above_byte(0, k as u64)
+}
+
+#[no_mangle]
+pub extern "C" fn tallowwing_read_soc(text: &[u8], into: &mut [u8]) -> u64
+    ensures { λ r. ⌜ (r ≡ readCode (now (text .entry)) (now (into .entry))) × (now (into .exit) ≡ readHeld (now (text .entry)) (now (into .entry))) ⌝ }
+{
+    let read = text::read_soc(text);
+    if read.refusal.number != 0 {
+        return code_of(read.refusal, 0);
+    }
+    code_of_bytes(c_forms::soc_bytes(read.soc, &mut *into))
+}
+
+#[no_mangle]
+pub extern "C" fn tallowwing_write_soc(soc: &[u8], into: &mut [u8]) -> u64
+    ensures { λ r. ⌜ (r ≡ writeCode (now (soc .entry)) (now (into .entry))) × (now (into .exit) ≡ writeHeld (now (soc .entry)) (now (into .entry))) ⌝ }
+{
+    let s = c_forms::soc_in(soc);
+    let written = text::write_soc(s, &mut *into);
+    code_of(written.refusal, written.len as u64)
+}
+
+#[no_mangle]
+pub extern "C" fn tallowwing_layout(
+    soc: &[u8],
+    module: u32,
+    test: u32,
+    width: u32,
+    into: &mut [u8],
+) -> u64
+    ensures { λ r. ⌜ (r ≡ layoutCode (now (soc .entry)) «module» test width (now (into .entry))) × (now (into .exit) ≡ layoutHeld (now (soc .entry)) «module» test width (now (into .entry))) ⌝ }
+{
+    let s = c_forms::soc_in(soc);
+    let laid = wrapper::layout(s, module, test, Wires(width));
+    if laid.refusal.number != 0 {
+        return code_of(laid.refusal, 0);
+    }
+    code_of_bytes(c_forms::layout_bytes(laid, &mut *into))
+}
+
+#[no_mangle]
+pub extern "C" fn tallowwing_test_time(soc: &[u8], module: u32, test: u32, width: u32) -> u64
+    ensures { λ r. ⌜ r ≡ testTimeCode (now (soc .entry)) «module» test width ⌝ }
+{
+    let s = c_forms::soc_in(soc);
+    let time = wrapper::test_time(s, module, test, Wires(width));
+    code_of(time.refusal, time.cycles.0)
+}
+
+#[no_mangle]
+pub extern "C" fn tallowwing_module_time(soc: &[u8], module: u32, width: u32) -> u64
+    ensures { λ r. ⌜ r ≡ moduleTimeCode (now (soc .entry)) «module» width ⌝ }
+{
+    let s = c_forms::soc_in(soc);
+    let time = wrapper::module_time(s, module, Wires(width));
+    code_of(time.refusal, time.cycles.0)
+}
+
+#[no_mangle]
+pub extern "C" fn tallowwing_module_wires(soc: &[u8], module: u32, width: u32) -> u64
+    ensures { λ r. ⌜ r ≡ moduleWiresCode (now (soc .entry)) «module» width ⌝ }
+{
+    let s = c_forms::soc_in(soc);
+    let best = wrapper::module_time(s, module, Wires(width));
+    code_of(best.refusal, best.wires.0 as u64)
+}
+
+#[no_mangle]
+pub extern "C" fn tallowwing_plan(soc: &[u8], wires: u32, limit: u32, into: &mut [u8]) -> u64
+    ensures { λ r. ⌜ (r ≡ planCode (now (soc .entry)) wires limit (now (into .entry))) × (now (into .exit) ≡ planHeld (now (soc .entry)) wires limit (now (into .entry))) ⌝ }
+{
+    let s = c_forms::soc_in(soc);
+    let answer = plan::plan(s, Wires(wires), limit);
+    if answer.refusal.number != 0 {
+        return code_of(answer.refusal, 0);
+    }
+    code_of_bytes(c_forms::plan_bytes(answer.plan, &mut *into))
+}
+
+#[no_mangle]
+pub extern "C" fn tallowwing_write_plan(from: &[u8], into: &mut [u8]) -> u64
+    ensures { λ r. ⌜ (r ≡ writePlanCode (now (from .entry)) (now (into .entry))) × (now (into .exit) ≡ writePlanHeld (now (from .entry)) (now (into .entry))) ⌝ }
+{
+    let p = c_forms::plan_in(from);
+    let filed = plan_file::write_plan(p, &mut *into);
+    code_of(filed.refusal, filed.len as u64)
+}
+
+#[no_mangle]
+pub extern "C" fn tallowwing_read_plan(file: &[u8], into: &mut [u8]) -> u64
+    ensures { λ r. ⌜ (r ≡ readPlanCode (now (file .entry)) (now (into .entry))) × (now (into .exit) ≡ readPlanHeld (now (file .entry)) (now (into .entry))) ⌝ }
+{
+    let held = plan_file::read_plan(file);
+    if held.refusal.number != 0 {
+        return code_of(held.refusal, 0);
+    }
+    code_of_bytes(c_forms::plan_bytes(held.plan, &mut *into))
+}
+
+#[no_mangle]
+pub extern "C" fn tallowwing_listing(input: &[u8], into: &mut [u8]) -> u64
+    ensures { λ r. ⌜ (r ≡ listingCode (now (input .entry)) (now (into .entry))) × (now (into .exit) ≡ listingHeld (now (input .entry)) (now (into .entry))) ⌝ }
+{
+    let listed = listing::listing(input, &mut *into);
+    code_of(listed.refusal, listed.len as u64)
+}

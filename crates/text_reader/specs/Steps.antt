@@ -1,0 +1,100 @@
+-- A place among the lines of a text, and what the answers of the steps of reading mean: a refusal, or what was read and the lines behind it.
+use Prim.Native.Nat.{ℕ, _+_, _≤_}
+use mathlib.Core.Path.{_≡_}
+use mathlib.Core.Bool.{Bool}
+use mathlib.Core.List.{List, [], _∷_}
+use lib.ListN.{length, take}
+use Rattle.fields.specs.Fields.{fieldsOf, part}
+use Rattle.fields.specs.Lines.{Line, linesFrom}
+use Rattle.fields.specs.Readers.{no, got}
+use Rattle.soc.specs.Limits.{modulesMax, testsMax}
+use Rattle.soc.specs.Places.{padded}
+use Rattle.soc.specs.Record.{noTest, noModule}
+use Rattle.soc.specs.declared.record.Test.{Test}
+use Rattle.soc.specs.declared.record.Module.{Module}
+use Rattle.text_lines.specs.Kinds.{Name, Options, Shape, Second}
+use Rattle.text_lines.specs.declared.head.NameLine.{NameLine}
+use Rattle.text_lines.specs.declared.level.LevelLine.{LevelLine}
+use Rattle.text_reader.specs.Lines.{LinesRead}
+use Rattle.text_reader.specs.Reading.{Body}
+use Rattle.text_reader.specs.declared.line_reader.LineReader.{LineReader}
+use Rattle.text_reader.specs.declared.place.Place.{Place}
+use Rattle.text_reader.specs.declared.place.Due.{Due}
+use Rattle.text_reader.specs.declared.place.Due.the-variants as due
+use Rattle.text_reader.specs.declared.place.Step.{Step}
+use Rattle.text_reader.specs.declared.place.Step.the-variants as step
+use Rattle.text_reader.specs.declared.block.BodyStep.{BodyStep}
+use Rattle.text_reader.specs.declared.block.BodyStep.the-variants as bodies
+use Rattle.text_reader.specs.declared.block.TestStep.{TestStep}
+use Rattle.text_reader.specs.declared.block.TestStep.the-variants as test
+use Rattle.text_reader.specs.declared.head.CountStep.{CountStep}
+use Rattle.text_reader.specs.declared.head.CountStep.the-variants as count
+use Rattle.text_reader.specs.declared.head.OptionsStep.{OptionsStep}
+use Rattle.text_reader.specs.declared.head.OptionsStep.the-variants as options
+
+-- the place with a beginning and a line's number, and the place that a line reader holds
+abbrev pub placeAt : ℕ → ℕ → Place
+placeAt a n = record { at = a; line = n }
+
+abbrev pub placeOf : LineReader → Place
+placeOf r = placeAt (r .at) (r .line)
+
+-- the lines from a place on
+abbrev pub linesAt : List ℕ → Place → List Line
+linesAt t p = linesFrom (p .line) t (p .at)
+
+-- a place lies in the text, and each line before it has a byte at least
+pub record Inside (t : List ℕ) (p : Place) : Type 0 where
+  pub at : p .at ≤ length t
+  pub line : p .line ≤ p .at + 1
+
+-- the next line: its bytes lie in the text, and it stands first among the lines from here
+pub record LineIs (t : List ℕ) (p : Place) (a e n : ℕ) (q : Place) : Type 0 where
+  pub begin : a ≤ e
+  pub end : e ≤ length t
+  pub inside : Inside t q
+  pub is : linesAt t p ≡ record { number = n; fields = fieldsOf (part t a e) } ∷ linesAt t q
+
+abbrev pub DueIs : List ℕ → Place → Due → Type 0
+DueIs t p (due.Line a e n q) = LineIs t p a e n q
+DueIs t p due.Missing = linesAt t p ≡ []
+
+-- what was read, with the lines behind the place that a step gives
+abbrev pub stepIs : {A : Type 0} → List ℕ → A → Step → LinesRead A
+stepIs t a (step.No r) = no r
+stepIs t a (step.Next q) = got a (linesAt t q)
+
+abbrev pub StepInside : List ℕ → Step → Type 0
+StepInside t (step.No r) = Unit {0}
+StepInside t (step.Next q) = Inside t q
+
+pub record StepMeans {A : Type 0} (t : List ℕ) (a : A) (s : Step) (r : LinesRead A) : Type 0 where
+  pub is : stepIs t a s ≡ r
+  pub inside : StepInside t s
+
+abbrev pub nameIn : NameLine → Name
+nameIn l = record { len = l .len; bytes = l .name }
+
+abbrev pub shapeIn : LevelLine → Shape
+shapeIn l =
+    record {
+      level = l .level;
+      terminals = record { inputs = l .inputs; outputs = l .outputs; bidirs = l .bidirs };
+      chains = record { count = l .«chain_count»; lengths = l .chains };
+    }
+
+abbrev pub CountMeans : List ℕ → CountStep → LinesRead ℕ → Type 0
+CountMeans t (count.No f) r = no f ≡ r
+CountMeans t (count.Is n q) r = (got n (linesAt t q) ≡ r) × Inside t q
+
+abbrev pub OptionsMeans : List ℕ → OptionsStep → LinesRead Options → Type 0
+OptionsMeans t (options.No f) r = no f ≡ r
+OptionsMeans t (options.Are p x q) r = (got (record { power = p; xy = x }) (linesAt t q) ≡ r) × Inside t q
+
+abbrev pub BodyMeans : List ℕ → BodyStep → LinesRead Body → Type 0
+BodyMeans t (bodies.No f) r = no f ≡ r
+BodyMeans t (bodies.Is px py n q) r = (got (record { x = px; y = py; tests = n }) (linesAt t q) ≡ r) × Inside t q
+
+abbrev pub TestMeans : List ℕ → TestStep → LinesRead Test → Type 0
+TestMeans t (test.No f) r = no f ≡ r
+TestMeans t (test.Is d q) r = (got d (linesAt t q) ≡ r) × Inside t q
