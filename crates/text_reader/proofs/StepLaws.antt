@@ -16,12 +16,13 @@ use Rattle.text_lines.specs.Kinds.{Options}
 use Rattle.text_lines.specs.Parts.{refuses, says, whole}
 use Rattle.text_reader.specs.Lines.{LinesRead, judged, line, noMore}
 use Rattle.text_reader.specs.Reading.{Body}
-use Rattle.text_reader.specs.Steps.{linesAt, Inside, LineIs, DueIs, StepMeans, CountMeans, OptionsMeans, BodyMeans, TestMeans}
-use Rattle.text_reader.specs.declared.place.Place.{Place}
-use Rattle.text_reader.specs.declared.place.Due.{Due}
-use Rattle.text_reader.specs.declared.place.Due.the-variants as due
-use Rattle.text_reader.specs.declared.place.Step.{Step}
-use Rattle.text_reader.specs.declared.place.Step.the-variants as step
+use Rattle.text_line_reader.specs.Due.{linesAt, Inside, LineIs, DueIs}
+use Rattle.text_reader.specs.Steps.{StepMeans, CountMeans, OptionsMeans, BodyMeans, TestMeans}
+use Rattle.text_line_reader.specs.declared.place.Place.{Place}
+use Rattle.text_line_reader.specs.declared.place.Due.{Due}
+use Rattle.text_line_reader.specs.declared.place.Due.the-variants as due
+use Rattle.text_reader.specs.declared.step.Step.{Step}
+use Rattle.text_reader.specs.declared.step.Step.the-variants as step
 use Rattle.text_reader.specs.declared.block.BodyStep.{BodyStep}
 use Rattle.text_reader.specs.declared.block.BodyStep.the-variants as bodies
 use Rattle.text_reader.specs.declared.block.TestStep.{TestStep}

@@ -1,4 +1,4 @@
--- A place among the lines of a text, and what the answers of the steps of reading mean: a refusal, or what was read and the lines behind it.
+-- What the answers of the steps of reading mean: a refusal, or what was read and the lines behind it.
 use Prim.Native.Nat.{ℕ, _+_, _≤_}
 use mathlib.Core.Path.{_≡_}
 use mathlib.Core.Bool.{Bool}
@@ -15,14 +15,11 @@ use Rattle.soc.specs.declared.record.Module.{Module}
 use Rattle.text_lines.specs.Kinds.{Name, Options, Shape, Second}
 use Rattle.text_lines.specs.declared.head.NameLine.{NameLine}
 use Rattle.text_lines.specs.declared.level.LevelLine.{LevelLine}
+use Rattle.text_line_reader.specs.Due.{linesAt, Inside}
 use Rattle.text_reader.specs.Lines.{LinesRead}
 use Rattle.text_reader.specs.Reading.{Body}
-use Rattle.text_reader.specs.declared.line_reader.LineReader.{LineReader}
-use Rattle.text_reader.specs.declared.place.Place.{Place}
-use Rattle.text_reader.specs.declared.place.Due.{Due}
-use Rattle.text_reader.specs.declared.place.Due.the-variants as due
-use Rattle.text_reader.specs.declared.place.Step.{Step}
-use Rattle.text_reader.specs.declared.place.Step.the-variants as step
+use Rattle.text_reader.specs.declared.step.Step.{Step}
+use Rattle.text_reader.specs.declared.step.Step.the-variants as step
 use Rattle.text_reader.specs.declared.block.BodyStep.{BodyStep}
 use Rattle.text_reader.specs.declared.block.BodyStep.the-variants as bodies
 use Rattle.text_reader.specs.declared.block.TestStep.{TestStep}
@@ -31,33 +28,6 @@ use Rattle.text_reader.specs.declared.head.CountStep.{CountStep}
 use Rattle.text_reader.specs.declared.head.CountStep.the-variants as count
 use Rattle.text_reader.specs.declared.head.OptionsStep.{OptionsStep}
 use Rattle.text_reader.specs.declared.head.OptionsStep.the-variants as options
-
--- the place with a beginning and a line's number, and the place that a line reader holds
-abbrev pub placeAt : ℕ → ℕ → Place
-placeAt a n = record { at = a; line = n }
-
-abbrev pub placeOf : LineReader → Place
-placeOf r = placeAt (r .at) (r .line)
-
--- the lines from a place on
-abbrev pub linesAt : List ℕ → Place → List Line
-linesAt t p = linesFrom (p .line) t (p .at)
-
--- a place lies in the text, and each line before it has a byte at least
-pub record Inside (t : List ℕ) (p : Place) : Type 0 where
-  pub at : p .at ≤ length t
-  pub line : p .line ≤ p .at + 1
-
--- the next line: its bytes lie in the text, and it stands first among the lines from here
-pub record LineIs (t : List ℕ) (p : Place) (a e n : ℕ) (q : Place) : Type 0 where
-  pub begin : a ≤ e
-  pub end : e ≤ length t
-  pub inside : Inside t q
-  pub is : linesAt t p ≡ record { number = n; fields = fieldsOf (part t a e) } ∷ linesAt t q
-
-abbrev pub DueIs : List ℕ → Place → Due → Type 0
-DueIs t p (due.Line a e n q) = LineIs t p a e n q
-DueIs t p due.Missing = linesAt t p ≡ []
 
 -- what was read, with the lines behind the place that a step gives
 abbrev pub stepIs : {A : Type 0} → List ℕ → A → Step → LinesRead A

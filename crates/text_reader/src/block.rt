@@ -1,18 +1,18 @@
 // The lines of one module.
 use super::head::CountStep;
-use super::line_reader::due_line;
-use super::place::Due;
-use super::place::Place;
-use super::place::Step;
-use super::place::missing;
+use super::step::Step;
+use super::step::missing;
+use soc::Module;
+use soc::NOT_GIVEN;
+use soc::Test;
+use text_line_reader::Due;
+use text_line_reader::Place;
+use text_line_reader::due_line;
 use text_lines::Count;
 use text_lines::LevelLine;
 use text_lines::SecondLine;
 use text_lines::TestLine;
 use text_lines::Verdict;
-use soc::Module;
-use soc::NOT_GIVEN;
-use soc::Test;
 use units::Refusal;
 ghost use mathlib.Core.Path.{_≡_};
 ghost use Prim.Native.Nat.{_≤_};
@@ -23,7 +23,8 @@ ghost use Rattle.soc.specs.Places.{padded};
 ghost use Rattle.soc.specs.Record.{noTest};
 ghost use Rattle.text_reader.specs.Lines.{line};
 ghost use Rattle.text_reader.specs.Reading.{body, tests, moduleTests, moduleRest, moduleLines};
-ghost use Rattle.text_reader.specs.Steps.{Inside, linesAt, StepMeans, shapeIn, CountMeans, BodyMeans, TestMeans};
+ghost use Rattle.text_line_reader.specs.Due.{Inside, linesAt};
+ghost use Rattle.text_reader.specs.Steps.{StepMeans, shapeIn, CountMeans, BodyMeans, TestMeans};
 
 pub struct LevelStep {
     pub step: Step,

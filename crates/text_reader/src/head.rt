@@ -1,9 +1,9 @@
 // The first three lines of a text.
-use super::line_reader::due_line;
-use super::place::Due;
-use super::place::Place;
-use super::place::Step;
-use super::place::missing;
+use super::step::Step;
+use super::step::missing;
+use text_line_reader::Due;
+use text_line_reader::Place;
+use text_line_reader::due_line;
 use text_lines::Count;
 use text_lines::NameLine;
 use text_lines::OptionsLine;
@@ -12,7 +12,8 @@ use units::Refusal;
 ghost use mathlib.Core.Path.{_≡_};
 ghost use Rattle.text_lines.specs.Kinds.{nameLine, totalLine, optionsLine};
 ghost use Rattle.text_reader.specs.Lines.{line};
-ghost use Rattle.text_reader.specs.Steps.{Inside, linesAt, StepMeans, nameIn, CountMeans, OptionsMeans};
+ghost use Rattle.text_line_reader.specs.Due.{Inside, linesAt};
+ghost use Rattle.text_reader.specs.Steps.{StepMeans, nameIn, CountMeans, OptionsMeans};
 
 pub struct NameStep {
     pub step: Step,

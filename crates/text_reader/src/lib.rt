@@ -1,9 +1,8 @@
 // A SOC text read to its record, or to its first refusal (document 01, "The SOC text").
 mod block;
 mod head;
-mod line_reader;
-mod place;
 mod read;
+mod step;
 
 pub use read::SocRead;
 pub use read::TEXT_MAX;

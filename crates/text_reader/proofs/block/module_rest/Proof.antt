@@ -8,7 +8,7 @@ use Rattle.fields.specs.Readers.{got}
 use Rattle.fields.proofs.ReaderLaws.{after-no, after-got}
 use Rattle.soc.proofs.FigureLaws.{figure-back}
 use Rattle.text_reader.specs.Reading.{body, moduleRest}
-use Rattle.text_reader.specs.Steps.{linesAt, Inside}
+use Rattle.text_line_reader.specs.Due.{linesAt, Inside}
 use Rattle.text_reader.proofs.CountLaws.{body-count}
 use Rattle.text_reader.proofs.StepLaws.{body-step-no, body-step-is, step-refuses, step-as}
 use Rattle.text_reader.proofs.block.module_rest.Statement.{statement}

@@ -6,7 +6,8 @@ use Rattle.fields.proofs.ReaderLaws.{after-no, after-got}
 use Rattle.text_lines.specs.Kinds.{levelLine}
 use Rattle.text_reader.specs.Lines.{line}
 use Rattle.text_reader.specs.Reading.{moduleLines}
-use Rattle.text_reader.specs.Steps.{linesAt, Inside, shapeIn}
+use Rattle.text_line_reader.specs.Due.{linesAt, Inside}
+use Rattle.text_reader.specs.Steps.{shapeIn}
 use Rattle.text_reader.proofs.StepLaws.{step-no, step-next, step-refuses, step-as}
 use Rattle.text_reader.proofs.block.module_step.Statement.{statement}
 use Rattle.text_reader.proofs.block.module_step.Tie as tie

@@ -13,7 +13,8 @@ use Rattle.soc.specs.Record.{noTest}
 use Rattle.text_lines.specs.Kinds.{testLine}
 use Rattle.text_lines.proofs.LevelLaws.{spare-behind, spare-set, spare-padded}
 use Rattle.text_reader.specs.Lines.{line}
-use Rattle.text_reader.specs.Steps.{linesAt, Inside, TestMeans}
+use Rattle.text_line_reader.specs.Due.{linesAt, Inside}
+use Rattle.text_reader.specs.Steps.{TestMeans}
 use Rattle.text_reader.proofs.StepLaws.{test-step-no, test-step-is}
 use Rattle.text_reader.proofs.block.tests_step.Statement.{statement}
 use Rattle.text_reader.proofs.block.tests_step.Tie as tie

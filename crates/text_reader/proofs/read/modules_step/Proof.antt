@@ -13,7 +13,7 @@ use Rattle.fields.proofs.ReaderLaws.{prepend, prepend-none}
 use Rattle.soc.specs.Record.{noModule}
 use Rattle.text_lines.proofs.LevelLaws.{spare-behind, spare-set, spare-padded}
 use Rattle.text_reader.specs.Reading.{moduleLines, modules}
-use Rattle.text_reader.specs.Steps.{linesAt, Inside}
+use Rattle.text_line_reader.specs.Due.{linesAt, Inside}
 use Rattle.text_reader.proofs.ModulesLaws.{modules-no, modules-more, modules-end}
 use Rattle.text_reader.proofs.StepLaws.{step-no, step-next}
 use Rattle.text_reader.proofs.read.modules_step.Statement.{statement}

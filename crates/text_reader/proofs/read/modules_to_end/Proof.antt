@@ -6,7 +6,7 @@ use lib.ListN.{take}
 use Rattle.fields.specs.Readers.{no, got}
 use Rattle.fields.proofs.ReaderLaws.{after-no, after-got}
 use Rattle.text_reader.specs.Reading.{modules, rest, refusedSoc, answer}
-use Rattle.text_reader.specs.Steps.{linesAt, Inside}
+use Rattle.text_line_reader.specs.Due.{linesAt, Inside}
 use Rattle.text_reader.proofs.StepLaws.{no-more-line, no-more-end, due-found, due-missing, step-no, step-next}
 use Rattle.text_reader.proofs.read.modules_to_end.Statement.{statement}
 use Rattle.text_reader.proofs.read.modules_to_end.Tie as tie

@@ -7,7 +7,8 @@ use Rattle.fields.proofs.ReaderLaws.{after-no, after-got}
 use Rattle.text_lines.specs.Kinds.{totalLine, optionsLine}
 use Rattle.text_reader.specs.Lines.{line}
 use Rattle.text_reader.specs.Reading.{rest, behindName, answer}
-use Rattle.text_reader.specs.Steps.{linesAt, Inside, nameIn}
+use Rattle.text_line_reader.specs.Due.{linesAt, Inside}
+use Rattle.text_reader.specs.Steps.{nameIn}
 use Rattle.text_reader.proofs.CountLaws.{total-count}
 use Rattle.text_reader.proofs.StepLaws.{count-step-no, count-step-is, options-step-no, options-step-are}
 use Rattle.text_reader.proofs.read.read_behind_name.Statement.{statement}

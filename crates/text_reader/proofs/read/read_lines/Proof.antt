@@ -8,7 +8,8 @@ use Rattle.fields.proofs.ReaderLaws.{after-no, after-got}
 use Rattle.text_lines.specs.Kinds.{nameLine}
 use Rattle.text_reader.specs.Lines.{line}
 use Rattle.text_reader.specs.Reading.{soc, answer}
-use Rattle.text_reader.specs.Steps.{linesAt, Inside, nameIn}
+use Rattle.text_line_reader.specs.Due.{linesAt, Inside}
+use Rattle.text_reader.specs.Steps.{nameIn}
 use Rattle.text_reader.proofs.StepLaws.{step-no, step-next}
 use Rattle.text_reader.proofs.read.read_lines.Statement.{statement}
 use Rattle.text_reader.proofs.read.read_lines.Tie as tie

@@ -1,4 +1,4 @@
--- `text_reader::line_reader::LineReader::moved` meets its contract: a walk of its MIR, by hand. A reader is made anew of the slice that the one passed holds, and two other numbers.
+-- `text_line_reader::line_reader::LineReader::moved` meets its contract: a walk of its MIR, by hand. A reader is made anew of the slice that the one passed holds, and two other numbers.
 -- The reader is Copy: what it owns is had twice, one copy is kept whole for the exit, and the other is what the result owns, once the facts of the numbers have taken the places of at's and of line's, one after the other.
 -- Assumes nothing.
 use mathlib.Core.Path.{refl}
@@ -34,13 +34,13 @@ use denote.Triple.Spec.{Meets, tripleOf}
 use denote.Triple.Table.{entered}
 use denote.Triple.Walked.{says, Stays, stay-none, walkOf, goes-none, Walks, ends-at, walked, walk-meets}
 use denote.Exit.{yes}
-use Rattle.text_reader.specs.declared.line_reader.LineReader.{LineReader}
-use Rattle.text_reader.proofs.line_reader.LineReader as T
-use Rattle.text_reader.proofs.line_reader.LineReader.Laws as T′
-use Rattle.text_reader.proofs.line_reader.LineReader.moved.Key.{name as #text_reader·moved}
-use Rattle.text_reader.proofs.line_reader.LineReader.moved as moved
-use Rattle.text_reader.proofs.line_reader.LineReader.moved.Statement as stated
-use Rattle.text_reader.proofs.line_reader.LineReader.moved.Code as code
+use Rattle.text_line_reader.specs.declared.line_reader.LineReader.{LineReader}
+use Rattle.text_line_reader.proofs.line_reader.LineReader as T
+use Rattle.text_line_reader.proofs.line_reader.LineReader.Laws as T′
+use Rattle.text_line_reader.proofs.line_reader.LineReader.moved.Key.{name as #text_line_reader·moved}
+use Rattle.text_line_reader.proofs.line_reader.LineReader.moved as moved
+use Rattle.text_line_reader.proofs.line_reader.LineReader.moved.Statement as stated
+use Rattle.text_line_reader.proofs.line_reader.LineReader.moved.Code as code
 
 -- the reader's type, over the signature's lifetimes
 abbrev B : Lfts 1 → RattleType
@@ -103,5 +103,5 @@ pub moved-spec : {M : Type 1} → stated.statement M
 unfolding code.routine tablesOf
 moved-spec 𝓤 H 𝓜 𝓖 𝓡 =
     entered 𝓤 H (tripleOf 𝓤 H (𝓖 .A) moved.signature (moved.spec 𝓤 H (𝓖 .A) (𝓜 .mem) (𝓡 .run)))
-    (tables 𝓤 H 𝓜 𝓡 code.env .C) (tables 𝓤 H 𝓜 𝓡 code.env .Λ) #text_reader·moved code.function (code.unfolded 𝓤 H 𝓜 𝓡)
+    (tables 𝓤 H 𝓜 𝓡 code.env .C) (tables 𝓤 H 𝓜 𝓡 code.env .Λ) #text_line_reader·moved code.function (code.unfolded 𝓤 H 𝓜 𝓡)
     (moved-meets 𝓤 H (𝓖 .A) (givenOf 𝓤 H 𝓜 𝓖) (𝓜 .mem) (𝓡 .run) (tablesOf 𝓤 H 𝓜 (tables 𝓤 H 𝓜 𝓡 code.env)))

@@ -1,4 +1,4 @@
--- `text_reader::line_reader::due_line` meets its contract: a walk of its MIR, by hand. A reader is made of the text, moved to the place, and asked for its next line; each reader stands in a local and is passed on as it is. All that the proof knows of `new`, `moved` and `next_line` is that each meets its contract.
+-- `text_line_reader::line_reader::due_line` meets its contract: a walk of its MIR, by hand. A reader is made of the text, moved to the place, and asked for its next line; each reader stands in a local and is passed on as it is. All that the proof knows of `new`, `moved` and `next_line` is that each meets its contract.
 -- In a local of a body MIR erases the lifetime of the reader's type, so a reader is shown to have the type at `erased`: what it owns does not say the lifetime's name.
 -- Assumes nothing.
 use mathlib.Core.Path.{_≡_, refl, sym, subst, _∙_}
@@ -40,32 +40,32 @@ use denote.Triple.Table.{entered, cited}
 use denote.Triple.Walked.{says, needs, Stays, stay-none, stay-none-slice, walkOf, goes-none, goes-none-slice, Walks, ends-at, walked, walk-meets}
 use denote.Exit.{yes}
 use denote.Triple.Clauses.{ensured, lasts}
-use Rattle.text_reader.specs.Steps.{Inside, DueIs, placeOf}
-use Rattle.text_reader.specs.declared.line_reader.LineReader.{LineReader}
-use Rattle.text_reader.specs.declared.place.Due.{Due}
-use Rattle.text_reader.specs.declared.place.Place.{Place}
-use Rattle.text_reader.proofs.line_reader.LineReader as T
-use Rattle.text_reader.proofs.line_reader.LineReader.Laws as T′
-use Rattle.text_reader.proofs.place.Place as P
-use Rattle.text_reader.proofs.place.Place.Laws as P′
-use Rattle.text_reader.proofs.place.Due as S
-use Rattle.text_reader.proofs.place.Due.Laws as S′
-use Rattle.text_reader.proofs.line_reader.LineReader.new as new
-use Rattle.text_reader.proofs.line_reader.LineReader.new.Symbol as new-def
-use Rattle.text_reader.proofs.line_reader.LineReader.new.Symbol.{name as #text_reader·new}
-use Rattle.text_reader.proofs.line_reader.LineReader.new.Met as new-thm
-use Rattle.text_reader.proofs.line_reader.LineReader.moved as moved
-use Rattle.text_reader.proofs.line_reader.LineReader.moved.Symbol as moved-def
-use Rattle.text_reader.proofs.line_reader.LineReader.moved.Symbol.{name as #text_reader·moved}
-use Rattle.text_reader.proofs.line_reader.LineReader.moved.Met as moved-thm
-use Rattle.text_reader.proofs.line_reader.LineReader.next_line as next
-use Rattle.text_reader.proofs.line_reader.LineReader.next_line.Symbol as next-def
-use Rattle.text_reader.proofs.line_reader.LineReader.next_line.Symbol.{name as #text_reader·next-line}
-use Rattle.text_reader.proofs.line_reader.LineReader.next_line.Met as next-thm
-use Rattle.text_reader.proofs.line_reader.due_line.Key.{name as #text_reader·due-line}
-use Rattle.text_reader.proofs.line_reader.due_line as due-line
-use Rattle.text_reader.proofs.line_reader.due_line.Statement as stated
-use Rattle.text_reader.proofs.line_reader.due_line.Code as code
+use Rattle.text_line_reader.specs.Due.{Inside, DueIs, placeOf}
+use Rattle.text_line_reader.specs.declared.line_reader.LineReader.{LineReader}
+use Rattle.text_line_reader.specs.declared.place.Due.{Due}
+use Rattle.text_line_reader.specs.declared.place.Place.{Place}
+use Rattle.text_line_reader.proofs.line_reader.LineReader as T
+use Rattle.text_line_reader.proofs.line_reader.LineReader.Laws as T′
+use Rattle.text_line_reader.proofs.place.Place as P
+use Rattle.text_line_reader.proofs.place.Place.Laws as P′
+use Rattle.text_line_reader.proofs.place.Due as S
+use Rattle.text_line_reader.proofs.place.Due.Laws as S′
+use Rattle.text_line_reader.proofs.line_reader.LineReader.new as new
+use Rattle.text_line_reader.proofs.line_reader.LineReader.new.Symbol as new-def
+use Rattle.text_line_reader.proofs.line_reader.LineReader.new.Symbol.{name as #text_line_reader·new}
+use Rattle.text_line_reader.proofs.line_reader.LineReader.new.Met as new-thm
+use Rattle.text_line_reader.proofs.line_reader.LineReader.moved as moved
+use Rattle.text_line_reader.proofs.line_reader.LineReader.moved.Symbol as moved-def
+use Rattle.text_line_reader.proofs.line_reader.LineReader.moved.Symbol.{name as #text_line_reader·moved}
+use Rattle.text_line_reader.proofs.line_reader.LineReader.moved.Met as moved-thm
+use Rattle.text_line_reader.proofs.line_reader.LineReader.next_line as next
+use Rattle.text_line_reader.proofs.line_reader.LineReader.next_line.Symbol as next-def
+use Rattle.text_line_reader.proofs.line_reader.LineReader.next_line.Symbol.{name as #text_line_reader·next-line}
+use Rattle.text_line_reader.proofs.line_reader.LineReader.next_line.Met as next-thm
+use Rattle.text_line_reader.proofs.line_reader.due_line.Key.{name as #text_line_reader·due-line}
+use Rattle.text_line_reader.proofs.line_reader.due_line as due-line
+use Rattle.text_line_reader.proofs.line_reader.due_line.Statement as stated
+use Rattle.text_line_reader.proofs.line_reader.due_line.Code as code
 
 -- the reader's type, over the signature's lifetimes
 abbrev B : Lfts 1 → RattleType
@@ -179,7 +179,7 @@ module _ {M : Type 1} (𝓤 : URA M) (H : Heap 𝓤) (A : Atoms 𝓤) (W : Given
   said-here : (m : LineReader) (t : Due) → m ≡ reader s p → DueIs (now (m .text)) (placeOf m) t → DueIs (now s) p t
   said-here m t e is = subst (λ (x : LineReader). DueIs (now (x .text)) (placeOf x) t) e is
 
-  module _ (C : Calls 𝓤 H) (Λ : Loops 𝓤 H) (fm : FmC 𝓤 H (W .laws) C) (known-new : Triple 𝓤 (C #text_reader·new) (New 𝓤 H A mem run)) (known-moved : Triple 𝓤 (C #text_reader·moved) (Moved 𝓤 H A mem run)) (known-next : Triple 𝓤 (C #text_reader·next-line) (Next 𝓤 H A mem run)) where
+  module _ (C : Calls 𝓤 H) (Λ : Loops 𝓤 H) (fm : FmC 𝓤 H (W .laws) C) (known-new : Triple 𝓤 (C #text_line_reader·new) (New 𝓤 H A mem run)) (known-moved : Triple 𝓤 (C #text_line_reader·moved) (Moved 𝓤 H A mem run)) (known-next : Triple 𝓤 (C #text_line_reader·next-line) (Next 𝓤 H A mem run)) where
     walk : Inside (now s) p → Is (ShrSlice (named 0) κ u8) s (v ∷ []) → Holds (hasTy P′.mir vp) × WT vp → ent 𝓤 (onEntry 𝓤 H A due-line.signature (κ, tt) (q, tt) (s, (p, tt)) at) (WpFn 𝓤 H C Λ code.function (v ∷ vp ∷ []) Post)
     walk inside is-s wt =
         qed W (raw (onEntry 𝓤 H A due-line.signature (κ, tt) (q, tt) (s, (p, tt)) at) ∷ []) ∵ enter ! C Λ code.function (v ∷ vp ∷ []) _ $
@@ -212,13 +212,13 @@ module _ {M : Type 1} (𝓤 : URA M) (H : Heap 𝓤) (A : Atoms 𝓤) (W : Given
         by ! (exits t u₂ (said-here m t (moved-reader s p r m e f) g)))))))))))))))))))
 
 module _ {M : Type 1} (𝓤 : URA M) (H : Heap 𝓤) (A : Atoms 𝓤) (W : Given 𝓤 H A) (mem : Memory → SProp 𝓤) (run : Routine → Fun 𝓤) where
-  due-line-walks : (C : Calls 𝓤 H) (Λ : Loops 𝓤 H) → FmC 𝓤 H (W .laws) C → Triple 𝓤 (C #text_reader·new) (New 𝓤 H A mem run) → Triple 𝓤 (C #text_reader·moved) (Moved 𝓤 H A mem run) → Triple 𝓤 (C #text_reader·next-line) (Next 𝓤 H A mem run)
+  due-line-walks : (C : Calls 𝓤 H) (Λ : Loops 𝓤 H) → FmC 𝓤 H (W .laws) C → Triple 𝓤 (C #text_line_reader·new) (New 𝓤 H A mem run) → Triple 𝓤 (C #text_line_reader·moved) (Moved 𝓤 H A mem run) → Triple 𝓤 (C #text_line_reader·next-line) (Next 𝓤 H A mem run)
       → Walks 𝓤 H A due-line.ended stayed (WpFn 𝓤 H C Λ code.function) (due-line.clauses 𝓤 H A mem run)
   due-line-walks C Λ fm known-new known-moved known-next = walked 𝓤 H A due-line.ended stayed (due-line.clauses 𝓤 H A mem run) (WpFn 𝓤 H C Λ code.function) (λ κs. (slice-vals, (LL.vals P.the-type P′.the-laws, tt))) (λ κs. (shr-slice-tells (named 0) (κs .0) u8, (LL.tells P.the-type P′.the-laws, tt)))
       (λ κs qs bounds a g are. needs 𝓤 _ _ (λ inside. walk 𝓤 H A W mem run (κs .0) (qs .0) (a .0) (a .1 .0) C Λ fm known-new known-moved known-next inside (are .0) (LL.lawful P.the-type P′.the-laws 𝓤 H A W .typed (a .1 .0) _ (are .1 .0) .0)))
 
 due-line-meets : {M : Type 1} (𝓤 : URA M) (H : Heap 𝓤) (A : Atoms 𝓤) (W : Given 𝓤 H A) (mem : Memory → SProp 𝓤) (run : Routine → Fun 𝓤) (𝓣 : Tables 𝓤 H)
-    → Triple 𝓤 (𝓣 .C #text_reader·new) (New 𝓤 H A mem run) → Triple 𝓤 (𝓣 .C #text_reader·moved) (Moved 𝓤 H A mem run) → Triple 𝓤 (𝓣 .C #text_reader·next-line) (Next 𝓤 H A mem run)
+    → Triple 𝓤 (𝓣 .C #text_line_reader·new) (New 𝓤 H A mem run) → Triple 𝓤 (𝓣 .C #text_line_reader·moved) (Moved 𝓤 H A mem run) → Triple 𝓤 (𝓣 .C #text_line_reader·next-line) (Next 𝓤 H A mem run)
     → Meets 𝓤 H A due-line.signature (WpFn 𝓤 H (𝓣 .C) (𝓣 .Λ) code.function) (due-line.spec 𝓤 H A mem run)
 due-line-meets 𝓤 H A W mem run 𝓣 known-new known-moved known-next =
     walk-meets 𝓤 H A due-line.ended stayed W (goes-none-slice 𝓤 H A W 1 (0 ∷ []) tt (plain (λ _. u8)) yes, (goes-none 𝓤 H A W 1 (λ _. P.the-row) yes (λ κs x f. refl), tt)) (due-line.clauses 𝓤 H A mem run)
@@ -228,8 +228,8 @@ pub due-line-spec : {M : Type 1} → stated.statement M
 unfolding code.routine tablesOf
 due-line-spec 𝓤 H 𝓜 𝓖 𝓡 =
     entered 𝓤 H (tripleOf 𝓤 H (𝓖 .A) due-line.signature (due-line.spec 𝓤 H (𝓖 .A) (𝓜 .mem) (𝓡 .run)))
-    (tables 𝓤 H 𝓜 𝓡 code.env .C) (tables 𝓤 H 𝓜 𝓡 code.env .Λ) #text_reader·due-line code.function (code.unfolded 𝓤 H 𝓜 𝓡)
+    (tables 𝓤 H 𝓜 𝓡 code.env .C) (tables 𝓤 H 𝓜 𝓡 code.env .Λ) #text_line_reader·due-line code.function (code.unfolded 𝓤 H 𝓜 𝓡)
     (due-line-meets 𝓤 H (𝓖 .A) (givenOf 𝓤 H 𝓜 𝓖) (𝓜 .mem) (𝓡 .run) (tablesOf 𝓤 H 𝓜 (tables 𝓤 H 𝓜 𝓡 code.env))
-    (cited 𝓤 H (New 𝓤 H (𝓖 .A) (𝓜 .mem) (𝓡 .run)) 𝓜 𝓡 code.env #text_reader·new new-def.routine code.calls-text_reader·line-reader·LineReader·new (new-thm.met 𝓤 H 𝓜 𝓖 𝓡))
-    (cited 𝓤 H (Moved 𝓤 H (𝓖 .A) (𝓜 .mem) (𝓡 .run)) 𝓜 𝓡 code.env #text_reader·moved moved-def.routine code.calls-text_reader·line-reader·LineReader·moved (moved-thm.met 𝓤 H 𝓜 𝓖 𝓡))
-    (cited 𝓤 H (Next 𝓤 H (𝓖 .A) (𝓜 .mem) (𝓡 .run)) 𝓜 𝓡 code.env #text_reader·next-line next-def.routine code.calls-text_reader·line-reader·LineReader·next-line (next-thm.met 𝓤 H 𝓜 𝓖 𝓡)))
+    (cited 𝓤 H (New 𝓤 H (𝓖 .A) (𝓜 .mem) (𝓡 .run)) 𝓜 𝓡 code.env #text_line_reader·new new-def.routine code.calls-text-line-reader·line-reader·LineReader·new (new-thm.met 𝓤 H 𝓜 𝓖 𝓡))
+    (cited 𝓤 H (Moved 𝓤 H (𝓖 .A) (𝓜 .mem) (𝓡 .run)) 𝓜 𝓡 code.env #text_line_reader·moved moved-def.routine code.calls-text-line-reader·line-reader·LineReader·moved (moved-thm.met 𝓤 H 𝓜 𝓖 𝓡))
+    (cited 𝓤 H (Next 𝓤 H (𝓖 .A) (𝓜 .mem) (𝓡 .run)) 𝓜 𝓡 code.env #text_line_reader·next-line next-def.routine code.calls-text-line-reader·line-reader·LineReader·next-line (next-thm.met 𝓤 H 𝓜 𝓖 𝓡)))

@@ -4,7 +4,7 @@ use super::place::Due;
 use super::place::Place;
 use fields::NextLine;
 ghost use mathlib.Core.Path.{_≡_};
-ghost use Rattle.text_reader.specs.Steps.{Inside, DueIs, placeAt, placeOf};
+ghost use Rattle.text_line_reader.specs.Due.{Inside, DueIs, placeAt, placeOf};
 
 pub struct LineReader<'a> {
     pub text: &'a [u8],
@@ -66,7 +66,7 @@ impl<'a> LineReader<'a> {
 }
 
 // The one function above the reader whose parameters are plain: whoever calls it needs no walk.
-pub(crate) fn due_line(text: &[u8], p: Place) -> Due
+pub fn due_line(text: &[u8], p: Place) -> Due
     requires { ⌜ Inside (now text) p ⌝ }
     ensures { λ r. ⌜ DueIs (now (text .entry)) p r ⌝ }
 {

@@ -1,4 +1,4 @@
--- `text_reader::line_reader::LineReader::new` meets its contract: a walk of its MIR, by hand. A reader is made of the slice passed, 0 and 1, in the result's local.
+-- `text_line_reader::line_reader::LineReader::new` meets its contract: a walk of its MIR, by hand. A reader is made of the slice passed, 0 and 1, in the result's local.
 -- A `&[u8]` is Copy, so what it owns is had twice: once for text at exit, and once inside the result, beside the facts of the two numbers.
 -- Assumes nothing.
 use mathlib.Core.Path.{refl}
@@ -35,13 +35,13 @@ use denote.Triple.Spec.{Meets, tripleOf}
 use denote.Triple.Table.{entered}
 use denote.Triple.Walked.{says, Stays, stay-none-slice, walkOf, goes-none-slice, Walks, ends-at, walked, walk-meets}
 use denote.Exit.{yes}
-use Rattle.text_reader.specs.declared.line_reader.LineReader.{LineReader}
-use Rattle.text_reader.proofs.line_reader.LineReader as T
-use Rattle.text_reader.proofs.line_reader.LineReader.Laws as T′
-use Rattle.text_reader.proofs.line_reader.LineReader.new.Key.{name as #text_reader·new}
-use Rattle.text_reader.proofs.line_reader.LineReader.new as new
-use Rattle.text_reader.proofs.line_reader.LineReader.new.Statement as stated
-use Rattle.text_reader.proofs.line_reader.LineReader.new.Code as code
+use Rattle.text_line_reader.specs.declared.line_reader.LineReader.{LineReader}
+use Rattle.text_line_reader.proofs.line_reader.LineReader as T
+use Rattle.text_line_reader.proofs.line_reader.LineReader.Laws as T′
+use Rattle.text_line_reader.proofs.line_reader.LineReader.new.Key.{name as #text_line_reader·new}
+use Rattle.text_line_reader.proofs.line_reader.LineReader.new as new
+use Rattle.text_line_reader.proofs.line_reader.LineReader.new.Statement as stated
+use Rattle.text_line_reader.proofs.line_reader.LineReader.new.Code as code
 
 abbrev stayed : Stays (new.ended .signature .params) (new.ended .kept)
 stayed = (stay-none-slice (0 ∷ []) tt (plain (λ _. u8)) yes, tt)
@@ -97,5 +97,5 @@ pub new-spec : {M : Type 1} → stated.statement M
 unfolding code.routine tablesOf
 new-spec 𝓤 H 𝓜 𝓖 𝓡 =
     entered 𝓤 H (tripleOf 𝓤 H (𝓖 .A) new.signature (new.spec 𝓤 H (𝓖 .A) (𝓜 .mem) (𝓡 .run)))
-    (tables 𝓤 H 𝓜 𝓡 code.env .C) (tables 𝓤 H 𝓜 𝓡 code.env .Λ) #text_reader·new code.function (code.unfolded 𝓤 H 𝓜 𝓡)
+    (tables 𝓤 H 𝓜 𝓡 code.env .C) (tables 𝓤 H 𝓜 𝓡 code.env .Λ) #text_line_reader·new code.function (code.unfolded 𝓤 H 𝓜 𝓡)
     (new-meets 𝓤 H (𝓖 .A) (givenOf 𝓤 H 𝓜 𝓖) (𝓜 .mem) (𝓡 .run) (tablesOf 𝓤 H 𝓜 (tables 𝓤 H 𝓜 𝓡 code.env)))

@@ -1,11 +1,11 @@
--- `text_reader::line_reader::line_from` meets its contract, by the laws of what `fields::next_line` answers. A line's number is at most one above its place, so it
+-- `text_line_reader::line_reader::line_from` meets its contract, by the laws of what `fields::next_line` answers. A line's number is at most one above its place, so it
 -- fits. Assumes nothing.
 use borrow.Author.Needs.{needs}
 use native.Mathlib.Omega.{arith}
 use Rattle.fields.specs.Lines.{Placed}
 use Rattle.fields.proofs.LineLaws.{found-placed, found-lines, end-lines}
-use Rattle.text_reader.proofs.line_reader.line_from.Statement.{statement}
-use Rattle.text_reader.proofs.line_reader.line_from.Tie as tie
+use Rattle.text_line_reader.proofs.line_reader.line_from.Statement.{statement}
+use Rattle.text_line_reader.proofs.line_reader.line_from.Tie as tie
 
 -- where the line was found
 placed : (c : tie.After-a) → let s = c .before .before .before .before in let g = c .a .given .0 in

@@ -1,4 +1,4 @@
--- `text_reader::line_reader::LineReader::next_line` meets its contract: a walk of its MIR, by hand. The reader is taken apart, and `line_from` is called on the slice and the numbers. All that the proof knows of `line_from` is that it meets its contract.
+-- `text_line_reader::line_reader::LineReader::next_line` meets its contract: a walk of its MIR, by hand. The reader is taken apart, and `line_from` is called on the slice and the numbers. All that the proof knows of `line_from` is that it meets its contract.
 -- The reader is Copy: what it owns is had twice, one copy is kept whole for the exit, and the other, opened, is what the callee asks, since it takes the fields in their order. The lifetime's token goes with it, and comes back.
 -- Assumes nothing.
 use mathlib.Core.Path.{_≡_, refl}
@@ -41,21 +41,21 @@ use denote.Triple.Table.{entered, cited}
 use denote.Triple.Walked.{says, needs, Stays, stay-none, walkOf, goes-none, Walks, ends-at, walked, walk-meets}
 use denote.Exit.{yes}
 use denote.Triple.Clauses.{ensured, lasts}
-use Rattle.text_reader.specs.Steps.{Inside, DueIs, placeOf}
-use Rattle.text_reader.specs.declared.line_reader.LineReader.{LineReader}
-use Rattle.text_reader.specs.declared.place.Due.{Due}
-use Rattle.text_reader.proofs.line_reader.LineReader as T
-use Rattle.text_reader.proofs.line_reader.LineReader.Laws as T′
-use Rattle.text_reader.proofs.place.Due as S
-use Rattle.text_reader.proofs.place.Due.Laws as S′
-use Rattle.text_reader.proofs.line_reader.line_from as line-from
-use Rattle.text_reader.proofs.line_reader.line_from.Symbol as line-from-def
-use Rattle.text_reader.proofs.line_reader.line_from.Symbol.{name as #text_reader·line-from}
-use Rattle.text_reader.proofs.line_reader.line_from.Met as line-from-thm
-use Rattle.text_reader.proofs.line_reader.LineReader.next_line.Key.{name as #text_reader·next-line}
-use Rattle.text_reader.proofs.line_reader.LineReader.next_line as next
-use Rattle.text_reader.proofs.line_reader.LineReader.next_line.Statement as stated
-use Rattle.text_reader.proofs.line_reader.LineReader.next_line.Code as code
+use Rattle.text_line_reader.specs.Due.{Inside, DueIs, placeOf}
+use Rattle.text_line_reader.specs.declared.line_reader.LineReader.{LineReader}
+use Rattle.text_line_reader.specs.declared.place.Due.{Due}
+use Rattle.text_line_reader.proofs.line_reader.LineReader as T
+use Rattle.text_line_reader.proofs.line_reader.LineReader.Laws as T′
+use Rattle.text_line_reader.proofs.place.Due as S
+use Rattle.text_line_reader.proofs.place.Due.Laws as S′
+use Rattle.text_line_reader.proofs.line_reader.line_from as line-from
+use Rattle.text_line_reader.proofs.line_reader.line_from.Symbol as line-from-def
+use Rattle.text_line_reader.proofs.line_reader.line_from.Symbol.{name as #text_line_reader·line-from}
+use Rattle.text_line_reader.proofs.line_reader.line_from.Met as line-from-thm
+use Rattle.text_line_reader.proofs.line_reader.LineReader.next_line.Key.{name as #text_line_reader·next-line}
+use Rattle.text_line_reader.proofs.line_reader.LineReader.next_line as next
+use Rattle.text_line_reader.proofs.line_reader.LineReader.next_line.Statement as stated
+use Rattle.text_line_reader.proofs.line_reader.LineReader.next_line.Code as code
 
 -- the reader's type, over the signature's lifetimes
 abbrev B : Lfts 1 → RattleType
@@ -126,7 +126,7 @@ module _ {M : Type 1} (𝓤 : URA M) (H : Heap 𝓤) (A : Atoms 𝓤) (W : Given
       suffices ! _ (ends-at 𝓤 H A next.ended stayed (next.clauses 𝓤 H A mem run) W (((κ, tt), (q, tt), tt, (d, tt), (mach ∷ [], tt)), tt) u r (tt, tt) (tt, tt)) $ says ! e $
       move ! (1 ∷ []) $ frame ! $ nothing ! $ move ! (2 ∷ 0 ∷ []) $ fjoin ! $ frame ! $ done !
 
-  module _ (C : Calls 𝓤 H) (Λ : Loops 𝓤 H) (fm : FmC 𝓤 H (W .laws) C) (known : Triple 𝓤 (C #text_reader·line-from) (LineFrom 𝓤 H A mem run)) where
+  module _ (C : Calls 𝓤 H) (Λ : Loops 𝓤 H) (fm : FmC 𝓤 H (W .laws) C) (known : Triple 𝓤 (C #text_line_reader·line-from) (LineFrom 𝓤 H A mem run)) where
     walk : Inside (now (d .text)) (placeOf d) → Holds (hasTy (T′.mir (named 0)) mach) × WT mach → ent 𝓤 (onEntry 𝓤 H A next.signature (κ, tt) (q, tt) (d, tt) (mach ∷ [], tt)) (WpFn 𝓤 H C Λ code.function (mach ∷ []) Post)
     walk inside wt =
         qed W (raw (onEntry 𝓤 H A next.signature (κ, tt) (q, tt) (d, tt) (mach ∷ [], tt)) ∷ []) ∵ enter ! C Λ code.function (mach ∷ []) _ $
@@ -147,13 +147,13 @@ module _ {M : Type 1} (𝓤 : URA M) (H : Heap 𝓤) (A : Atoms 𝓤) (W : Given
         move ! (11 ∷ 12 ∷ []) $ free1 ! $ move ! (9 ∷ 10 ∷ []) $ free1 ! $ move ! (7 ∷ 8 ∷ []) $ free1 ! $ move ! (5 ∷ 6 ∷ []) $ free1 ! $ move ! (3 ∷ 4 ∷ []) $ free1 ! $ free0 ! $ by ! (exits r u e))))))))))
 
 module _ {M : Type 1} (𝓤 : URA M) (H : Heap 𝓤) (A : Atoms 𝓤) (W : Given 𝓤 H A) (mem : Memory → SProp 𝓤) (run : Routine → Fun 𝓤) where
-  next-walks : (C : Calls 𝓤 H) (Λ : Loops 𝓤 H) → FmC 𝓤 H (W .laws) C → Triple 𝓤 (C #text_reader·line-from) (LineFrom 𝓤 H A mem run)
+  next-walks : (C : Calls 𝓤 H) (Λ : Loops 𝓤 H) → FmC 𝓤 H (W .laws) C → Triple 𝓤 (C #text_line_reader·line-from) (LineFrom 𝓤 H A mem run)
       → Walks 𝓤 H A next.ended stayed (WpFn 𝓤 H C Λ code.function) (next.clauses 𝓤 H A mem run)
   next-walks C Λ fm known = walked 𝓤 H A next.ended stayed (next.clauses 𝓤 H A mem run) (WpFn 𝓤 H C Λ code.function) (λ κs. (LL.vals (T.the-type (namedLft 1 0 tt κs)) (T′.the-laws (namedLft 1 0 tt κs)), tt)) (λ κs. (LL.tells (T.the-type (namedLft 1 0 tt κs)) (T′.the-laws (namedLft 1 0 tt κs)), tt))
       (λ κs qs bounds a g are. needs 𝓤 _ _ (λ inside. walk 𝓤 H A W mem run (κs .0) (qs .0) (a .0) C Λ fm known inside (LL.lawful (T.the-type (namedLft 1 0 tt κs)) (T′.the-laws (namedLft 1 0 tt κs)) 𝓤 H A W .typed (a .0) _ (are .0) .0)))
 
 next-meets : {M : Type 1} (𝓤 : URA M) (H : Heap 𝓤) (A : Atoms 𝓤) (W : Given 𝓤 H A) (mem : Memory → SProp 𝓤) (run : Routine → Fun 𝓤) (𝓣 : Tables 𝓤 H)
-    → Triple 𝓤 (𝓣 .C #text_reader·line-from) (LineFrom 𝓤 H A mem run)
+    → Triple 𝓤 (𝓣 .C #text_line_reader·line-from) (LineFrom 𝓤 H A mem run)
     → Meets 𝓤 H A next.signature (WpFn 𝓤 H (𝓣 .C) (𝓣 .Λ) code.function) (next.spec 𝓤 H A mem run)
 next-meets 𝓤 H A W mem run 𝓣 known = walk-meets 𝓤 H A next.ended stayed W (goes-none 𝓤 H A W 1 B yes (λ κs x f. refl), tt) (next.clauses 𝓤 H A mem run) (WpFn 𝓤 H (𝓣 .C) (𝓣 .Λ) code.function) (WpFn-mono 𝓤 H (W .laws) 𝓣 code.function)
     (next-walks 𝓤 H A W mem run (𝓣 .C) (𝓣 .Λ) (fmOf 𝓤 H (W .laws) 𝓣) known)
@@ -162,6 +162,6 @@ pub next-line-spec : {M : Type 1} → stated.statement M
 unfolding code.routine tablesOf
 next-line-spec 𝓤 H 𝓜 𝓖 𝓡 =
     entered 𝓤 H (tripleOf 𝓤 H (𝓖 .A) next.signature (next.spec 𝓤 H (𝓖 .A) (𝓜 .mem) (𝓡 .run)))
-    (tables 𝓤 H 𝓜 𝓡 code.env .C) (tables 𝓤 H 𝓜 𝓡 code.env .Λ) #text_reader·next-line code.function (code.unfolded 𝓤 H 𝓜 𝓡)
+    (tables 𝓤 H 𝓜 𝓡 code.env .C) (tables 𝓤 H 𝓜 𝓡 code.env .Λ) #text_line_reader·next-line code.function (code.unfolded 𝓤 H 𝓜 𝓡)
     (next-meets 𝓤 H (𝓖 .A) (givenOf 𝓤 H 𝓜 𝓖) (𝓜 .mem) (𝓡 .run) (tablesOf 𝓤 H 𝓜 (tables 𝓤 H 𝓜 𝓡 code.env))
-    (cited 𝓤 H (LineFrom 𝓤 H (𝓖 .A) (𝓜 .mem) (𝓡 .run)) 𝓜 𝓡 code.env #text_reader·line-from line-from-def.routine code.calls-text_reader·line-reader·line-from (line-from-thm.met 𝓤 H 𝓜 𝓖 𝓡)))
+    (cited 𝓤 H (LineFrom 𝓤 H (𝓖 .A) (𝓜 .mem) (𝓡 .run)) 𝓜 𝓡 code.env #text_line_reader·line-from line-from-def.routine code.calls-text-line-reader·line-reader·line-from (line-from-thm.met 𝓤 H 𝓜 𝓖 𝓡)))
