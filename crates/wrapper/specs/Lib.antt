@@ -1,3 +1,4 @@
+pub mod Maxima
 pub mod Fit
 pub mod Chains
 pub mod Times

@@ -4,6 +4,7 @@ mod asked;
 mod chains;
 mod fit;
 mod laid;
+mod maxima;
 mod times;
 
 pub use asked::ModuleTime;
@@ -14,4 +15,6 @@ pub use asked::module_times;
 pub use asked::test_time;
 pub use laid::WrapperLayout;
 pub use laid::layout;
+pub use maxima::MODULE_TIME_MAX;
+pub use maxima::WIDTH_MAX;
 pub use times::Times;

@@ -1,0 +1,2 @@
+pub mod GoodPlanLaws
+pub mod RecordLaws

@@ -1,0 +1,127 @@
+-- `plan_record::good::is_good_plan` meets its contract: its tests are those of `goodPlan`, with the buses before the modules (`plan-order`). What a test
+-- requires follows from those before it. Assumes nothing.
+use borrow.Author.Needs.{needs}
+use borrow.Author.Tests.{not-true, not-false}
+use Prim.Native.Nat.{_≤_}
+use mathlib.Core.Path.{_≡_, sym, _∙_}
+use mathlib.Core.Bool.{true, _&&_}
+use native.Mathlib.Omega.{arith}
+use Rattle.soc.specs.Places.{allOf}
+use Rattle.soc.proofs.TestLaws.{and-stops, and-goes}
+use Rattle.plan_record.specs.Record.{modulesOf, numbersOf}
+use Rattle.plan_record.specs.Good.{goodCounts, ascendingFrom, goodPlaced, goodBuses, goodTimes, spareRest, goodPlan}
+use Rattle.plan_record.proofs.GoodPlanLaws.{GoodCounts, good-counts, good-bus-count, placed-front, plan-order}
+use Rattle.plan_record.proofs.good.is_good_plan.Statement.{statement}
+use Rattle.plan_record.proofs.good.is_good_plan.Tie as tie
+
+has-good-counts-requires : tie.Need-has-good-counts-requires
+has-good-counts-requires c κs = search needs
+
+returns : tie.Need-returns
+returns c =
+    let p = c .before .before .args .p in
+    sym (plan-order p ∙ and-stops _ _ (sym (c .before .has-good-counts .ensures) ∙ not-true _ (c .if1 .taken)))
+
+-- the counts are good
+counted : (c : tie.Else1) → goodCounts (c .before .before .args .p) ≡ true
+counted c = sym (c .before .has-good-counts .ensures) ∙ not-false _ (c .if1 .left)
+
+has-good-buses-requires : tie.Need-has-good-buses-requires
+has-good-buses-requires c κs = good-counts (c .before .before .args .p) (counted c) .limit-high
+
+returns-2 : tie.Need-returns-2
+returns-2 c =
+    let e = c .before .before in
+    sym (plan-order (e .before .before .args .p) ∙ and-goes _ _ (counted e) ∙ and-stops _ _ (sym (c .before .has-good-buses .ensures) ∙ not-true _ (c .if2 .taken)))
+
+-- and the buses: what is left to decide, and the counts of buses and modules
+bused : (c : tie.Else2) → goodBuses (c .before .before .before .before .args .p) ≡ true
+bused c = sym (c .before .has-good-buses .ensures) ∙ not-false _ (c .if2 .left)
+
+left-buses : (c : tie.Else2) →
+    let p = c .before .before .before .before .args .p in
+    goodPlan p ≡ (ascendingFrom 0 (numbersOf (modulesOf p)) && (allOf (goodPlaced p) (modulesOf p) && (goodTimes p && spareRest p)))
+left-buses c =
+    let e = c .before .before in
+    plan-order (e .before .before .args .p) ∙ and-goes _ _ (counted e) ∙ and-goes _ _ (bused c)
+
+few : (c : tie.Else2) → let p = c .before .before .before .before .args .p in (p .«bus_count» ≤ 3) × (p .«module_count» ≤ 12)
+few c =
+    let e = c .before .before in
+    let p = e .before .before .args .p in
+    let n : GoodCounts p = good-counts p (counted e) in
+    let m = good-bus-count p (bused c) in
+    (omega arith, n .modules-high)
+
+is-ascending-requires : tie.Need-is-ascending-requires
+is-ascending-requires c κs = few c .1
+
+returns-3 : tie.Need-returns-3
+returns-3 c = sym (left-buses (c .before .before) ∙ and-stops _ _ (sym (c .before .is-ascending .ensures) ∙ not-true _ (c .if3 .taken)))
+
+are-good-placed-requires : tie.Need-are-good-placed-requires
+are-good-placed-requires c κs = few (c .before .before)
+
+-- and the numbers ascend
+left-numbers : (c : tie.Else3) →
+    let p = c .before .before .before .before .before .before .args .p in
+    goodPlan p ≡ (allOf (goodPlaced p) (modulesOf p) && (goodTimes p && spareRest p))
+left-numbers c = left-buses (c .before .before) ∙ and-goes _ _ (sym (c .before .is-ascending .ensures) ∙ not-false _ (c .if3 .left))
+
+returns-4 : tie.Need-returns-4
+returns-4 c = sym (left-numbers (c .before .before) ∙ and-stops _ _ (sym (c .before .are-good-placed .ensures) ∙ not-true _ (c .if4 .taken)))
+
+-- and the modules are good
+placed : (c : tie.Else4) → let p = c .before .before .before .before .before .before .before .before .args .p in allOf (goodPlaced p) (modulesOf p) ≡ true
+placed c = sym (c .before .are-good-placed .ensures) ∙ not-false _ (c .if4 .left)
+
+left-modules : (c : tie.Else4) → let p = c .before .before .before .before .before .before .before .before .args .p in goodPlan p ≡ (goodTimes p && spareRest p)
+left-modules c = left-numbers (c .before .before) ∙ and-goes _ _ (placed c)
+
+has-good-times-requires : tie.Need-has-good-times-requires
+has-good-times-requires c κs =
+    let e = c .before .before .before .before in
+    (few e .0, record { few = few e .1; each = λ i h. placed-front (e .before .before .before .before .args .p) (placed c) i h .cycles })
+
+returns-5 : tie.Need-returns-5
+returns-5 c = sym (left-modules (c .before .before) ∙ and-stops _ _ (sym (c .before .has-good-times .ensures) ∙ not-true _ (c .if5 .taken)))
+
+-- and the times: the spare places decide
+left-times : (c : tie.Else5) → let p = c .before .before .before .before .before .before .before .before .before .before .args .p in goodPlan p ≡ spareRest p
+left-times c = left-modules (c .before .before) ∙ and-goes _ _ (sym (c .before .has-good-times .ensures) ∙ not-false _ (c .if5 .left))
+
+are-spare-buses-requires : tie.Need-are-spare-buses-requires
+are-spare-buses-requires c κs = few (c .before .before .before .before .before .before) .0
+
+returns-6 : tie.Need-returns-6
+unfolding spareRest
+returns-6 c = sym (left-times (c .before .before) ∙ and-stops _ _ (sym (c .before .are-spare-buses .ensures) ∙ not-true _ (c .if6 .taken)))
+
+are-spare-placed-requires : tie.Need-are-spare-placed-requires
+are-spare-placed-requires c κs = few (c .before .before .before .before .before .before .before .before) .1
+
+returns-7 : tie.Need-returns-7
+unfolding spareRest
+returns-7 c =
+    let e = c .before in
+    c .are-spare-placed .ensures
+    ∙ sym (left-times (e .before .before) ∙ and-goes _ _ (sym (e .before .are-spare-buses .ensures) ∙ not-false _ (e .if6 .left)))
+
+pub is-good-plan-spec : {M : Type 1} → statement M
+is-good-plan-spec =
+    tie.close
+    (tie.spec
+    has-good-counts-requires
+    returns
+    has-good-buses-requires
+    returns-2
+    is-ascending-requires
+    returns-3
+    are-good-placed-requires
+    returns-4
+    has-good-times-requires
+    returns-5
+    are-spare-buses-requires
+    returns-6
+    are-spare-placed-requires
+    returns-7)

@@ -1,0 +1,14 @@
+// The plan record, and what a good one is (document 01, "The plan" and "The plan file"): its buses, its planned modules, their busy figures and its time.
+mod good;
+mod record;
+mod times;
+
+pub use good::is_good_plan;
+pub use record::BUS_PLACES;
+pub use record::Bus;
+pub use record::BusPlan;
+pub use record::MODULE_PLACES;
+pub use record::PlacedModule;
+pub use record::no_bus;
+pub use record::no_placed;
+pub use record::no_plan;
