@@ -21,16 +21,18 @@ use Rattle.wrapper.specs.Answers.{wires, cycles}
 use Rattle.plan_rules.specs.Plans.{Plan, IsPlan, sum, busyFrom, busies}
 use Rattle.plan_rules.specs.Listed.{bestPlan}
 use Rattle.plan_rules.proofs.Demand.{best-is}
-use Rattle.plan.specs.Search.{tableTime, foundOf}
-use Rattle.plan.specs.Answers.{limitMax, plannedMax, timeIn, noBus, noPlaced, busRecords, moduleRecords, bestFor, planRecord}
+use Rattle.plan_record.specs.Record.{busPlaces, modulePlaces, noBus, noPlaced, busRecords, moduleRecords, planRecord}
+use Rattle.plan_record.proofs.RecordLaws.{length-records}
+use Rattle.plan_search.specs.Search.{tableTime, foundOf}
+use Rattle.plan.specs.Answers.{timeIn, wiresIn, bestFor, recordOf}
 use Rattle.plan.specs.Records.{IsFound, busesIs, placedAt, placedFrom, modulesIs}
 use Rattle.plan.specs.Tables.{TablesAre}
-use Rattle.plan.specs.declared.record.Bus.{Bus}
-use Rattle.plan.specs.declared.record.BusPlan.{BusPlan}
-use Rattle.plan.specs.declared.record.PlacedModule.{PlacedModule}
+use Rattle.plan_record.specs.declared.record.Bus.{Bus}
+use Rattle.plan_record.specs.declared.record.BusPlan.{BusPlan}
+use Rattle.plan_record.specs.declared.record.PlacedModule.{PlacedModule}
 use Rattle.plan.specs.declared.tables.Tables.{Tables}
-use Rattle.plan.specs.declared.widths.Found.{Found}
-use Rattle.plan.proofs.SearchLaws.{busy-append, length-busies}
+use Rattle.plan_search.specs.declared.widths.Found.{Found}
+use Rattle.plan_rules.proofs.BusyLaws.{length-busies}
 use Rattle.plan.proofs.TableLaws.{table-time, table-wires, busies-same, time-same, best-same}
 
 -- an array is filled at the place behind those in use
@@ -44,30 +46,7 @@ records-end [] (y ∷ bs) w b e = absurd (omega arith)
 records-end (x ∷ ws) [] w b e = absurd (omega arith)
 records-end (x ∷ ws) (y ∷ bs) w b e = rw (records-end ws bs w b (omega arith))
 
-pub length-records : (ws bs : List ℕ) → length bs ≡ length ws → length (busRecords ws bs) ≡ length ws
-unfolding busRecords
-length-records [] bs e = refl
-length-records (x ∷ ws) [] e = absurd (omega arith)
-length-records (x ∷ ws) (y ∷ bs) e = ap suc (length-records ws bs (omega arith))
-
 module _ (time : ℕ → ℕ → ℕ) where
-  pub busy-none : (b w : ℕ) (bs : List ℕ) → 0 ≡ busyFrom time 0 b w (take 0 bs)
-  unfolding busyFrom
-  busy-none b w bs = refl
-
-  -- one module more
-  busy-step : (b w : ℕ) (bs : List ℕ) (i : ℕ) → i < length bs → busyFrom time 0 b w (take (i + 1) bs) ≡ busyFrom time 0 b w (take i bs) + cond (eqb (getD bs i 0) b) (time i w) 0
-  unfolding busyFrom
-  busy-step b w bs i h =
-      let k : length (take i bs) ≡ i = length-take-le i bs (omega arith) in
-      rw (add-one, take-suc bs i 0 h, busy-append time 0 b w (take i bs) (getD bs i 0 ∷ []), k, zero-add i) (omega arith)
-
-  pub busy-here : (b w : ℕ) (bs : List ℕ) (i : ℕ) → i < length bs → getD bs i 0 ≡ b → busyFrom time 0 b w (take (i + 1) bs) ≡ busyFrom time 0 b w (take i bs) + time i w
-  busy-here b w bs i h e = rw (busy-step b w bs i h, eq-eqb (getD bs i 0) b e)
-
-  pub busy-else : (b w : ℕ) (bs : List ℕ) (i : ℕ) → i < length bs → (getD bs i 0 ≡ b → ⊥) → busyFrom time 0 b w (take (i + 1) bs) ≡ busyFrom time 0 b w (take i bs)
-  busy-else b w bs i h e = rw (busy-step b w bs i h, ne-eqb (getD bs i 0) b e, add-zero)
-
   -- one bus more
   busies-end : (bs : List ℕ) (k w : ℕ) (ws : List ℕ) → busies time bs k (ws ++ w ∷ []) ≡ busies time bs k ws ++ busyFrom time 0 (k + length ws) w bs ∷ []
   unfolding busies
@@ -95,11 +74,11 @@ module _ (time : ℕ → ℕ → ℕ) where
       rw (e, busies-end bs 1 (getD ws b 0) (take b ws), k)
       (records-end (take b ws) (busies time bs 1 (take b ws)) (getD ws b 0) (busyFrom time 0 (b + 1) (getD ws b 0) bs) (length-busies time 1 (take b ws) bs))
 
-  pub front-fill : (bs ws : List ℕ) (b : ℕ) (list : List Bus) → b < length ws → b < limitMax → list ≡ padded limitMax noBus (busFront bs ws b)
-      → set list b (record { width = wires (getD ws b 0); busy = cycles (busyFrom time 0 (b + 1) (getD ws b 0) bs) }) ≡ padded limitMax noBus (busFront bs ws (b + 1))
-  front-fill bs ws b list h k e = rw (front-step bs ws b h) (fill-step limitMax noBus _ list (busFront bs ws b) b e (front-length bs ws b (omega arith)) k)
+  pub front-fill : (bs ws : List ℕ) (b : ℕ) (list : List Bus) → b < length ws → b < busPlaces → list ≡ padded busPlaces noBus (busFront bs ws b)
+      → set list b (record { width = wires (getD ws b 0); busy = cycles (busyFrom time 0 (b + 1) (getD ws b 0) bs) }) ≡ padded busPlaces noBus (busFront bs ws (b + 1))
+  front-fill bs ws b list h k e = rw (front-step bs ws b h) (fill-step busPlaces noBus _ list (busFront bs ws b) b e (front-length bs ws b (omega arith)) k)
 
-  pub front-all : (f : Found) (n : ℕ) → padded limitMax noBus (busFront (take n (f .buses)) (f .widths) (f .count)) ≡ busesIs time f n
+  pub front-all : (f : Found) (n : ℕ) → padded busPlaces noBus (busFront (take n (f .buses)) (f .widths) (f .count)) ≡ busesIs time f n
   unfolding busFront busesIs
   front-all f n = refl
 
@@ -128,11 +107,11 @@ module _ (p : Planned) (t : Tables) (f : Found) where
       let e : take (i + 1) (f .buses) ≡ take i (f .buses) ++ getD (f .buses) i 0 ∷ [] = rw add-one (take-suc (f .buses) i 0 h) in
       rw (e, placed-end 0 (take i (f .buses)) (getD (f .buses) i 0), k)
 
-  pub placed-fill : (i : ℕ) (list : List PlacedModule) → i < length (f .buses) → i < plannedMax → list ≡ padded plannedMax noPlaced (placedFrom p t f 0 (take i (f .buses)))
-      → set list i (placedAt p t f i (getD (f .buses) i 0)) ≡ padded plannedMax noPlaced (placedFrom p t f 0 (take (i + 1) (f .buses)))
-  placed-fill i list h k e = rw (placed-step i h) (fill-step plannedMax noPlaced _ list (placedFrom p t f 0 (take i (f .buses))) i e (placed-length i (omega arith)) k)
+  pub placed-fill : (i : ℕ) (list : List PlacedModule) → i < length (f .buses) → i < modulePlaces → list ≡ padded modulePlaces noPlaced (placedFrom p t f 0 (take i (f .buses)))
+      → set list i (placedAt p t f i (getD (f .buses) i 0)) ≡ padded modulePlaces noPlaced (placedFrom p t f 0 (take (i + 1) (f .buses)))
+  placed-fill i list h k e = rw (placed-step i h) (fill-step modulePlaces noPlaced _ list (placedFrom p t f 0 (take i (f .buses))) i e (placed-length i (omega arith)) k)
 
-  pub placed-all : padded plannedMax noPlaced (placedFrom p t f 0 (take (p .count) (f .buses))) ≡ modulesIs p t f
+  pub placed-all : padded modulePlaces noPlaced (placedFrom p t f 0 (take (p .count) (f .buses))) ≡ modulesIs p t f
   unfolding modulesIs
   placed-all = refl
 
@@ -155,14 +134,14 @@ module _ {W B n : ℕ} {p : Plan} (r : IsPlan W B n p) where
   }
 
   module _ {s : Soc} {t : Tables} (a : TablesAre s W n t) (narrow : W ≤ 64) where
-    buses-are : busesIs (tableTime (t .cycles)) (foundOf (tableTime (t .cycles)) p) n ≡ padded limitMax noBus (busRecords (p .widths) (busies (timeIn s) (p .buses) 1 (p .widths)))
+    buses-are : busesIs (tableTime (t .cycles)) (foundOf (tableTime (t .cycles)) p) n ≡ padded busPlaces noBus (busRecords (p .widths) (busies (timeIn s) (p .buses) 1 (p .widths)))
     unfolding busesIs
     buses-are =
         let e : take n (padded 12 0 (p .buses)) ≡ p .buses = rw (← r .placed) (padded-take 12 0 (p .buses)) in
         rw (padded-take 3 0 (p .widths), e, busies-same (λ i w h k l. table-time a i w h k l narrow) r)
 
     modules-from : (time : ℕ → ℕ → ℕ) (i : ℕ) (bs : List ℕ) → i + length bs ≤ n → ((j : ℕ) → j < length bs → (1 ≤ getD bs j 0) × (getD bs j 0 ≤ length (p .widths)))
-        → placedFrom (plannedIs (plannedOf s)) t (foundOf time p) i bs ≡ moduleRecords s (p .widths) i bs
+        → placedFrom (plannedIs (plannedOf s)) t (foundOf time p) i bs ≡ moduleRecords (plannedOf s) (timeIn s) (wiresIn s) (p .widths) i bs
     unfolding placedFrom moduleRecords
     modules-from time i [] h q = refl
     modules-from time i (b ∷ bs) h q =
@@ -178,7 +157,7 @@ module _ {W B n : ℕ} {p : Plan} (r : IsPlan W B n p) where
           modules-from time (suc i) bs (omega arith) (λ j g. q (suc j) (omega arith)),
         )
 
-    modules-are : (time : ℕ → ℕ → ℕ) → n ≡ length (plannedOf s) → modulesIs (plannedIs (plannedOf s)) t (foundOf time p) ≡ padded plannedMax noPlaced (moduleRecords s (p .widths) 0 (p .buses))
+    modules-are : (time : ℕ → ℕ → ℕ) → n ≡ length (plannedOf s) → modulesIs (plannedIs (plannedOf s)) t (foundOf time p) ≡ padded modulePlaces noPlaced (moduleRecords (plannedOf s) (timeIn s) (wiresIn s) (p .widths) 0 (p .buses))
     unfolding modulesIs
     modules-are time count =
         let e : take (length (plannedOf s)) (padded 12 0 (p .buses)) ≡ p .buses = rw (← count, ← r .placed) (padded-take 12 0 (p .buses)) in
@@ -209,7 +188,7 @@ module _ {s : Soc} {W B : ℕ} {t : Tables} {p : Planned} {f : Found}
   pub record-is : {buses : List Bus} {modules : List PlacedModule} → buses ≡ busesIs (tableTime (t .cycles)) f (p .count) → modules ≡ modulesIs p t f
       → _≡_ {A = BusPlan}
       (record { wires = wires W; limit = B; «bus_count» = f .count; buses = buses; «module_count» = p .count; modules = modules; time = cycles (f .time) })
-      (planRecord s W B (bestFor s W B))
+      (recordOf s W B (bestFor s W B))
   unfolding planRecord
   record-is u v =
       rw (u, v, found-best, numbers, buses-are best-plan a narrow, modules-are best-plan a narrow (tableTime (t .cycles)) refl, time-same same best-plan)

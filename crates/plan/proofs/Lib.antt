@@ -1,9 +1,4 @@
-pub mod SearchLaws
-pub mod PlaceLaws
-pub mod KeepLaws
-pub mod WidthLaws
-pub mod OverLaws
-pub mod SoughtLaws
 pub mod TableLaws
 pub mod EntryLaws
 pub mod PlanDemand
+pub mod PlannerLaws

@@ -27,7 +27,8 @@ use Rattle.plan_rules.specs.Listed.{plans, firstLeast, firstOf, bestPlan}
 use Rattle.plan_rules.proofs.ListedLaws.{sound}
 use Rattle.soc.proofs.PlaceLaws.{padded-at}
 use Rattle.plan.specs.Answers.{plannedModule, timeIn, wiresIn}
-use Rattle.plan.specs.Search.{tableTime, timeMax, IsTable}
+use Rattle.wrapper.specs.Maxima.{moduleTimeMax}
+use Rattle.plan_search.specs.Search.{tableTime, timeBound, IsTable}
 use Rattle.plan.specs.Tables.{TimesStand, timesAt, TablesAre}
 use Rattle.plan.specs.declared.tables.Tables.{Tables}
 
@@ -75,7 +76,7 @@ module _ (d : Module) (W : ℕ) where
   times-past j h = padded-at widthMax (cycles 0) (map cyclesIn (bestsFrom d W 1)) j ∙ bests-past cyclesIn (cycles 0) d W 1 j h
 
   -- no time is above the limit
-  times-most : Kept d → (j : ℕ) → getD (timesOf d W .cycles) j (cycles 0) .0 ≤ timeMax
+  times-most : Kept d → (j : ℕ) → getD (timesOf d W .cycles) j (cycles 0) .0 ≤ moduleTimeMax
   times-most k j = ⊎-elim
       (λ h.
       let e : suc j - 1 ≡ j = omega arith in
@@ -121,7 +122,7 @@ module _ {s : Soc} {W n : ℕ} {t : Tables} (a : TablesAre s W n t) where
   unfolding wiresIn
   table-wires i w h l k m = a .wires-are i (w - 1) h (omega arith) ∙ ap (λ c. c .0) (wires-at (plannedModule s i) W w l k)
 
-  table-most : goodSoc s ≡ true → n ≡ length (plannedOf s) → (j : ℕ) → getD (t .cycles) j 0 ≤ timeMax
+  table-most : goodSoc s ≡ true → n ≡ length (plannedOf s) → (j : ℕ) → getD (t .cycles) j 0 ≤ moduleTimeMax
   table-most g e j = ⊎-elim
       (λ h.
       let p : j / 64 * 64 + j % 64 ≡ j = omega arith in
@@ -134,7 +135,7 @@ module _ {s : Soc} {W n : ℕ} {t : Tables} (a : TablesAre s W n t) where
   table-is g e l m =
       record {
         long = omega arith;
-        times = λ i w. table-most g e (i * 64 + (w - 1));
+        times = λ i w. omega (arith, table-most g e (i * 64 + (w - 1)));
         falls = λ i v w h k o p.
             rw (a .cycles-are i (v - 1) h (omega arith), a .cycles-are i (w - 1) h (omega arith)) (times-fall (plannedModule s i) W v w k o);
       }

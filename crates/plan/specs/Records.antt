@@ -5,23 +5,24 @@ use mathlib.Core.List.{List, [], _∷_}
 use lib.ListN.{length, getD, take}
 use Rattle.soc.specs.Places.{padded}
 use Rattle.soc.specs.declared.planned.Planned.{Planned}
-use Rattle.wrapper.specs.Answers.{wires, cycles}
+use Rattle.wrapper.specs.Answers.{wires, cycles, widthMax}
 use Rattle.plan_rules.specs.Plans.{busies}
-use Rattle.plan.specs.Answers.{limitMax, plannedMax, noBus, noPlaced, busRecords}
-use Rattle.plan.specs.declared.record.Bus.{Bus}
-use Rattle.plan.specs.declared.record.PlacedModule.{PlacedModule}
+use Rattle.plan_record.specs.Record.{busPlaces, modulePlaces, noBus, noPlaced, busRecords}
+use Rattle.plan_record.specs.declared.record.Bus.{Bus}
+use Rattle.plan_record.specs.declared.record.PlacedModule.{PlacedModule}
+use Rattle.plan.specs.Answers.{limitMax}
 use Rattle.plan.specs.declared.tables.Tables.{Tables}
-use Rattle.plan.specs.declared.widths.Found.{Found}
+use Rattle.plan_search.specs.declared.widths.Found.{Found}
 
 -- the counts, widths and bus numbers of what was found keep their limits
 pub record IsFound (f : Found) (n : ℕ) : Type 0 where
-  pub few : f .count ≤ 3
-  pub wide : (b : ℕ) → b < f .count → (1 ≤ getD (f .widths) b 0) × (getD (f .widths) b 0 ≤ 64)
+  pub few : f .count ≤ limitMax
+  pub wide : (b : ℕ) → b < f .count → (1 ≤ getD (f .widths) b 0) × (getD (f .widths) b 0 ≤ widthMax)
   pub placed : (i : ℕ) → i < n → (1 ≤ getD (f .buses) i 0) × (getD (f .buses) i 0 ≤ f .count)
 
 unfoldable pub busesIs : (ℕ → ℕ → ℕ) → Found → ℕ → List Bus
 busesIs time f n =
-    padded limitMax noBus (busRecords (take (f .count) (f .widths)) (busies time (take n (f .buses)) 1 (take (f .count) (f .widths))))
+    padded busPlaces noBus (busRecords (take (f .count) (f .widths)) (busies time (take n (f .buses)) 1 (take (f .count) (f .widths))))
 
 -- the planned module i, from what the tables hold at its bus's width
 abbrev pub placedAt : Planned → Tables → Found → ℕ → ℕ → PlacedModule
@@ -29,8 +30,8 @@ placedAt p t f i b =
     record {
       number = getD (p .numbers) i 0;
       bus = b;
-      wires = wires (getD (t .wires) (i * 64 + (getD (f .widths) (b - 1) 0 - 1)) 0);
-      cycles = cycles (getD (t .cycles) (i * 64 + (getD (f .widths) (b - 1) 0 - 1)) 0);
+      wires = wires (getD (t .wires) (i * widthMax + (getD (f .widths) (b - 1) 0 - 1)) 0);
+      cycles = cycles (getD (t .cycles) (i * widthMax + (getD (f .widths) (b - 1) 0 - 1)) 0);
     }
 
 unfoldable pub placedFrom : Planned → Tables → Found → ℕ → List ℕ → List PlacedModule
@@ -38,4 +39,4 @@ placedFrom p t f i [] = []
 placedFrom p t f i (b ∷ bs) = placedAt p t f i b ∷ placedFrom p t f (suc i) bs
 
 unfoldable pub modulesIs : Planned → Tables → Found → List PlacedModule
-modulesIs p t f = padded plannedMax noPlaced (placedFrom p t f 0 (take (p .count) (f .buses)))
+modulesIs p t f = padded modulePlaces noPlaced (placedFrom p t f 0 (take (p .count) (f .buses)))

@@ -1,32 +1,39 @@
 // The first planner: refusals 14, 7, 8, 9, 10 in that order; then the tables of times, the search over them, and the record of what it finds.
-use super::place::time_at;
-use super::record::Bus;
-use super::record::BusPlan;
-use super::record::PlacedModule;
-use super::record::PlanAnswer;
-use super::record::no_bus;
-use super::record::no_placed;
-use super::record::no_plan;
+use super::answer::PlanAnswer;
 use super::tables::Tables;
 use super::tables::tables_of;
-use super::widths::Found;
-use super::widths::search;
+use plan_record::BUS_PLACES;
+use plan_record::Bus;
+use plan_record::BusPlan;
+use plan_record::MODULE_PLACES;
+use plan_record::PlacedModule;
+use plan_record::no_bus;
+use plan_record::no_placed;
+use plan_record::no_plan;
+use plan_search::Found;
+use plan_search::busy_of;
+use plan_search::search;
 use soc::Planned;
 use soc::Soc;
 use units::Cycles;
 use units::Refusal;
 use units::Wires;
+use wrapper::WIDTH_MAX;
 ghost use mathlib.Core.Path.{_≡_};
 ghost use mathlib.Core.Bool.{true};
 ghost use Prim.Native.Nat.{_≤_};
-ghost use lib.ListN.{length, take};
+ghost use lib.ListN.{length};
 ghost use Rattle.soc.specs.Planned.{plannedOf, plannedIs};
-ghost use Rattle.plan_rules.specs.Plans.{busyFrom, busies};
-ghost use Rattle.plan.specs.Search.{tableTime, IsTable};
-ghost use Rattle.plan.specs.Tables.{TablesAre};
-ghost use Rattle.plan.specs.Answers.{refusedPlan, bestFor, planRecord, planAnswer};
+ghost use Rattle.plan_search.specs.Search.{tableTime, IsTable};
+ghost use Rattle.wrapper.specs.Answers.{widthMax};
+ghost use Rattle.plan.specs.Answers.{limitMax, plannedMax, refusedPlan, bestFor, recordOf, planAnswer};
 ghost use Rattle.plan.specs.Records.{IsFound, busesIs, modulesIs};
 ghost use Rattle.soc.specs.Rules.{goodSoc};
+
+// The most buses and the most planned modules that this planner takes.
+pub const LIMIT_MAX: u32 = 3;
+
+pub const PLANNED_MAX: usize = 12;
 
 fn refused_plan(n: u8) -> PlanAnswer
     ensures { λ r. ⌜ r ≡ refusedPlan n ⌝ }
@@ -37,28 +44,12 @@ fn refused_plan(n: u8) -> PlanAnswer
     }
 }
 
-// How long bus b, from 1, of width w is busy.
-fn busy_of(table: &[u64], buses: [u64; 12], n: usize, b: u64, w: u64) -> u64
-    requires { ⌜ IsTable (now table) n × (n ≤ 12) × (1 ≤ w) × (w ≤ 64) ⌝ }
-    ensures { λ r. ⌜ r ≡ busyFrom (tableTime (now (table .entry))) 0 b w (take n buses) ⌝ }
-{
-    let mut sum: u64 = 0;
-    let mut i: usize = 0;
-    while i < n {
-        if buses[i] == b {
-            sum += time_at(table, i, w);
-        }
-        i += 1;
-    }
-    sum
-}
-
 // The buses of the plan that was found.
-fn buses_of(table: &[u64], f: Found, n: usize) -> [Bus; 3]
-    requires { ⌜ IsTable (now table) n × (n ≤ 12) × IsFound f n ⌝ }
+fn buses_of(table: &[u64], f: Found, n: usize) -> [Bus; BUS_PLACES]
+    requires { ⌜ IsTable (now table) n × (n ≤ plannedMax) × IsFound f n ⌝ }
     ensures { λ r. ⌜ r ≡ busesIs (tableTime (now (table .entry))) f n ⌝ }
 {
-    let mut list = [no_bus(); 3];
+    let mut list = [no_bus(); BUS_PLACES];
     let mut b: usize = 0;
     while b < f.count {
         let w = f.widths[b];
@@ -73,11 +64,11 @@ fn buses_of(table: &[u64], f: Found, n: usize) -> [Bus; 3]
 }
 
 // The planned modules of the plan that was found.
-fn modules_of(p: Planned, t: Tables, f: Found) -> [PlacedModule; 12]
-    requires { ⌜ (p .count ≤ 12) × IsFound f (p .count) ⌝ }
+fn modules_of(p: Planned, t: Tables, f: Found) -> [PlacedModule; MODULE_PLACES]
+    requires { ⌜ (p .count ≤ plannedMax) × IsFound f (p .count) ⌝ }
     ensures { λ r. ⌜ r ≡ modulesIs p t f ⌝ }
 {
-    let mut list = [no_placed(); 12];
+    let mut list = [no_placed(); MODULE_PLACES];
     let n = p.count;
     let mut i: usize = 0;
     while i < n {
@@ -98,8 +89,8 @@ fn modules_of(p: Planned, t: Tables, f: Found) -> [PlacedModule; 12]
 
 // The plan for W wires and limit B, where nothing is refused.
 fn found_plan(s: Soc, p: Planned, wires: Wires, limit: u32) -> BusPlan
-    requires { ⌜ (goodSoc s ≡ true) × (p ≡ plannedIs (plannedOf s)) × (1 ≤ length (plannedOf s)) × (length (plannedOf s) ≤ 12) × (1 ≤ wires .0) × (wires .0 ≤ 64) × (1 ≤ limit) × (limit ≤ 3) ⌝ }
-    ensures { λ r. ⌜ r ≡ planRecord s (wires .0) limit (bestFor s (wires .0) limit) ⌝ }
+    requires { ⌜ (goodSoc s ≡ true) × (p ≡ plannedIs (plannedOf s)) × (1 ≤ length (plannedOf s)) × (length (plannedOf s) ≤ plannedMax) × (1 ≤ wires .0) × (wires .0 ≤ widthMax) × (1 ≤ limit) × (limit ≤ limitMax) ⌝ }
+    ensures { λ r. ⌜ r ≡ recordOf s (wires .0) limit (bestFor s (wires .0) limit) ⌝ }
 {
     let t = tables_of(s, p, wires);
     let cycles = t.cycles;
@@ -128,20 +119,20 @@ pub fn plan(s: Soc, wires: Wires, limit: u32) -> PlanAnswer
     if wires.0 < 1 {
         return refused_plan(7);
     }
-    if wires.0 > 64 {
+    if wires.0 > WIDTH_MAX {
         return refused_plan(7);
     }
     if limit < 1 {
         return refused_plan(8);
     }
-    if limit > 3 {
+    if limit > LIMIT_MAX {
         return refused_plan(8);
     }
     let p = soc::planned_modules(s);
     if p.count < 1 {
         return refused_plan(9);
     }
-    if p.count > 12 {
+    if p.count > PLANNED_MAX {
         return refused_plan(10);
     }
     PlanAnswer {

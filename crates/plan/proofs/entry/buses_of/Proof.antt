@@ -7,14 +7,14 @@ use mathlib.Core.Path.{_≡_, sym, _∙_}
 use lib.ListN.{length, take}
 use Rattle.soc.specs.Places.{padded}
 use Rattle.soc.proofs.PlaceLaws.{padded-none}
-use Rattle.plan.specs.Search.{tableTime}
-use Rattle.plan.specs.Answers.{limitMax, noBus}
+use Rattle.plan_search.specs.Search.{tableTime}
+use Rattle.plan_record.specs.Record.{busPlaces, noBus}
 use Rattle.plan.proofs.EntryLaws.{busFront, front-none, front-fill, front-all}
 use Rattle.plan.proofs.entry.buses_of.Statement.{statement}
 use Rattle.plan.proofs.entry.buses_of.Tie as tie
 
 abbrev Inv-loop : tie.InvT-loop
-Inv-loop table n f list₀ b₀ list b = (b ≤ f .count) × (list ≡ padded limitMax noBus (busFront (tableTime table) (take n (f .buses)) (f .widths) b))
+Inv-loop table n f list₀ b₀ list b = (b ≤ f .count) × (list ≡ padded busPlaces noBus (busFront (tableTime table) (take n (f .buses)) (f .widths) b))
 
 abbrev μ-loop : tie.MeasureT-loop
 μ-loop table n f list₀ b₀ list b = f .count - b
@@ -26,7 +26,7 @@ no-bus-requires : tie.Need-no-bus-requires Inv-loop μ-loop
 no-bus-requires c κs = search needs
 
 loop-holds : tie.Need-loop-holds Inv-loop μ-loop
-loop-holds c = (omega arith, rw (c .no-bus .ensures, front-none (tableTime (c .before .before .args .table .now)) (take (c .before .before .args .n) (c .before .before .args .t2 .buses)) (c .before .before .args .t2 .widths)) (sym (padded-none limitMax noBus)))
+loop-holds c = (omega arith, rw (c .no-bus .ensures, front-none (tableTime (c .before .before .args .table .now)) (take (c .before .before .args .n) (c .before .before .args .t2 .buses)) (c .before .before .args .t2 .widths)) (sym (padded-none busPlaces noBus)))
 
 mul-w : tie.Need-mul-w Inv-loop μ-loop
 mul-w c = search needs

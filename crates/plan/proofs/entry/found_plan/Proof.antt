@@ -5,7 +5,7 @@ use native.Mathlib.Omega.{arith}
 use mathlib.Core.Path.{_≡_, refl, ap}
 use lib.ListN.{length}
 use Rattle.soc.specs.Planned.{plannedOf}
-use Rattle.plan.specs.Search.{IsTable}
+use Rattle.plan_search.specs.Search.{IsTable}
 use Rattle.plan.specs.Records.{IsFound}
 use Rattle.plan.proofs.TableLaws.{table-is}
 use Rattle.plan.proofs.EntryLaws.{found-fits, record-is}

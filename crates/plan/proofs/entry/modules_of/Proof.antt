@@ -7,14 +7,14 @@ use mathlib.Core.Path.{_≡_, sym, _∙_}
 use lib.ListN.{length, getD, take}
 use Rattle.soc.specs.Places.{padded}
 use Rattle.soc.proofs.PlaceLaws.{padded-none}
-use Rattle.plan.specs.Answers.{plannedMax, noPlaced}
+use Rattle.plan_record.specs.Record.{modulePlaces, noPlaced}
 use Rattle.plan.specs.Records.{placedFrom}
 use Rattle.plan.proofs.EntryLaws.{placed-none, placed-fill, placed-all}
 use Rattle.plan.proofs.entry.modules_of.Statement.{statement}
 use Rattle.plan.proofs.entry.modules_of.Tie as tie
 
 abbrev Inv-loop : tie.InvT-loop
-Inv-loop p t f list₀ n i₀ list i = (i ≤ n) × (list ≡ padded plannedMax noPlaced (placedFrom p t f 0 (take i (f .buses))))
+Inv-loop p t f list₀ n i₀ list i = (i ≤ n) × (list ≡ padded modulePlaces noPlaced (placedFrom p t f 0 (take i (f .buses))))
 
 abbrev μ-loop : tie.MeasureT-loop
 μ-loop p t f list₀ n i₀ list i = n - i
@@ -39,7 +39,7 @@ no-placed-requires : tie.Need-no-placed-requires Inv-loop μ-loop
 no-placed-requires c κs = search needs
 
 loop-holds : tie.Need-loop-holds Inv-loop μ-loop
-loop-holds c = (omega arith, rw (c .no-placed .ensures, placed-none (c .before .args .t1) (c .before .args .t2) (c .before .args .t3)) (sym (padded-none plannedMax noPlaced)))
+loop-holds c = (omega arith, rw (c .no-placed .ensures, placed-none (c .before .args .t1) (c .before .args .t2) (c .before .args .t3)) (sym (padded-none modulePlaces noPlaced)))
 
 mul-number : tie.Need-mul-number Inv-loop μ-loop
 mul-number c = search needs

@@ -1,0 +1,166 @@
+-- "A plan of the planner is always a good record" (document 01, "The plan file"): the numbers of planned modules ascend, and their times and wires keep
+-- the limits of a record. Assumes nothing.
+use Prim.Native.Nat.{ℕ, zero, suc, _+_, _-_, _≤_, _<_}
+use mathlib.Core.Path.{_≡_, refl}
+use mathlib.Core.Bool.{Bool, true, false, cond, _&&_}
+use mathlib.Core.List.{List, [], _∷_}
+use native.Mathlib.Omega.{arith}
+use borrow.Author.Tests.{leb-true, le-leb}
+use lib.ListN.{length, getD, length-take}
+use lib.Seq.{getD-take}
+use lib.Dec.{leb}
+use Rattle.units.specs.Refusals.{accepted}
+use Rattle.fields.proofs.TestLaws.{and-both}
+use Rattle.soc.specs.Limits.{modulesMax, levelMax}
+use Rattle.soc.specs.Record.{noModule, modulesOf}
+use Rattle.soc.specs.Rules.{goodName, goodTerminals, goodChains, goodPosition, levelRule, goodTests, goodModule, goodModules, goodSoc}
+use Rattle.soc.specs.Planned.{isPlanned, plannedFrom, plannedOf}
+use Rattle.soc.specs.declared.record.Module.{Module}
+use Rattle.soc.specs.declared.record.Soc.{Soc}
+use Rattle.wrapper.specs.Maxima.{moduleTimeMax}
+use Rattle.wrapper.specs.Times.{moduleBest}
+use Rattle.wrapper.specs.Answers.{widthMax}
+use Rattle.wrapper.proofs.BestLaws.{time-at, time-wires, planned-least, good-patterns}
+use Rattle.wrapper.proofs.TimeLaws.{module-most}
+use Rattle.wrapper.proofs.KeptLaws.{good-count}
+use Rattle.plan_record.specs.Good.{ascendingFrom, goodPlan}
+use Rattle.plan_record.proofs.RecordLaws.{Recordable, record-good}
+use Rattle.plan.specs.Answers.{limitMax, plannedMax, plannedModule, timeIn, wiresIn, bestFor, recordOf, refusedPlan, planAnswer}
+use Rattle.plan.specs.declared.answer.PlanAnswer.{PlanAnswer}
+use Rattle.plan.proofs.TableLaws.{planned-number, planned-kept}
+use Rattle.plan.proofs.PlanDemand.{plan-is}
+
+-- the planned modules from number m on: their numbers are at least m, and each is planned
+record PlannedAt (m : ℕ) (ds : List Module) (x : ℕ) : Type 0 where
+  low : m ≤ x
+  planned : isPlanned (getD ds (x - m) noModule) ≡ true
+
+planned-later : (m x : ℕ) (d : Module) (ds : List Module) → PlannedAt (suc m) ds x → PlannedAt m (d ∷ ds) x
+planned-later m x d ds p =
+    let l : suc m ≤ x = p .low in
+    let e : x - m ≡ suc (x - suc m) = omega arith in
+    record { low = omega arith; planned = rw e (p .planned) }
+
+planned-at : (m : ℕ) (ds : List Module) (i : ℕ) → i < length (plannedFrom m ds) → PlannedAt m ds (getD (plannedFrom m ds) i 0)
+unfolding plannedFrom
+planned-at m [] i h = absurd (omega arith)
+planned-at m (d ∷ ds) i h = go (isPlanned d) refl i h (planned-at (suc m) ds)
+  where
+    go : (b : Bool) → isPlanned d ≡ b → (i : ℕ) → i < length (cond b (m ∷ plannedFrom (suc m) ds) (plannedFrom (suc m) ds))
+        → ((j : ℕ) → j < length (plannedFrom (suc m) ds) → PlannedAt (suc m) ds (getD (plannedFrom (suc m) ds) j 0))
+        → PlannedAt m (d ∷ ds) (getD (cond b (m ∷ plannedFrom (suc m) ds) (plannedFrom (suc m) ds)) i 0)
+    go true e zero h r = let z : m - m ≡ 0 = omega arith in record { low = omega arith; planned = rw z e }
+    go true e (suc i) h r = planned-later m (getD (plannedFrom (suc m) ds) i 0) d ds (r i (omega arith))
+    go false e i h r = planned-later m (getD (plannedFrom (suc m) ds) i 0) d ds (r i h)
+
+-- "Planned modules are those with at least one test with TamUse 1."
+pub planned-planned : (s : Soc) (i : ℕ) → i < length (plannedOf s) → isPlanned (plannedModule s i) ≡ true
+planned-planned s i h =
+    let x = getD (plannedOf s) i 0 in
+    let z : x - 0 ≡ x = omega arith in
+    rw (getD-take (s .«module_count») (s .modules) x noModule (planned-number s i h .0)) at (rw z at (planned-at 0 (modulesOf s) i h .planned))
+
+-- the tests of each module in use of a good record are good
+module-tests : (power xy : Bool) (m last : ℕ) (d : Module) → goodModule power xy m last d ≡ true → goodTests power d ≡ true
+unfolding goodModule
+module-tests power xy m last d h =
+    let a = and-both (leb (d .level) levelMax) _ h in
+    let b = and-both (levelRule m last (d .level)) _ (a .1) in
+    let f = and-both (goodTerminals d) _ (b .1) in
+    let g = and-both (goodChains d) _ (f .1) in
+    and-both (goodPosition xy (d .x) (d .y)) (goodTests power d) (g .1) .1
+
+modules-tests : (power xy : Bool) (m last : ℕ) (ds : List Module) → goodModules power xy m last ds ≡ true → (i : ℕ) → i < length ds → goodTests power (getD ds i noModule) ≡ true
+unfolding goodModules
+modules-tests power xy m last [] h i k = absurd (omega arith)
+modules-tests power xy m last (d ∷ ds) h zero k = module-tests power xy m last d (and-both (goodModule power xy m last d) (goodModules power xy (suc m) (d .level) ds) h .0)
+modules-tests power xy m last (d ∷ ds) h (suc i) k =
+    modules-tests power xy (suc m) (d .level) ds (and-both (goodModule power xy m last d) (goodModules power xy (suc m) (d .level) ds) h .1) i (omega arith)
+
+soc-modules : (s : Soc) → goodSoc s ≡ true → goodModules (s .power) (s .xy) 0 0 (modulesOf s) ≡ true
+unfolding goodSoc
+soc-modules s h =
+    let named = and-both (goodName s) _ h in
+    let some = and-both (leb 1 (s .«module_count»)) _ (named .1) in
+    let few = and-both (leb (s .«module_count») modulesMax) _ (some .1) in
+    and-both (goodModules (s .power) (s .xy) 0 0 (modulesOf s)) _ (few .1) .0
+
+-- a planned module of a good SOC, on a bus of width w
+module _ (s : Soc) (good : goodSoc s ≡ true) (i : ℕ) (h : i < length (plannedOf s)) where
+  pub planned-tests : goodTests (s .power) (plannedModule s i) ≡ true
+  planned-tests =
+      let x = getD (plannedOf s) i 0 in
+      let n = planned-number s i h in
+      let k : x < length (modulesOf s) = omega (arith, length-take (s .«module_count») (s .modules)) in
+      rw (getD-take (s .«module_count») (s .modules) x noModule (n .0)) at (modules-tests (s .power) (s .xy) 0 0 (modulesOf s) (soc-modules s good) x k)
+
+  -- "cycles 1 to the module maximum"
+  pub time-within : (w : ℕ) → 1 ≤ w → (1 ≤ timeIn s i w) × (timeIn s i w ≤ moduleTimeMax)
+  unfolding timeIn
+  time-within w k =
+      let d = plannedModule s i in (
+        planned-least d w (planned-planned s i h) (good-patterns (s .power) d planned-tests) k,
+        rw (← time-at d w k) (module-most d (moduleBest d w .wires) (planned-kept s i good h)),
+      )
+
+-- "wires 1 to the bus's width"
+pub wires-within : (s : Soc) (i w : ℕ) → 1 ≤ w → (1 ≤ wiresIn s i w) × (wiresIn s i w ≤ w)
+unfolding wiresIn
+wires-within s i w k = time-wires (plannedModule s i) w k
+
+-- numbers of planned modules ascend
+ascending-planned : (low m : ℕ) (ds : List Module) → low ≤ m → m + length ds ≤ modulesMax → ascendingFrom low (plannedFrom m ds) ≡ true
+unfolding ascendingFrom plannedFrom
+ascending-planned low m [] h k = refl
+ascending-planned low m (d ∷ ds) h k =
+    go (isPlanned d) (ascending-planned (suc m) (suc m) ds (omega arith) (omega arith)) (ascending-planned low (suc m) ds (omega arith) (omega arith))
+  where
+    go : (b : Bool) → ascendingFrom (suc m) (plannedFrom (suc m) ds) ≡ true → ascendingFrom low (plannedFrom (suc m) ds) ≡ true
+        → ascendingFrom low (cond b (m ∷ plannedFrom (suc m) ds) (plannedFrom (suc m) ds)) ≡ true
+    go true f g = rw (le-leb low m h, le-leb m (modulesMax - 1) (omega arith)) f
+    go false f g = g
+
+pub planned-ascends : (s : Soc) → goodSoc s ≡ true → ascendingFrom 0 (plannedOf s) ≡ true
+planned-ascends s good = ascending-planned 0 0 (modulesOf s) (omega arith) (omega (arith, good-count s good, length-take (s .«module_count») (s .modules)))
+
+-- the planned modules of a good SOC make a record
+recordable : (s : Soc) → goodSoc s ≡ true → 1 ≤ length (plannedOf s) → length (plannedOf s) ≤ plannedMax → Recordable (plannedOf s) (timeIn s) (wiresIn s)
+recordable s good some most =
+    record {
+      some = some;
+      few = most;
+      ascending = planned-ascends s good;
+      times = λ i w h k. time-within s good i h w k;
+      wires = λ i w k. wires-within s i w k;
+    }
+
+-- "A plan of the planner is always a good record"
+module _ (s : Soc) (W B : ℕ) (good : goodSoc s ≡ true) (low : 1 ≤ W) (narrow : W ≤ widthMax) (limit : 1 ≤ B) (few : B ≤ limitMax)
+    (some : 1 ≤ length (plannedOf s)) (most : length (plannedOf s) ≤ plannedMax) where
+  pub planner-good : goodPlan (recordOf s W B (bestFor s W B)) ≡ true
+  planner-good = record-good (plannedOf s) (timeIn s) (wiresIn s) W B (bestFor s W B) (plan-is s W B low limit) (recordable s good some most) low narrow limit few
+
+-- what the planner answers where it refuses nothing
+answer-good : (s : Soc) (W B : ℕ) → planAnswer s W B .refusal .number ≡ 0 → goodPlan (planAnswer s W B .plan) ≡ true
+unfolding planAnswer
+answer-good s W B e =
+    go (goodSoc s) (leb 1 W && leb W widthMax) (leb 1 B && leb B limitMax) (leb 1 (length (plannedOf s))) (leb (length (plannedOf s)) plannedMax) refl refl refl refl refl e
+  where
+    found : PlanAnswer
+    found = record { refusal = accepted; plan = recordOf s W B (bestFor s W B) }
+
+    go : (v w x y z : Bool) → goodSoc s ≡ v → (leb 1 W && leb W widthMax) ≡ w → (leb 1 B && leb B limitMax) ≡ x → leb 1 (length (plannedOf s)) ≡ y → leb (length (plannedOf s)) plannedMax ≡ z →
+        let a = cond v (cond w (cond x (cond y (cond z found (refusedPlan 10)) (refusedPlan 9)) (refusedPlan 8)) (refusedPlan 7)) (refusedPlan 14) in
+        a .refusal .number ≡ 0 → goodPlan (a .plan) ≡ true
+    go true true true true true a b c d e h =
+        let w = and-both (leb 1 W) (leb W widthMax) b in
+        let l = and-both (leb 1 B) (leb B limitMax) c in
+        planner-good s W B a (leb-true 1 W (w .0)) (leb-true W widthMax (w .1)) (leb-true 1 B (l .0)) (leb-true B limitMax (l .1)) (leb-true 1 _ d) (leb-true _ plannedMax e)
+    go true true true true false a b c d e h = let no : ⊥ = omega arith in absurd no
+    go true true true false z a b c d e h = let no : ⊥ = omega arith in absurd no
+    go true true false y z a b c d e h = let no : ⊥ = omega arith in absurd no
+    go true false x y z a b c d e h = let no : ⊥ = omega arith in absurd no
+    go false w x y z a b c d e h = let no : ⊥ = omega arith in absurd no
+
+pub planner-answers-good : (s : Soc) (W B : ℕ) (a : PlanAnswer) → a ≡ planAnswer s W B → a .refusal .number ≡ 0 → goodPlan (a .plan) ≡ true
+planner-answers-good s W B a e h = rw e (answer-good s W B (rw e at h))
