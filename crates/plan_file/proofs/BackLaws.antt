@@ -14,17 +14,19 @@ use Rattle.fields.proofs.TestLaws.{and-both}
 use Rattle.units.specs.Refusals.{accepted}
 use Rattle.soc.specs.Places.{padded, allOf}
 use Rattle.wrapper.specs.Answers.{wires, cycles}
-use Rattle.plan.specs.Search.{timeMax}
+use Rattle.wrapper.specs.Maxima.{moduleTimeMax}
 use Rattle.soc.proofs.PlaceLaws.{padded-take}
 use Rattle.soc.proofs.TestLaws.{and-goes}
-use Rattle.plan.specs.Answers.{limitMax, plannedMax, noBus, noPlaced}
-use Rattle.plan.specs.declared.record.Bus.{Bus}
-use Rattle.plan.specs.declared.record.PlacedModule.{PlacedModule}
-use Rattle.plan.specs.declared.record.BusPlan.{BusPlan}
-use Rattle.plan_file.specs.Good.{modulesOf, busesOf, sumOn, busyFrom, largestBusy, goodTimes, spareBus, sparePlaced, spareRest, goodPlan}
+use Rattle.plan_record.specs.Record.{busPlaces, modulePlaces, noBus, noPlaced, modulesOf, busesOf, cyclesOn, busiesOf}
+use Rattle.plan_record.specs.declared.record.Bus.{Bus}
+use Rattle.plan_record.specs.declared.record.PlacedModule.{PlacedModule}
+use Rattle.plan_record.specs.declared.record.BusPlan.{BusPlan}
+use Rattle.plan_rules.specs.Plans.{largest}
+use Rattle.plan_record.specs.Good.{goodBusies, goodTimes, spareBus, sparePlaced, spareRest, goodPlan}
 use Rattle.plan_file.specs.Bytes.{little, moduleBytes, busBytes, trailerBytes, each, fileBytes}
 use Rattle.plan_file.specs.Files.{number, byte, numberAt, records, moduleAt, busAt, moduleCount, busCount, zeroModules, zeroBuses, goodLength, trailer, goodOffsets, planIn, goodFile, readAnswer}
-use Rattle.plan_file.proofs.GoodLaws.{good-parts, good-figures}
+use Rattle.plan_record.specs.Whole.{Whole}
+use Rattle.plan_record.proofs.GoodPlanLaws.{good-parts, good-figures, good-busy, good-time}
 use Rattle.plan_file.proofs.ReadLaws.{records-length, Fitting, length-fits, answer-accepted}
 
 -- every element is a byte
@@ -197,14 +199,14 @@ modules-file : (f : List ℕ) → AreBytes f → FileParts f → each moduleByte
 unfolding planIn
 modules-file f b p =
     let w = p .fits in
-    rw (padded-front plannedMax noPlaced (records (moduleAt f) (moduleCount f) 0) (moduleCount f) (records-length (moduleAt f) (moduleCount f) 0))
+    rw (padded-front modulePlaces noPlaced (records (moduleAt f) (moduleCount f) 0) (moduleCount f) (records-length (moduleAt f) (moduleCount f) 0))
     (modules-back f (moduleCount f) 0 (omega arith) b (p .modules))
 
 buses-file : (f : List ℕ) → AreBytes f → FileParts f → each busBytes (busesOf (planIn f)) ≡ take (12 * busCount f) (drop (12 * moduleCount f) f)
 unfolding planIn
 buses-file f b p =
     let w = p .fits in
-    rw (padded-front limitMax noBus (records (busAt f) (busCount f) (12 * moduleCount f)) (busCount f) (records-length (busAt f) (busCount f) (12 * moduleCount f)))
+    rw (padded-front busPlaces noBus (records (busAt f) (busCount f) (12 * moduleCount f)) (busCount f) (records-length (busAt f) (busCount f) (12 * moduleCount f)))
     (buses-back f (busCount f) (12 * moduleCount f) (omega arith) b (p .buses))
 
 file-join : (f : List ℕ) (m b t : ℕ) → t ≡ m + b → length f ≡ m + b + 16 → take m (drop 0 f) ++ take b (drop m f) ++ take 16 (drop t f) ≡ f
@@ -323,39 +325,6 @@ zero-buses-written (x ∷ xs) pre post =
       front-shift busBytes bus-length x pre,
     ) (zero-buses-written xs (pre ++ busBytes x) post)
 
--- the figures of a good plan fit eight bytes
-cond-most : (t : Bool) (n k : ℕ) → n ≤ k → cond t n 0 ≤ k
-cond-most true n k h = h
-cond-most false n k h = omega arith
-
-sum-on-most : (b : ℕ) (ms : List PlacedModule) → ((i : ℕ) → i < length ms → getD ms i noPlaced .cycles .0 ≤ timeMax) → sumOn b ms ≤ timeMax * length ms
-unfolding sumOn
-sum-on-most b [] g = omega arith
-sum-on-most b (m ∷ ms) g =
-    omega (arith, cond-most (eqb (m .bus) b) (m .cycles .0) timeMax (g 0 (omega arith)), sum-on-most b ms (λ i h. g (suc i) (omega arith)))
-
-busy-most : (ms : List PlacedModule) (k : ℕ) → ((b : ℕ) → sumOn b ms ≤ k) → (b : ℕ) (xs : List Bus) → busyFrom ms b xs ≡ true → (i : ℕ) → i < length xs → getD xs i noBus .busy .0 ≤ k
-unfolding busyFrom
-busy-most ms k g b [] e i h = absurd (omega arith)
-busy-most ms k g b (x ∷ xs) e zero h =
-    let q : x .busy .0 ≡ sumOn b ms = eqb-true (x .busy .0) (sumOn b ms) (and-both (eqb (x .busy .0) (sumOn b ms)) (busyFrom ms (suc b) xs) e .0) in
-    omega (arith, g b)
-busy-most ms k g b (x ∷ xs) e (suc i) h =
-    busy-most ms k g (suc b) xs (and-both (eqb (x .busy .0) (sumOn b ms)) (busyFrom ms (suc b) xs) e .1) i (omega arith)
-
-largest-most : (k : ℕ) (xs : List Bus) → ((i : ℕ) → i < length xs → getD xs i noBus .busy .0 ≤ k) → largestBusy xs ≤ k
-unfolding largestBusy
-largest-most k [] g = omega arith
-largest-most k (x ∷ xs) g =
-    let a : x .busy .0 ≤ k = g 0 (omega arith) in
-    let b : largestBusy xs ≤ k = largest-most k xs (λ i h. g (suc i) (omega arith)) in
-    omega arith
-
--- the arrays of a plan have their lengths
-pub record Whole (p : BusPlan) : Type 0 where
-  pub buses : length (p .buses) ≡ 3
-  pub modules : length (p .modules) ≡ 12
-
 -- what reading a plan back asks
 pub record Ready (p : BusPlan) : Type 0 where
   pub few-modules : p .«module_count» ≤ 12
@@ -366,29 +335,20 @@ pub record Ready (p : BusPlan) : Type 0 where
   pub small-buses : (i : ℕ) → i < length (busesOf p) → SmallBus (getD (busesOf p) i noBus)
   pub small-time : p .time .0 < 256 ^ 8
 
-times-both : (p : BusPlan) → goodTimes p ≡ true → (busyFrom (modulesOf p) 1 (busesOf p) ≡ true) × (p .time .0 ≡ largestBusy (busesOf p))
-unfolding goodTimes
-times-both p e =
-    let a = and-both (busyFrom (modulesOf p) 1 (busesOf p)) (eqb (p .time .0) (largestBusy (busesOf p))) e in
-    (a .0, eqb-true (p .time .0) (largestBusy (busesOf p)) (a .1))
-
 pub ready : (p : BusPlan) → Whole p → goodPlan p ≡ true → Ready p
 ready p w e =
     let g = good-figures p e in
-    let t = times-both p (good-parts p e .times) in
     let m : length (modulesOf p) ≡ p .«module_count» = length-take-le (p .«module_count») (p .modules) (omega arith) in
     let b : length (busesOf p) ≡ p .«bus_count» = length-take-le (p .«bus_count») (p .buses) (omega arith) in
-    let c : (i : ℕ) → i < length (modulesOf p) → getD (modulesOf p) i noPlaced .cycles .0 ≤ timeMax = λ i h. let k : i < p .«module_count» = omega arith in rw getD-take (g .cycles i k) in
-    let s : (i : ℕ) → i < length (busesOf p) → getD (busesOf p) i noBus .busy .0 ≤ timeMax * 12 =
-    busy-most (modulesOf p) (timeMax * 12) (λ b. omega (arith, sum-on-most b (modulesOf p) c)) 1 (busesOf p) (t .0) in
+    let c : (i : ℕ) → i < length (modulesOf p) → getD (modulesOf p) i noPlaced .cycles .0 ≤ moduleTimeMax = λ i h. let k : i < p .«module_count» = omega arith in rw getD-take (g .cycles i k) in
     record {
       few-modules = g .modules-high;
       few-buses = g .buses-high;
       modules = m;
       buses = b;
       small-modules = λ i h. omega (arith, c i h);
-      small-buses = λ i h. omega (arith, s i h);
-      small-time = omega (arith, t .1, largest-most (timeMax * 12) (busesOf p) s);
+      small-buses = λ i h. omega (arith, good-busy p w e i h);
+      small-time = omega (arith, good-time p w e);
     }
 
 -- the spare places of a good plan hold nothing
@@ -437,11 +397,11 @@ pub spare-both : (p : BusPlan) → spareRest p ≡ true → (allOf spareBus (dro
 unfolding spareRest
 spare-both p e = and-both (allOf spareBus (drop (p .«bus_count») (p .buses))) (allOf sparePlaced (drop (p .«module_count») (p .modules))) e
 
-buses-spare : (p : BusPlan) → Whole p → goodPlan p ≡ true → padded limitMax noBus (busesOf p) ≡ p .buses
+buses-spare : (p : BusPlan) → Whole p → goodPlan p ≡ true → padded busPlaces noBus (busesOf p) ≡ p .buses
 buses-spare p w e =
     spare-padded spareBus noBus bus-spare 3 (p .buses) (p .«bus_count») (w .buses) (good-figures p e .buses-high) (spare-both p (good-parts p e .spare) .0)
 
-modules-spare : (p : BusPlan) → Whole p → goodPlan p ≡ true → padded plannedMax noPlaced (modulesOf p) ≡ p .modules
+modules-spare : (p : BusPlan) → Whole p → goodPlan p ≡ true → padded modulePlaces noPlaced (modulesOf p) ≡ p .modules
 modules-spare p w e =
     spare-padded sparePlaced noPlaced placed-spare 12 (p .modules) (p .«module_count») (w .modules) (good-figures p e .modules-high) (spare-both p (good-parts p e .spare) .1)
 
@@ -543,8 +503,8 @@ unfolding planIn
 plan-back p w e =
     let r = ready p w e in
     let t = trailer-is p r in
-    let b : padded limitMax noBus (records (busAt (fileBytes p)) (busCount (fileBytes p)) (12 * moduleCount (fileBytes p))) ≡ p .buses = rw (count-buses p r, count-modules p r, buses-read p r) (buses-spare p w e) in
-    let m : padded plannedMax noPlaced (records (moduleAt (fileBytes p)) (moduleCount (fileBytes p)) 0) ≡ p .modules = rw (count-modules p r, modules-read p r) (modules-spare p w e) in
+    let b : padded busPlaces noBus (records (busAt (fileBytes p)) (busCount (fileBytes p)) (12 * moduleCount (fileBytes p))) ≡ p .buses = rw (count-buses p r, count-modules p r, buses-read p r) (buses-spare p w e) in
+    let m : padded modulePlaces noPlaced (records (moduleAt (fileBytes p)) (moduleCount (fileBytes p)) 0) ≡ p .modules = rw (count-modules p r, modules-read p r) (modules-spare p w e) in
     rw (
       b,
       m,

@@ -13,14 +13,15 @@ use lib.ListN.{length, getD, take, drop, set, length-append, length-drop, length
 use lib.Seq.{take-all, take-at, drop-at, take-suc, drop-drop, length-take-le}
 use Rattle.fields.proofs.PutLaws.{partFrom, part-rest}
 use Rattle.units.specs.Refusals.{accepted}
-use Rattle.plan.specs.declared.record.Bus.{Bus}
-use Rattle.plan.specs.declared.record.PlacedModule.{PlacedModule}
-use Rattle.plan.specs.declared.record.BusPlan.{BusPlan}
-use Rattle.plan_file.specs.Good.{busesOf, modulesOf, goodPlan}
+use Rattle.plan_record.specs.declared.record.Bus.{Bus}
+use Rattle.plan_record.specs.declared.record.PlacedModule.{PlacedModule}
+use Rattle.plan_record.specs.declared.record.BusPlan.{BusPlan}
+use Rattle.plan_record.specs.Record.{busesOf, modulesOf}
+use Rattle.plan_record.specs.Good.{goodPlan}
 use Rattle.plan_file.specs.Bytes.{little, moduleBytes, busBytes, trailerBytes, each, fileBytes}
 use Rattle.plan_file.specs.Puts.{Small}
 use Rattle.plan_file.specs.Files.{refusedFile, writeAnswer, writeLeaves}
-use Rattle.plan_file.proofs.GoodLaws.{good-figures}
+use Rattle.plan_record.proofs.GoodPlanLaws.{good-figures}
 
 -- bytes stored one by one, from a place on
 unfoldable pub stored : ℕ → List ℕ → List ℕ → List ℕ

@@ -1,5 +1,3 @@
 pub mod BackLaws
 pub mod FileLaws
-pub mod GoodLaws
-pub mod PlannerLaws
 pub mod ReadLaws

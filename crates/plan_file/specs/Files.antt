@@ -7,11 +7,11 @@ use lib.Dec.{leb, eqb}
 use Rattle.units.specs.Refusals.{accepted, refused}
 use Rattle.soc.specs.Places.{padded}
 use Rattle.wrapper.specs.Answers.{wires, cycles}
-use Rattle.plan.specs.Answers.{limitMax, plannedMax, noBus, noPlaced, noPlan}
-use Rattle.plan.specs.declared.record.Bus.{Bus}
-use Rattle.plan.specs.declared.record.PlacedModule.{PlacedModule}
-use Rattle.plan.specs.declared.record.BusPlan.{BusPlan}
-use Rattle.plan_file.specs.Good.{goodPlan}
+use Rattle.plan_record.specs.Record.{busPlaces, modulePlaces, noBus, noPlaced, noPlan}
+use Rattle.plan_record.specs.declared.record.Bus.{Bus}
+use Rattle.plan_record.specs.declared.record.PlacedModule.{PlacedModule}
+use Rattle.plan_record.specs.declared.record.BusPlan.{BusPlan}
+use Rattle.plan_record.specs.Good.{goodPlan}
 use Rattle.plan_file.specs.Bytes.{fileBytes}
 use Rattle.plan_file.specs.declared.write.FileWritten.{FileWritten}
 use Rattle.plan_file.specs.declared.read.FileRead.{FileRead}
@@ -73,9 +73,9 @@ planIn f =
       wires = wires (byte f (trailer f + 4));
       limit = byte f (trailer f + 5);
       «bus_count» = busCount f;
-      buses = padded limitMax noBus (records (busAt f) (busCount f) (12 * moduleCount f));
+      buses = padded busPlaces noBus (records (busAt f) (busCount f) (12 * moduleCount f));
       «module_count» = moduleCount f;
-      modules = padded plannedMax noPlaced (records (moduleAt f) (moduleCount f) 0);
+      modules = padded modulePlaces noPlaced (records (moduleAt f) (moduleCount f) 0);
       time = cycles (numberAt 8 f (trailer f + 8));
     }
 
@@ -93,8 +93,8 @@ zeroBuses f (suc n) at =
 unfoldable pub goodLength : List ℕ → Bool
 goodLength f =
     leb 16 (length f)
-    && (leb (moduleCount f) plannedMax
-    && (leb (busCount f) limitMax && eqb (length f) (12 * (moduleCount f + busCount f) + 16)))
+    && (leb (moduleCount f) modulePlaces
+    && (leb (busCount f) busPlaces && eqb (length f) (12 * (moduleCount f + busCount f) + 16)))
 
 -- the offsets of the first module record, "always 0", and of the first bus record: "the bus offset is 12 × modules"
 unfoldable pub goodOffsets : List ℕ → Bool

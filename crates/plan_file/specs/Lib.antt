@@ -1,4 +1,3 @@
-pub mod Good
 pub mod Bytes
 pub mod Puts
 pub mod Files

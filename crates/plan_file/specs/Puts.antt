@@ -1,8 +1,8 @@
 -- What the writers of records ask: figures that fit a byte.
 use Prim.Native.Nat.{ℕ, _≤_, _<_}
 use lib.ListN.{getD}
-use Rattle.plan.specs.Answers.{noBus, noPlaced}
-use Rattle.plan.specs.declared.record.BusPlan.{BusPlan}
+use Rattle.plan_record.specs.Record.{noBus, noPlaced}
+use Rattle.plan_record.specs.declared.record.BusPlan.{BusPlan}
 
 pub record SmallTrailer (p : BusPlan) : Type 0 where
   pub wires : p .wires .0 < 256

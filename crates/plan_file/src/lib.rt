@@ -1,11 +1,8 @@
 // The plan file (document 01, "The plan file"): what the test floor loads, written by parts and read back, and never a bad one accepted.
-mod good;
 mod put;
 mod read;
-mod times;
 mod write;
 
-pub use good::is_good_plan;
 pub use read::FileRead;
 pub use read::read_plan;
 pub use write::FileWritten;

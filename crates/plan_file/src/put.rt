@@ -1,7 +1,7 @@
 // The records of a plan file, each put at the front of the part that it is handed.
-use plan::Bus;
-use plan::BusPlan;
-use plan::PlacedModule;
+use plan_record::Bus;
+use plan_record::BusPlan;
+use plan_record::PlacedModule;
 ghost use mathlib.Core.Path.{_≡_};
 ghost use mathlib.Core.List.{_++_};
 ghost use Prim.Native.Nat.{_≤_, _<_};

@@ -1,8 +1,8 @@
 // A plan file read to its record; or 12. The reader is handed the part used and no more.
-use super::good::is_good_plan;
-use plan::Bus;
-use plan::BusPlan;
-use plan::PlacedModule;
+use plan_record::is_good_plan;
+use plan_record::Bus;
+use plan_record::BusPlan;
+use plan_record::PlacedModule;
 use units::Cycles;
 use units::Refusal;
 use units::Wires;
@@ -11,7 +11,7 @@ ghost use mathlib.Core.Bool.{true};
 ghost use Prim.Native.Nat.{_+_, _*_, _≤_, _<_};
 ghost use lib.ListN.{length};
 ghost use Rattle.soc.specs.Places.{padded};
-ghost use Rattle.plan.specs.Answers.{limitMax, plannedMax, noBus, noPlaced};
+ghost use Rattle.plan_record.specs.Record.{busPlaces, modulePlaces, noBus, noPlaced};
 ghost use Rattle.plan_file.specs.Files.{numberAt, moduleAt, busAt, records, goodLength, goodOffsets, planIn, zeroModules, zeroBuses, refusedRead, readAnswer};
 
 // What a file says; or the refusal, with a plan that says nothing.
@@ -39,9 +39,9 @@ fn number_at(f: &[u8], at: usize) -> u64
 // The first n records, of modules.
 fn modules_in(f: &[u8], n: usize) -> [PlacedModule; 12]
     requires { ⌜ (n ≤ 12) × (12 * n ≤ length (now f)) ⌝ }
-    ensures { λ r. ⌜ r ≡ padded plannedMax noPlaced (records (moduleAt (now (f .entry))) n 0) ⌝ }
+    ensures { λ r. ⌜ r ≡ padded modulePlaces noPlaced (records (moduleAt (now (f .entry))) n 0) ⌝ }
 {
-    let mut list = [plan::no_placed(); 12];
+    let mut list = [plan_record::no_placed(); 12];
     let mut i: usize = 0;
     while i < n {
         let at = 12 * i;
@@ -59,9 +59,9 @@ fn modules_in(f: &[u8], n: usize) -> [PlacedModule; 12]
 // The n records from a place on, of buses.
 fn buses_in(f: &[u8], from: usize, n: usize) -> [Bus; 3]
     requires { ⌜ (n ≤ 3) × (from + 12 * n ≤ length (now f)) ⌝ }
-    ensures { λ r. ⌜ r ≡ padded limitMax noBus (records (busAt (now (f .entry))) n from) ⌝ }
+    ensures { λ r. ⌜ r ≡ padded busPlaces noBus (records (busAt (now (f .entry))) n from) ⌝ }
 {
-    let mut list = [plan::no_bus(); 3];
+    let mut list = [plan_record::no_bus(); 3];
     let mut i: usize = 0;
     while i < n {
         let at = from + 12 * i;
@@ -173,7 +173,7 @@ fn refused_read() -> FileRead
 {
     FileRead {
         refusal: Refusal::at(12, 0),
-        plan: plan::no_plan(),
+        plan: plan_record::no_plan(),
     }
 }
 

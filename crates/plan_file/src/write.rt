@@ -1,15 +1,15 @@
 // A plan record written to its file, at the front of a lent buffer; or the refusal: 12, then 11.
-use super::good::is_good_plan;
+use plan_record::is_good_plan;
 use super::put::put_bus;
 use super::put::put_module;
 use super::put::put_trailer;
-use plan::BusPlan;
+use plan_record::BusPlan;
 use units::Refusal;
 ghost use mathlib.Core.Path.{_≡_};
 ghost use mathlib.Core.List.{_++_};
 ghost use Prim.Native.Nat.{_+_, _*_, _≤_};
 ghost use lib.ListN.{length, drop, take};
-ghost use Rattle.plan_file.specs.Good.{busesOf, modulesOf};
+ghost use Rattle.plan_record.specs.Record.{busesOf, modulesOf};
 ghost use Rattle.plan_file.specs.Bytes.{moduleBytes, busBytes, each, fileBytes};
 ghost use Rattle.plan_file.specs.Puts.{Small};
 ghost use Rattle.plan_file.specs.Files.{refusedFile, writeAnswer, writeLeaves};

@@ -1,19 +1,20 @@
 -- Laws of a good plan record: how its loops walk the modules and the buses, and what its figures keep (`GoodFigures`). Assumes nothing.
-use Prim.Native.Nat.{ℕ, zero, suc, _+_, _-_, _≤_, _<_, max}
+use Prim.Native.Nat.{ℕ, zero, suc, _+_, _-_, _*_, _≤_, _<_, max}
 use mathlib.Core.Path.{_≡_, refl, ap, _∙_}
-use mathlib.Core.Bool.{Bool, true, false, _&&_, and-false}
+use mathlib.Core.Bool.{Bool, true, false, cond, _&&_, and-false}
 use mathlib.Core.List.{List, [], _∷_}
 use mathlib.Core.Logic.{inl}
 use native.Mathlib.Omega.{arith}
 use native.Mathlib.Numerals.{add-one}
 use borrow.Author.Tests.{leb-true, eqb-true, eq-eqb, ne-eqb}
 use lib.ListN.{length, getD, take, drop, drop-of-length-le}
-use lib.Seq.{drop-cons, getD-take}
+use lib.Seq.{drop-cons, getD-take, length-take-le}
 use lib.Dec.{leb, eqb}
 use Rattle.fields.proofs.TestLaws.{and-both}
 use Rattle.soc.specs.Places.{allOf}
 use Rattle.soc.proofs.PlaceLaws.{front-has, front-ends}
-use Rattle.plan_record.specs.Record.{noBus, noPlaced, busesOf, modulesOf, widthsOf, cyclesOn, busiesOf, numbersOf}
+use Rattle.plan_record.specs.Record.{noBus, noPlaced, busesOf, modulesOf, widthsOf, cyclesOn, busiesOf, numbersOf, modulePlaces}
+use Rattle.plan_record.specs.Whole.{Whole}
 use Rattle.wrapper.specs.Maxima.{moduleTimeMax}
 use Rattle.plan_record.specs.declared.record.Bus.{Bus}
 use Rattle.plan_record.specs.declared.record.PlacedModule.{PlacedModule}
@@ -227,3 +228,49 @@ good-figures p e =
       cycles = λ i h. placed-front p (g .placed) i h .cycles;
       width = λ b h. omega (arith, good-width p (g .buses) b h);
     }
+
+-- sums of cycles are small
+cond-most : (t : Bool) (n k : ℕ) → n ≤ k → cond t n 0 ≤ k
+cond-most true n k h = h
+cond-most false n k h = omega arith
+
+cycles-most : (b : ℕ) (ms : List PlacedModule) → ((i : ℕ) → i < length ms → getD ms i noPlaced .cycles .0 ≤ moduleTimeMax) → cyclesOn b ms ≤ moduleTimeMax * length ms
+unfolding cyclesOn
+cycles-most b [] g = omega arith
+cycles-most b (m ∷ ms) g =
+    omega (arith, cond-most (eqb (m .bus) b) (m .cycles .0) moduleTimeMax (g 0 (omega arith)), cycles-most b ms (λ i h. g (suc i) (omega arith)))
+
+busy-most : (ms : List PlacedModule) (k : ℕ) → ((b : ℕ) → cyclesOn b ms ≤ k) → (b : ℕ) (xs : List Bus) → goodBusies ms b xs ≡ true → (i : ℕ) → i < length xs → getD xs i noBus .busy .0 ≤ k
+unfolding goodBusies
+busy-most ms k g b [] e i h = absurd (omega arith)
+busy-most ms k g b (x ∷ xs) e zero h =
+    let q : x .busy .0 ≡ cyclesOn b ms = eqb-true (x .busy .0) (cyclesOn b ms) (and-both (eqb (x .busy .0) (cyclesOn b ms)) (goodBusies ms (suc b) xs) e .0) in
+    omega (arith, g b)
+busy-most ms k g b (x ∷ xs) e (suc i) h =
+    busy-most ms k g (suc b) xs (and-both (eqb (x .busy .0) (cyclesOn b ms)) (goodBusies ms (suc b) xs) e .1) i (omega arith)
+
+largest-most : (k : ℕ) (xs : List Bus) → ((i : ℕ) → i < length xs → getD xs i noBus .busy .0 ≤ k) → largest (busiesOf xs) ≤ k
+unfolding largest
+largest-most k [] g = omega arith
+largest-most k (x ∷ xs) g =
+    let a : x .busy .0 ≤ k = g 0 (omega arith) in
+    let b : largest (busiesOf xs) ≤ k = largest-most k xs (λ i h. g (suc i) (omega arith)) in
+    omega arith
+
+times-both : (p : BusPlan) → goodTimes p ≡ true → (goodBusies (modulesOf p) 1 (busesOf p) ≡ true) × (p .time .0 ≡ largest (busiesOf (busesOf p)))
+unfolding goodTimes
+times-both p e =
+    let a = and-both (goodBusies (modulesOf p) 1 (busesOf p)) (eqb (p .time .0) (largest (busiesOf (busesOf p)))) e in
+    (a .0, eqb-true (p .time .0) (largest (busiesOf (busesOf p))) (a .1))
+
+-- busy figures and the time of a good plan
+module _ (p : BusPlan) (w : Whole p) (e : goodPlan p ≡ true) where
+  pub good-busy : (i : ℕ) → i < length (busesOf p) → getD (busesOf p) i noBus .busy .0 ≤ moduleTimeMax * modulePlaces
+  good-busy =
+      let g = good-figures p e in
+      let m : length (modulesOf p) ≡ p .«module_count» = length-take-le (p .«module_count») (p .modules) (omega (arith, w .modules)) in
+      let c : (i : ℕ) → i < length (modulesOf p) → getD (modulesOf p) i noPlaced .cycles .0 ≤ moduleTimeMax = λ i h. let k : i < p .«module_count» = omega arith in rw getD-take (g .cycles i k) in
+      busy-most (modulesOf p) (moduleTimeMax * modulePlaces) (λ b. omega (arith, cycles-most b (modulesOf p) c)) 1 (busesOf p) (times-both p (good-parts p e .times) .0)
+
+  pub good-time : p .time .0 ≤ moduleTimeMax * modulePlaces
+  good-time = omega (arith, times-both p (good-parts p e .times) .1, largest-most (moduleTimeMax * modulePlaces) (busesOf p) good-busy)

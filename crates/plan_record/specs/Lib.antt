@@ -1,3 +1,4 @@
 pub mod Record
 pub mod Good
+pub mod Whole
 pub mod Times

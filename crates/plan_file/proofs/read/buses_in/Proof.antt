@@ -5,14 +5,14 @@ use native.Mathlib.Omega.{arith}
 use Prim.Native.Nat.{_+_, _-_, _*_, _≤_}
 use mathlib.Core.Path.{_≡_, _∙_}
 use Rattle.soc.specs.Places.{padded}
-use Rattle.plan.specs.Answers.{limitMax, noBus}
+use Rattle.plan_record.specs.Record.{busPlaces, noBus}
 use Rattle.plan_file.specs.Files.{busAt, records}
 use Rattle.plan_file.proofs.ReadLaws.{filled-none, filled-step}
 use Rattle.plan_file.proofs.read.buses_in.Statement.{statement}
 use Rattle.plan_file.proofs.read.buses_in.Tie as tie
 
 abbrev Inv-loop : tie.InvT-loop
-Inv-loop f from n list₀ i₀ list i = (i ≤ n) × (list ≡ padded limitMax noBus (records (busAt f) i from))
+Inv-loop f from n list₀ i₀ list i = (i ≤ n) × (list ≡ padded busPlaces noBus (records (busAt f) i from))
 
 abbrev μ-loop : tie.MeasureT-loop
 μ-loop f from n list₀ i₀ list i = n - i
@@ -21,7 +21,7 @@ no-bus-requires : tie.Need-no-bus-requires Inv-loop μ-loop
 no-bus-requires c κs = search needs
 
 loop-holds : tie.Need-loop-holds Inv-loop μ-loop
-loop-holds c = (omega arith, rw (c .no-bus .ensures) (filled-none limitMax noBus (busAt (c .before .before .args .f .now)) (c .before .before .args .from)))
+loop-holds c = (omega arith, rw (c .no-bus .ensures) (filled-none busPlaces noBus (busAt (c .before .before .args .f .now)) (c .before .before .args .from)))
 
 mul-at : tie.Need-mul-at Inv-loop μ-loop
 mul-at c = search needs
@@ -58,7 +58,7 @@ loop-again c =
     let l = c .before .before .before in
     let s = l .before .before .before in (
       omega arith,
-      rw (l .loop .inv .1) (filled-step limitMax noBus _ (busAt (s .args .f .now)) (l .loop .i) (s .args .from) (omega arith) (rw (c .number-at .ensures))),
+      rw (l .loop .inv .1) (filled-step busPlaces noBus _ (busAt (s .args .f .now)) (l .loop .i) (s .args .from) (omega arith) (rw (c .number-at .ensures))),
     )
 
 returns : tie.Need-returns Inv-loop μ-loop

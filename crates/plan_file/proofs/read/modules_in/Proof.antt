@@ -5,14 +5,14 @@ use native.Mathlib.Omega.{arith}
 use Prim.Native.Nat.{_+_, _-_, _*_, _≤_}
 use mathlib.Core.Path.{_≡_, _∙_}
 use Rattle.soc.specs.Places.{padded}
-use Rattle.plan.specs.Answers.{plannedMax, noPlaced}
+use Rattle.plan_record.specs.Record.{modulePlaces, noPlaced}
 use Rattle.plan_file.specs.Files.{moduleAt, records}
 use Rattle.plan_file.proofs.ReadLaws.{filled-none, filled-step}
 use Rattle.plan_file.proofs.read.modules_in.Statement.{statement}
 use Rattle.plan_file.proofs.read.modules_in.Tie as tie
 
 abbrev Inv-loop : tie.InvT-loop
-Inv-loop f n list₀ i₀ list i = (i ≤ n) × (list ≡ padded plannedMax noPlaced (records (moduleAt f) i 0))
+Inv-loop f n list₀ i₀ list i = (i ≤ n) × (list ≡ padded modulePlaces noPlaced (records (moduleAt f) i 0))
 
 abbrev μ-loop : tie.MeasureT-loop
 μ-loop f n list₀ i₀ list i = n - i
@@ -21,7 +21,7 @@ no-placed-requires : tie.Need-no-placed-requires Inv-loop μ-loop
 no-placed-requires c κs = search needs
 
 loop-holds : tie.Need-loop-holds Inv-loop μ-loop
-loop-holds c = (omega arith, rw (c .no-placed .ensures) (filled-none plannedMax noPlaced (moduleAt (c .before .before .args .f .now)) 0))
+loop-holds c = (omega arith, rw (c .no-placed .ensures) (filled-none modulePlaces noPlaced (moduleAt (c .before .before .args .f .now)) 0))
 
 mul-at : tie.Need-mul-at Inv-loop μ-loop
 mul-at c = search needs
@@ -74,7 +74,7 @@ loop-again c =
     let s = l .before .before .before in
     let e : 0 + 12 * l .loop .i ≡ 12 * l .loop .i = omega arith in (
       omega arith,
-      rw (l .loop .inv .1) (filled-step plannedMax noPlaced _ (moduleAt (s .args .f .now)) (l .loop .i) 0 (omega arith) (rw (e, c .number-at .ensures))),
+      rw (l .loop .inv .1) (filled-step modulePlaces noPlaced _ (moduleAt (s .args .f .now)) (l .loop .i) 0 (omega arith) (rw (e, c .number-at .ensures))),
     )
 
 returns : tie.Need-returns Inv-loop μ-loop

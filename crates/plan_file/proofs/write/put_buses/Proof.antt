@@ -7,7 +7,7 @@ use native.Mathlib.Omega.{arith}
 use borrow.Author.Needs.{needs}
 use borrow.Rule.Slice.PartMut.{same-len-mid}
 use lib.ListN.{length, take, drop, length-map}
-use Rattle.plan.specs.Answers.{noBus}
+use Rattle.plan_record.specs.Record.{noBus}
 use Rattle.plan_file.specs.Bytes.{busBytes, each}
 use Rattle.plan_file.proofs.FileLaws.{part-room, each-put, bus-length}
 use Rattle.plan_file.proofs.write.put_buses.Statement.{statement}

@@ -6,9 +6,9 @@ use native.Mathlib.Omega.{arith}
 use borrow.Author.Needs.{needs}
 use borrow.Author.Tests.{not-true, not-false}
 use lib.ListN.{length, length-map}
-use Rattle.plan_file.specs.Good.{goodPlan}
+use Rattle.plan_record.specs.Good.{goodPlan}
 use Rattle.plan_file.specs.Bytes.{fileBytes}
-use Rattle.plan_file.proofs.GoodLaws.{good-figures}
+use Rattle.plan_record.proofs.GoodPlanLaws.{good-figures}
 use Rattle.plan_file.proofs.FileLaws.{good-small, good-length, write-bad, write-short, write-whole}
 use Rattle.plan_file.proofs.write.write_plan.Statement.{statement}
 use Rattle.plan_file.proofs.write.write_plan.Tie as tie
