@@ -7,7 +7,7 @@ use mathlib.Core.List.{List, _++_, append-assoc}
 use native.Mathlib.Omega.{arith}
 use borrow.Author.Tests.{eq-eqb}
 use lib.ListN.{length, getD, take, drop}
-use Rattle.soc.specs.Places.{allOf}
+use Rattle.units.specs.Places.{allOf}
 use Rattle.soc.specs.Record.{noModule}
 use Rattle.soc.specs.Rules.{goodSoc}
 use Rattle.soc.specs.Sized.{SizedModule, Sized}

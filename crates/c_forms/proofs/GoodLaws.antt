@@ -11,10 +11,10 @@ use lib.ListN.{length, getD, take, drop}
 use mir.Syntax.{w32}
 use mir.Val.{SFits}
 use Rattle.fields.specs.Names.{nameMax}
-use Rattle.fields.proofs.TestLaws.{and-both}
+use Rattle.units.proofs.TestLaws.{and-both}
 use Rattle.units.specs.declared.FlipFlops.{FlipFlops}
 use Rattle.soc.specs.Limits.{modulesMax, levelMax, terminalsMax, chainsMax, lengthMax, testsMax, patternsMax, positionMax, powerMax}
-use Rattle.soc.specs.Places.{allOf}
+use Rattle.units.specs.Places.{allOf}
 use Rattle.soc.specs.Record.{flipFlops, noTest, noModule}
 use Rattle.soc.specs.Rules.{none, noneZ, isNotGiven, upTo, goodLength, spareLength, goodPower, goodPosition, goodTest, spareTest, levelRule, goodTerminals, goodChains, goodTests, goodModule, goodModules, spareModule, goodName, goodSoc}
 use Rattle.soc.specs.declared.record.Test.{Test}

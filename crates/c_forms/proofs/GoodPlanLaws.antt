@@ -7,8 +7,8 @@ use native.Mathlib.Omega.{arith}
 use borrow.Author.Tests.{eqb-true}
 use lib.ListN.{length, getD, drop}
 use lib.Seq.{getD-take}
-use Rattle.fields.proofs.TestLaws.{and-both}
-use Rattle.soc.specs.Places.{allOf}
+use Rattle.units.proofs.TestLaws.{and-both}
+use Rattle.units.specs.Places.{allOf}
 use Rattle.plan.specs.Answers.{noBus, noPlaced}
 use Rattle.plan.specs.declared.record.Bus.{Bus}
 use Rattle.plan.specs.declared.record.PlacedModule.{PlacedModule}

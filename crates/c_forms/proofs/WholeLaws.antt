@@ -5,8 +5,7 @@ use mathlib.Core.List.{List}
 use native.Mathlib.Omega.{arith}
 use borrow.Author.Tests.{le-leb, lt-leb}
 use lib.ListN.{length}
-use Rattle.fields.specs.Written.{putFront, putCount}
-use Rattle.fields.specs.Puts.{putAt, Put}
+use Rattle.buffer.specs.Puts.{putFront, putCount, putAt, Put}
 
 module _ (w buf : List ℕ) {k : ℕ} (long : length w ≡ k) where
   pub none-put : length buf < k → (0 ≡ putCount w buf) × (buf ≡ putFront w buf) × (length w ≡ k)

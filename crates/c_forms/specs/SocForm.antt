@@ -7,7 +7,7 @@ use lib.Dec.{leb, eqb}
 use Rattle.units.specs.declared.FlipFlops.{FlipFlops}
 use Rattle.fields.specs.Names.{nameMax}
 use Rattle.soc.specs.Limits.{modulesMax, chainsMax, testsMax}
-use Rattle.soc.specs.Places.{allOf}
+use Rattle.units.specs.Places.{allOf}
 use Rattle.soc.specs.Record.{flipFlops, noSoc}
 use Rattle.soc.specs.declared.record.Test.{Test}
 use Rattle.soc.specs.declared.record.Module.{Module}

@@ -7,8 +7,7 @@ use plan::PlacedModule;
 ghost use mathlib.Core.Path.{_≡_};
 ghost use Prim.Native.Nat.{_+_, _≤_};
 ghost use lib.ListN.{length};
-ghost use Rattle.fields.specs.Puts.{Put};
-ghost use Rattle.fields.specs.Written.{putFront, putCount};
+ghost use Rattle.buffer.specs.Puts.{Put, putFront, putCount};
 ghost use Rattle.plan_file.specs.Bytes.{each};
 ghost use Rattle.c_forms.specs.PlanForm.{planLength, busBytes, placedBytes, countBytes, planBytes};
 

@@ -8,8 +8,7 @@ use units::FlipFlops;
 ghost use mathlib.Core.Path.{_≡_};
 ghost use Prim.Native.Nat.{_+_, _≤_};
 ghost use lib.ListN.{length};
-ghost use Rattle.fields.specs.Puts.{Put};
-ghost use Rattle.fields.specs.Written.{putFront, putCount};
+ghost use Rattle.buffer.specs.Puts.{Put, putFront, putCount};
 ghost use Rattle.plan_file.specs.Bytes.{each};
 ghost use Rattle.c_forms.specs.Words.{word, signedWord, flagWord};
 ghost use Rattle.c_forms.specs.SocForm.{socLength, testBytes, lengthBytes, shapeBytes, moduleBytes, headBytes, socBytes};
@@ -116,7 +115,7 @@ fn put_head(buf: &mut [u8], at: usize, s: Soc) -> usize
 {
     let name = s.name;
     let a = put_word(&mut *buf, at, s.name_len as u64);
-    let b = fields::put_bytes(&mut *buf, a, &name);
+    let b = buffer::put_bytes(&mut *buf, a, &name);
     let c = put_flag(&mut *buf, b, s.power);
     let d = put_flag(&mut *buf, c, s.xy);
     put_word(&mut *buf, d, s.module_count as u64)

@@ -2,7 +2,7 @@
 ghost use mathlib.Core.Path.{_≡_};
 ghost use Prim.Native.Nat.{_+_, _≤_, _<_};
 ghost use lib.ListN.{length};
-ghost use Rattle.fields.specs.Puts.{Put};
+ghost use Rattle.buffer.specs.Puts.{Put};
 ghost use Rattle.c_forms.specs.Words.{word, wordAt, long, longAt, signedWord, signedIn};
 
 pub(crate) fn word_at(b: &[u8], at: usize) -> u32
@@ -48,7 +48,7 @@ pub(crate) fn put_word(buf: &mut [u8], at: usize, v: u64) -> usize
         (v / 65536 % 256) as u8,
         (v / 16777216 % 256) as u8,
     ];
-    fields::put_bytes(&mut *buf, at, &w)
+    buffer::put_bytes(&mut *buf, at, &w)
 }
 
 pub(crate) fn put_long(buf: &mut [u8], at: usize, v: u64) -> usize

@@ -8,7 +8,7 @@ use borrow.Author.Tests.{eq-eqb, ne-eqb}
 use lib.Dec.{leb}
 use lib.ListN.{length}
 use Rattle.units.specs.declared.Refusal.{Refusal}
-use Rattle.fields.specs.Written.{putFront, putCount}
+use Rattle.buffer.specs.Puts.{putFront, putCount}
 use Rattle.c_interface.specs.Codes.{above, code, bytesCode, given, givenUnless, heldUnless}
 
 module _ (r : Refusal) (v : ℕ) where

@@ -6,7 +6,7 @@ use mathlib.Core.List.{List}
 use lib.ListN.{length}
 use lib.Dec.{leb, eqb}
 use Rattle.units.specs.declared.Refusal.{Refusal}
-use Rattle.fields.specs.Written.{putFront}
+use Rattle.buffer.specs.Puts.{putFront}
 use Rattle.text_reader.specs.Reading.{readSoc}
 use Rattle.text_writer.specs.Written as soctext
 use Rattle.wrapper.specs.Answers.{layoutAnswer, testTimeAnswer, moduleTimeAnswer}

@@ -8,6 +8,7 @@ use mathlib.Core.Option.{Option, some, none}
 use native.Mathlib.Omega.{arith}
 use lib.ListN.{drop}
 use lib.Dec.{leb}
+use Rattle.units.proofs.TestLaws.{clash}
 use Rattle.fields.specs.Bytes.{sameBytes}
 use Rattle.fields.specs.Fields.{fieldsOf, fieldEnd}
 use Rattle.fields.specs.Numbers.{decimalOf}
@@ -21,25 +22,25 @@ use Rattle.fields.proofs.FieldLaws.{fields-behind}
 -- a keyword or a number takes the first field: gs is what stands behind it
 due-first : (w : List ℕ) (fs : List (List ℕ)) (u : Unit {0}) (gs : List (List ℕ)) → bytesDue w fs ≡ got u gs → (f : List ℕ) × (fs ≡ f ∷ gs)
 unfolding bytesDue
-due-first w [] u gs h = let z : _≡_ {A = ℕ} 0 1 = cc in absurd (omega arith)
+due-first w [] u gs h = clash cc
 due-first w (f ∷ fs) u gs h = go (sameBytes f w) h
   where
     go : (t : Bool) → cond {A = FieldsGot (Unit {0})} t (got tt fs) (no 3) ≡ got u gs → (x : List ℕ) × (f ∷ fs ≡ x ∷ gs)
     go true h = let k : fs ≡ gs = cc in (f, ap (_∷_ f) k)
-    go false h = let z : _≡_ {A = ℕ} 0 1 = cc in absurd (omega arith)
+    go false h = clash cc
 
 within-rest : (low high : ℕ) (o : Option ℕ) (fs : List (List ℕ)) (v : ℕ) (gs : List (List ℕ)) → within low high o fs ≡ got v gs → fs ≡ gs
 unfolding within
-within-rest low high none fs v gs h = let z : _≡_ {A = ℕ} 0 1 = cc in absurd (omega arith)
+within-rest low high none fs v gs h = clash cc
 within-rest low high (some n) fs v gs h = go (leb low n && leb n high) h
   where
     go : (t : Bool) → cond {A = FieldsGot ℕ} t (got n fs) (no 4) ≡ got v gs → fs ≡ gs
     go true h = cc
-    go false h = let z : _≡_ {A = ℕ} 0 1 = cc in absurd (omega arith)
+    go false h = clash cc
 
 between-first : (low high : ℕ) (fs : List (List ℕ)) (v : ℕ) (gs : List (List ℕ)) → between low high fs ≡ got v gs → (f : List ℕ) × (fs ≡ f ∷ gs)
 unfolding between
-between-first low high [] v gs h = let z : _≡_ {A = ℕ} 0 1 = cc in absurd (omega arith)
+between-first low high [] v gs h = clash cc
 between-first low high (f ∷ fs) v gs h = (f, ap (_∷_ f) (within-rest low high (decimalOf f) fs v gs h))
 
 module _ (l : List ℕ) (at : ℕ) where
@@ -75,7 +76,7 @@ unfolding after
 key-left l at w low high v gs h = go (bytesDue w (fieldsOf (drop at l))) refl h
   where
     go : (g : FieldsGot (Unit {0})) → bytesDue w (fieldsOf (drop at l)) ≡ g → after g (λ _. between low high) ≡ got v gs → gs ≡ fieldsOf (drop (fieldEnd l (fieldEnd l at)) l)
-    go (no c) e h = let z : _≡_ {A = ℕ} 0 1 = cc in absurd (omega arith)
+    go (no c) e h = clash cc
     go (got u fs) e h = between-left l (fieldEnd l at) low high v gs (ap (between low high) (sym (due-left l at w u fs e)) ∙ h)
 
 pub key-number-is : (l : List ℕ) (at : ℕ) (w : List ℕ) (low high : ℕ) {r : Figure} → r ≡ keyNumberAnswer l at w low high → figureIs l r ≡ keyBetween w low high (fieldsOf (drop at l))
@@ -108,7 +109,7 @@ module _ (l : List ℕ) (at : ℕ) where
       where
         go : (g : FieldsGot (Unit {0})) → past.No c ≡ pastAt (fieldEnd l at) g → figure.No c ≡ figureAt (fieldEnd l (fieldEnd l at)) (after g (λ _. between low high))
         go (no d) h = let k : c ≡ d = cc in ap figure.No k
-        go (got u fs) h = let z : _≡_ {A = ℕ} 0 1 = cc in absurd (omega arith)
+        go (got u fs) h = clash cc
 
     pub key-number-past : (e : ℕ) → past.At e ≡ wordAnswer l at w → numberAnswer l e low high ≡ keyNumberAnswer l at w low high
     unfolding wordAnswer numberAnswer keyNumberAnswer pastAt after
@@ -116,5 +117,5 @@ module _ (l : List ℕ) (at : ℕ) where
       where
         go : (g : FieldsGot (Unit {0})) → bytesDue w (fieldsOf (drop at l)) ≡ g → past.At e ≡ pastAt (fieldEnd l at) g
             → figureAt (fieldEnd l e) (between low high (fieldsOf (drop e l))) ≡ figureAt (fieldEnd l (fieldEnd l at)) (after g (λ _. between low high))
-        go (no d) q h = let z : _≡_ {A = ℕ} 0 1 = cc in absurd (omega arith)
+        go (no d) q h = clash cc
         go (got u fs) q h = let k : e ≡ fieldEnd l at = cc in rw (due-left l at w u fs q, k)

@@ -10,7 +10,7 @@ use lib.Dec.{eqb, leb}
 use Rattle.fields.specs.Bytes.{sameBytes}
 use Rattle.fields.specs.Numbers.{digit, digits, more, decimalOf}
 use Rattle.fields.specs.Written.{decimal}
-use Rattle.fields.proofs.TestLaws.{and-both}
+use Rattle.units.proofs.TestLaws.{clash, and-both}
 use Rattle.fields.proofs.WrittenLaws.{decimal-small, decimal-large}
 
 pub same-bytes-refl : (a : List ℕ) → sameBytes a a ≡ true
@@ -54,7 +54,7 @@ digits-behind (b ∷ bs) v n h e = go (digits-behind bs (v * 10 + (b - 48)) n (o
     go : (digits bs (v * 10 + (b - 48)) ≡ some n → decimal (v * 10 + (b - 48)) ++ bs ≡ decimal n)
         → (t : Bool) → digit b ≡ t → cond t (digits bs (v * 10 + (b - 48))) none ≡ some n → decimal v ++ b ∷ bs ≡ decimal n
     go ih true d e = sym (append-assoc (decimal v) (b ∷ []) bs) ∙ ap (λ l. l ++ bs) (sym (decimal-digit v b h d)) ∙ ih e
-    go ih false d e = let z : _≡_ {A = ℕ} 0 1 = cc in absurd (omega arith)
+    go ih false d e = clash cc
 
 -- the first digit, and those behind it
 pub digits-first : (b : ℕ) (bs : List ℕ) (n : ℕ) → digits (b ∷ bs) 0 ≡ some n → (digit b ≡ true) × (digits bs (b - 48) ≡ some n)
@@ -63,7 +63,7 @@ digits-first b bs n h = go (digit b) refl h
   where
     go : (t : Bool) → digit b ≡ t → cond t (digits bs (0 * 10 + (b - 48))) none ≡ some n → (digit b ≡ true) × (digits bs (b - 48) ≡ some n)
     go true d h = let e : 0 * 10 + (b - 48) ≡ b - 48 = omega arith in (d, rw e at h)
-    go false d h = let z : _≡_ {A = ℕ} 0 1 = cc in absurd (omega arith)
+    go false d h = clash cc
 
 pub digit-decimal : (b : ℕ) → digit b ≡ true → b ∷ [] ≡ decimal (b - 48)
 digit-decimal b d = let p = digit-byte b d in sym (decimal-small (b - 48) (p .1) ∙ rw (p .0))
@@ -79,7 +79,7 @@ lead-unique b bs n m h =
 -- a field that is a number is that number as it is written
 pub decimal-unique : (f : List ℕ) (n : ℕ) → decimalOf f ≡ some n → f ≡ decimal n
 unfolding decimalOf more digits
-decimal-unique [] n h = let z : _≡_ {A = ℕ} 0 1 = cc in absurd (omega arith)
+decimal-unique [] n h = clash cc
 decimal-unique (b ∷ []) n h =
     let p = digits-first b [] n (simp and-false at h) in
     let e : b - 48 ≡ n = cc in
@@ -87,7 +87,7 @@ decimal-unique (b ∷ []) n h =
 decimal-unique (b ∷ d ∷ f) n h = go (eqb b 48) refl h
   where
     go : (t : Bool) → eqb b 48 ≡ t → cond (t && true) none (digits (b ∷ d ∷ f) 0) ≡ some n → b ∷ d ∷ f ≡ decimal n
-    go true e h = let z : _≡_ {A = ℕ} 0 1 = cc in absurd (omega arith)
+    go true e h = clash cc
     go false e h = lead-unique b (d ∷ f) n (eqb-false b 48 e) h
 
 -- and so it has a byte

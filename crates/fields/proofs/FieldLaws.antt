@@ -9,6 +9,7 @@ use borrow.Author.Tests.{ltb-true, ltb-false, not-true, not-false}
 use lib.ListN.{length, take, drop, length-drop, drop-of-length-le}
 use lib.Dec.{ltb}
 use lib.Seq.{drop-drop}
+use Rattle.units.proofs.TestLaws.{clash}
 use Rattle.fields.specs.Fields.{gap, begins, onField, fieldsOf, part, gaps, run, runEnd, fieldFrom, nextField, fieldEnd}
 use Rattle.fields.specs.declared.field.Next.{Next}
 use Rattle.fields.specs.declared.field.Next.the-variants.{Field, Nothing}
@@ -50,7 +51,7 @@ run-some (b ∷ l) h = simp (not-true (gap b) h) (omega arith)
 
 fields-run : (l : List ℕ) → begins l ≡ true → fieldsOf l ≡ take (run l) l ∷ fieldsOf (drop (run l) l)
 unfolding begins fieldsOf onField run
-fields-run [] h = let z : _≡_ {A = ℕ} 0 1 = cc in absurd (omega arith)
+fields-run [] h = clash cc
 fields-run (b ∷ l) h = go (fields-run l) (not-true (gap b) h) (begins l) refl
   where
     go : (begins l ≡ true → fieldsOf l ≡ take (run l) l ∷ fieldsOf (drop (run l) l)) → gap b ≡ false → (t : Bool) → begins l ≡ t
@@ -83,14 +84,14 @@ next-field s at a e h = go (at + gaps (drop at s)) refl (ltb (at + gaps (drop at
   where
     go : (m : ℕ) → at + gaps (drop at s) ≡ m → (t : Bool) → ltb m (length s) ≡ t → cond t (Field m (m + run (drop m s))) Nothing ≡ Field a e → FieldIs s at a e
     go m p true l q = let x : m ≡ a = cc in let y : m + run (drop m s) ≡ e = cc in rw x at (field-is s at m e p (ltb-true m (length s) l) y)
-    go m p false l q = let z : _≡_ {A = ℕ} 0 1 = cc in absurd (omega arith)
+    go m p false l q = clash cc
 
 pub next-nothing : (s : List ℕ) (at : ℕ) → nextField s at ≡ Nothing → fieldsOf (drop at s) ≡ []
 unfolding nextField fieldFrom fieldsOf
 next-nothing s at h = go (at + gaps (drop at s)) refl (ltb (at + gaps (drop at s)) (length s)) refl h
   where
     go : (m : ℕ) → at + gaps (drop at s) ≡ m → (t : Bool) → ltb m (length s) ≡ t → cond t (Field m (m + run (drop m s))) Nothing ≡ Nothing → fieldsOf (drop at s) ≡ []
-    go m p true l q = let z : _≡_ {A = ℕ} 0 1 = cc in absurd (omega arith)
+    go m p true l q = clash cc
     go m p false l q = fields-past s at m p ∙ ap fieldsOf (drop-of-length-le s (ltb-false m (length s) l))
 
 -- the end that `nextField` names is the field's end
@@ -100,7 +101,7 @@ next-end s at a e h = go (at + gaps (drop at s)) (ltb (at + gaps (drop at s)) (l
   where
     go : (m : ℕ) (t : Bool) → cond t (Field m (runEnd s m)) Nothing ≡ Field a e → runEnd s m ≡ e
     go m true q = cc
-    go m false q = let z : _≡_ {A = ℕ} 0 1 = cc in absurd (omega arith)
+    go m false q = clash cc
 
 -- the fields behind the first one are those behind its end
 pub fields-behind : (s : List ℕ) (at : ℕ) (f : List ℕ) (fs : List (List ℕ)) → fieldsOf (drop at s) ≡ f ∷ fs → fs ≡ fieldsOf (drop (fieldEnd s at) s)
@@ -108,4 +109,4 @@ fields-behind s at f fs h = go (nextField s at) refl
   where
     go : (n : Next) → nextField s at ≡ n → fs ≡ fieldsOf (drop (fieldEnd s at) s)
     go (Field a e) q = let k : part s a e ∷ fieldsOf (drop e s) ≡ f ∷ fs = sym (next-field s at a e q .is) ∙ h in rw (next-end s at a e q) (cc)
-    go Nothing q = let k = next-nothing s at q in let z : _≡_ {A = ℕ} 0 1 = cc in absurd (omega arith)
+    go Nothing q = let k = next-nothing s at q in clash cc

@@ -13,7 +13,7 @@ use Rattle.fields.specs.Names.{nameByte, nameBytes, nameMax, isName}
 use Rattle.fields.specs.Numbers.{digit}
 use Rattle.fields.specs.Written.{decimal, joined}
 use Rattle.fields.proofs.NameLaws.{name-byte-no}
-use Rattle.fields.proofs.TestLaws.{and-both, within-true, below-false, above-false}
+use Rattle.units.proofs.TestLaws.{and-both, within-true, below-false, above-false}
 use Rattle.fields.proofs.WrittenLaws.{allDigits, plainFields, decimal-plain, joined-fields}
 
 -- every byte is from 32 to 126

@@ -6,8 +6,7 @@ pub mod FormLaws
 pub mod LineLaws
 pub mod NameLaws
 pub mod NumberLaws
-pub mod PutLaws
 pub mod ReaderLaws
 pub mod SizeLaws
-pub mod TestLaws
 pub mod WrittenLaws
+pub mod LinesWritten

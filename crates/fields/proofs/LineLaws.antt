@@ -10,6 +10,7 @@ use borrow.Author.Tests.{ltb-true, ltb-false, lt-ltb, le-ltb}
 use lib.ListN.{length, getD, take, drop, length-drop, drop-of-length-le}
 use lib.Dec.{eqb, ltb}
 use lib.Seq.{drop-drop, getD-drop, take-all}
+use Rattle.units.proofs.TestLaws.{clash}
 use Rattle.fields.specs.Bytes.{lf, cr, lfNext}
 use Rattle.fields.specs.Fields.{fieldsOf, part, blank}
 use Rattle.fields.specs.Lines.{onLine, linesOf, Line, withLine, numbered, linesFrom, untilLf, lineTo, lineEnding, lineAt, Placed, meantLines, lineStart, NextLineIs}
@@ -180,11 +181,11 @@ line-is t from o h e = go (untilLf (drop from t)) refl (ltb (from + untilLf (dro
 with-blank : (n : ℕ) (fs : List (List ℕ)) (ls : List Line) → blank fs ≡ true → withLine n fs ls ≡ ls
 unfolding blank withLine
 with-blank n [] ls e = refl
-with-blank n (f ∷ fs) ls e = let z : _≡_ {A = ℕ} 0 1 = cc in absurd (omega arith)
+with-blank n (f ∷ fs) ls e = clash cc
 
 with-some : (n : ℕ) (fs : List (List ℕ)) (ls : List Line) → blank fs ≡ false → withLine n fs ls ≡ record { number = n; fields = fs } ∷ ls
 unfolding blank withLine
-with-some n [] ls e = let z : _≡_ {A = ℕ} 0 1 = cc in absurd (omega arith)
+with-some n [] ls e = clash cc
 with-some n (f ∷ fs) ls e = refl
 
 module _ (t : List ℕ) (from to next : ℕ) (k : LineIs t from to next) where
@@ -206,7 +207,7 @@ lines-none n t at h = rw (drop-of-length-le t h)
 -- no line that is numbered is blank
 numbered-some : (n : ℕ) (ls : List (List ℕ)) (x : Line) (xs : List Line) → numbered n ls ≡ x ∷ xs → blank (x .fields) ≡ false
 unfolding numbered withLine blank
-numbered-some n [] x xs e = let z : _≡_ {A = ℕ} 0 1 = cc in absurd (omega arith)
+numbered-some n [] x xs e = clash cc
 numbered-some n (l ∷ ls) x xs e = go (numbered-some (suc n) ls x xs) (fieldsOf l) e
   where
     go : (numbered (suc n) ls ≡ x ∷ xs → blank (x .fields) ≡ false) → (fs : List (List ℕ)) → withLine n fs (numbered (suc n) ls) ≡ x ∷ xs → blank (x .fields) ≡ false

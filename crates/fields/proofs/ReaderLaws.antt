@@ -11,7 +11,7 @@ use lib.Seq.{append-snoc}
 use Rattle.fields.specs.Numbers.{decimalOf, cap, cut}
 use Rattle.fields.specs.declared.number.Number.the-variants.{Bad, Value}
 use Rattle.fields.specs.Readers.{Got, no, got, Reads, FieldsGot, after, give, each, bytesDue, within, between, keyBetween}
-use Rattle.fields.proofs.TestLaws.{and-both}
+use Rattle.units.proofs.TestLaws.{clash, and-both}
 
 module _ {E S A B : Type 0} (g : Got E S A) (k : A → Reads E S B) where
   pub after-no : (c : E) → g ≡ no c → after g k ≡ no c
@@ -60,21 +60,21 @@ tested low high v fs u gs true e h =
     let q : v ≡ u = cc in
     let b = and-both (leb low v) (leb v high) e in
     (omega (arith, leb-true low v (b .0)), omega (arith, leb-true v high (b .1)))
-tested low high v fs u gs false e h = let z : _≡_ {A = ℕ} 0 1 = cc in absurd (omega arith)
+tested low high v fs u gs false e h = clash cc
 
 within-within : (low high : ℕ) (o : Option ℕ) (fs : List (List ℕ)) (v : ℕ) (gs : List (List ℕ)) → within low high o fs ≡ got v gs → (low ≤ v) × (v ≤ high)
 unfolding within
-within-within low high none fs v gs h = let z : _≡_ {A = ℕ} 0 1 = cc in absurd (omega arith)
+within-within low high none fs v gs h = clash cc
 within-within low high (some u) fs v gs h = tested low high u fs v gs (leb low u && leb u high) refl h
 
 pub between-within : (low high : ℕ) (fs : List (List ℕ)) (v : ℕ) (gs : List (List ℕ)) → between low high fs ≡ got v gs → (low ≤ v) × (v ≤ high)
 unfolding between
-between-within low high [] v gs h = let z : _≡_ {A = ℕ} 0 1 = cc in absurd (omega arith)
+between-within low high [] v gs h = clash cc
 between-within low high (f ∷ fs) v gs h = within-within low high (decimalOf f) fs v gs h
 
 due-within : (low high : ℕ) (g : FieldsGot (Unit {0})) (v : ℕ) (gs : List (List ℕ)) → after g (λ _. between low high) ≡ got v gs → (low ≤ v) × (v ≤ high)
 unfolding after
-due-within low high (no c) v gs h = let z : _≡_ {A = ℕ} 0 1 = cc in absurd (omega arith)
+due-within low high (no c) v gs h = clash cc
 due-within low high (got a fs) v gs h = between-within low high fs v gs h
 
 pub key-between-within : (w : List ℕ) (low high : ℕ) (fs : List (List ℕ)) (v : ℕ) (gs : List (List ℕ)) → keyBetween w low high fs ≡ got v gs → (low ≤ v) × (v ≤ high)
@@ -84,13 +84,13 @@ key-between-within w low high fs v gs h = due-within low high (bytesDue w fs) v 
 pub within-bad : (low high : ℕ) (o : Option ℕ) (fs : List (List ℕ)) → cut o ≡ Bad → within low high o fs ≡ no 4
 unfolding within cut
 within-bad low high none fs h = refl
-within-bad low high (some n) fs h = let z : _≡_ {A = ℕ} 0 1 = cc in absurd (omega arith)
+within-bad low high (some n) fs h = clash cc
 
 -- the field is the number v, or where v is the cap, some number from there on
 module _ (low high v : ℕ) (fs : List (List ℕ)) where
   pub within-below : (o : Option ℕ) → cut o ≡ Value v → v < low → low < cap → within low high o fs ≡ no 4
   unfolding within cut
-  within-below none h k l = let z : _≡_ {A = ℕ} 0 1 = cc in absurd (omega arith)
+  within-below none h k l = clash cc
   within-below (some n) h k l =
       let q : min n cap ≡ v = cc in
       let b : n < low = omega arith in
@@ -98,7 +98,7 @@ module _ (low high v : ℕ) (fs : List (List ℕ)) where
 
   pub within-above : (o : Option ℕ) → cut o ≡ Value v → high < v → within low high o fs ≡ no 4
   unfolding within cut
-  within-above none h k = let z : _≡_ {A = ℕ} 0 1 = cc in absurd (omega arith)
+  within-above none h k = clash cc
   within-above (some n) h k =
       let q : min n cap ≡ v = cc in
       let b : high < n = omega arith in
@@ -106,7 +106,7 @@ module _ (low high v : ℕ) (fs : List (List ℕ)) where
 
   pub within-got : (o : Option ℕ) → cut o ≡ Value v → low ≤ v → v ≤ high → high < cap → within low high o fs ≡ got v fs
   unfolding within cut
-  within-got none h k l m = let z : _≡_ {A = ℕ} 0 1 = cc in absurd (omega arith)
+  within-got none h k l m = clash cc
   within-got (some n) h k l m =
       let q : min n cap ≡ v = cc in
       let e : n ≡ v = omega arith in

@@ -10,7 +10,7 @@ use lib.ListN.{length, length-append}
 use lib.Dec.{leb, ltb}
 use Rattle.fields.specs.Names.{nameBytes, nameMax, isName}
 use Rattle.fields.specs.Written.{decimal, joined}
-use Rattle.fields.proofs.TestLaws.{and-both}
+use Rattle.units.proofs.TestLaws.{and-both}
 use Rattle.fields.proofs.WrittenLaws.{decimal-small, length-large}
 
 pub length-small : (n : ℕ) → n < 10 → length (decimal n) ≡ 1

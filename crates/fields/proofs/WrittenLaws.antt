@@ -16,7 +16,7 @@ use Rattle.fields.specs.Names.{nameByte, nameBytes, nameMax, isName}
 use Rattle.fields.specs.Numbers.{digit, digits, more, decimalOf}
 use Rattle.fields.specs.Written.{digitsOf, decimal, joined}
 use Rattle.fields.proofs.NameLaws.{name-byte-no}
-use Rattle.fields.proofs.TestLaws.{and-both, within-true, below-false}
+use Rattle.units.proofs.TestLaws.{clash, and-both, within-true, below-false}
 
 module _ (k n : ℕ) where
   digits-of-small : n < 10 → digitsOf (suc k) n ≡ (48 + n) ∷ []
@@ -72,12 +72,6 @@ put-first (y ∷ b) x h = refl
 pub put-last : (d b : List ℕ) (x : ℕ) → length d < length b → set (d ++ drop (length d) b) (length d) x ≡ (d ++ x ∷ []) ++ drop (length (d ++ x ∷ [])) b
 put-last d b x h = rw (drop-cons b (length d) 0, set-append-seam, append-assoc, length-append, add-one)
 
--- the next byte of w
-pub put-step : (w o b : List ℕ) (i : ℕ) → i < length w → i < length o → b ≡ take i w ++ drop i o → set b i (getD w i 0) ≡ take (i + 1) w ++ drop (i + 1) o
-put-step w o b i h k e =
-    let n : length (take i w) ≡ i = length-take-le i w (omega arith) in
-    rw (e, add-one, drop-cons o i 0, set-at (take i w) (getD o i 0) (drop (suc i) o) (getD w i 0) i n, take-suc w i 0, append-assoc)
-
 -- every byte is a digit
 unfoldable pub allDigits : List ℕ → Bool
 allDigits [] = true
@@ -103,12 +97,12 @@ leads (b ∷ bs) = not (eqb b 48)
 
 leads-append : (l t : List ℕ) → leads l ≡ true → leads (l ++ t) ≡ true
 unfolding leads
-leads-append [] t h = let z : _≡_ {A = ℕ} 0 1 = cc in absurd (omega arith)
+leads-append [] t h = clash cc
 leads-append (b ∷ l) t h = h
 
 leads-decimal : (l : List ℕ) → leads l ≡ true → decimalOf l ≡ digits l 0
 unfolding leads decimalOf
-leads-decimal [] h = let z : _≡_ {A = ℕ} 0 1 = cc in absurd (omega arith)
+leads-decimal [] h = clash cc
 leads-decimal (b ∷ l) h = simp (not-true (eqb b 48) h)
 
 digits-snoc : (l : List ℕ) (d v m : ℕ) → digits l v ≡ some m → digit d ≡ true → digits (l ++ d ∷ []) v ≡ some (m * 10 + (d - 48))
@@ -119,7 +113,7 @@ digits-snoc (b ∷ l) d v m h e = go (λ k. digits-snoc l d (v * 10 + (b - 48)) 
     go : (digits l (v * 10 + (b - 48)) ≡ some m → digits (l ++ d ∷ []) (v * 10 + (b - 48)) ≡ some (m * 10 + (d - 48)))
         → (t : Bool) → cond t (digits l (v * 10 + (b - 48))) none ≡ some m → cond t (digits (l ++ d ∷ []) (v * 10 + (b - 48))) none ≡ some (m * 10 + (d - 48))
     go ih true k = ih k
-    go ih false k = let z : _≡_ {A = ℕ} 0 1 = cc in absurd (omega arith)
+    go ih false k = clash cc
 
 all-digits-snoc : (l : List ℕ) (d : ℕ) → allDigits l ≡ true → digit d ≡ true → allDigits (l ++ d ∷ []) ≡ true
 unfolding allDigits
@@ -187,7 +181,7 @@ digits-no-gap (b ∷ l) h =
 
 decimal-more : (l : List ℕ) (n : ℕ) → decimalOf l ≡ some n → more l ≡ true
 unfolding decimalOf more
-decimal-more [] n h = let z : _≡_ {A = ℕ} 0 1 = cc in absurd (omega arith)
+decimal-more [] n h = clash cc
 decimal-more (b ∷ l) n h = refl
 
 -- a number that is written can stand as a field
@@ -243,7 +237,7 @@ run-field b (x ∷ l) t p e =
 
 pub plain-run : (f t : List ℕ) → plainField f ≡ true → begins t ≡ false → fieldsOf (f ++ t) ≡ f ∷ fieldsOf t
 unfolding plainField more
-plain-run [] t p e = let z : _≡_ {A = ℕ} 0 1 = cc in absurd (omega arith)
+plain-run [] t p e = clash cc
 plain-run (b ∷ l) t p e = run-field b l t p e
 
 -- fields that are written are read back

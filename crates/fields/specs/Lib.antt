@@ -3,6 +3,5 @@ pub mod Fields
 pub mod Lines
 pub mod Numbers
 pub mod Names
-pub mod Puts
 pub mod Readers
 pub mod Written

@@ -1,10 +1,9 @@
--- How numbers and fields are written (document 01, "The SOC text": the written form has single spaces).
+-- How numbers, fields and lines are written (document 01, "The SOC text"): "The written form has single spaces, LF after every line, no blank line".
 use Prim.Native.Nat.{ℕ, zero, suc, _+_, _/_, _%_}
 use mathlib.Core.Bool.{cond}
 use mathlib.Core.List.{List, [], _∷_, _++_}
-use lib.ListN.{length, drop}
-use lib.Dec.{leb, ltb}
-use Rattle.fields.specs.Bytes.{space}
+use lib.Dec.{ltb}
+use Rattle.fields.specs.Bytes.{space, lf}
 
 -- the digits of n, of which there are at most k
 unfoldable pub digitsOf : ℕ → ℕ → List ℕ
@@ -21,10 +20,7 @@ joined [] = []
 joined (f ∷ []) = f
 joined (f ∷ g ∷ fs) = f ++ space ∷ joined (g ∷ fs)
 
--- a buffer with w written at its front, where it has the room; the rest of it keeps its values
-abbrev pub putFront : List ℕ → List ℕ → List ℕ
-putFront w buf = cond (leb (length w) (length buf)) (w ++ drop (length w) buf) buf
-
--- how many bytes were written
-abbrev pub putCount : List ℕ → List ℕ → ℕ
-putCount w buf = cond (leb (length w) (length buf)) (length w) 0
+-- lines of fields: single spaces, and LF after every line
+unfoldable pub writtenLines : List (List (List ℕ)) → List ℕ
+writtenLines [] = []
+writtenLines (l ∷ ls) = joined l ++ lf ∷ writtenLines ls

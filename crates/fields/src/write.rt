@@ -1,9 +1,10 @@
-// How numbers and fields are written, at the front of a lent buffer. Without room nothing is written, and the answer is 0.
+// How numbers are written, at the front of a lent buffer. Without room nothing is written, and the answer is 0.
 ghost use mathlib.Core.Path.{_≡_};
 ghost use Prim.Native.Nat.{_≤_};
 ghost use mathlib.Core.List.{_++_};
 ghost use lib.ListN.{length, drop};
-ghost use Rattle.fields.specs.Written.{decimal, putFront, putCount};
+ghost use Rattle.buffer.specs.Puts.{putFront, putCount};
+ghost use Rattle.fields.specs.Written.{decimal};
 
 fn digit_count(v: u64) -> usize
     ensures { λ r. ⌜ r ≡ length (decimal v) ⌝ }
@@ -33,19 +34,4 @@ pub fn write_number(buf: &mut [u8], v: u64) -> usize
     } else {
         0
     }
-}
-
-// Bytes as they stand: a keyword, a name, a space, a line's end.
-pub fn write_bytes(buf: &mut [u8], w: &[u8]) -> usize
-    ensures { λ r. ⌜ (r ≡ putCount (now (w .entry)) (now (buf .entry))) × (now (buf .exit) ≡ putFront (now (w .entry)) (now (buf .entry))) ⌝ }
-{
-    if w.len() > buf.len() {
-        return 0;
-    }
-    let mut i: usize = 0;
-    while i < w.len() {
-        buf[i] = w[i];
-        i += 1;
-    }
-    i
 }

@@ -1,6 +1,6 @@
 -- The starred figures of document 01 hold: one table, one proof, by computation. Assumes nothing.
 use mathlib.Core.Path.{_≡_, refl}
-use Rattle.soc.specs.Places.{padded, anyOf}
+use Rattle.units.specs.Places.{padded, anyOf}
 use Rattle.soc.specs.Planned.{isPlanned, plannedFrom}
 use Rattle.wrapper.specs.Fit.{longest, better, bestFrom, goes, placed, withCells, longestAfter}
 use Rattle.wrapper.specs.Chains.{numberedFrom, insert, ordered, usedChains, thread, threaded}

@@ -8,7 +8,7 @@ use lib.ListN.{length, getD, take, length-append, length-take}
 use lib.Seq.{length-take-le}
 use Rattle.units.specs.declared.Refusal.{Refusal}
 use Rattle.fields.specs.Bytes.{bytes, lf}
-use Rattle.fields.specs.Written.{decimal, joined}
+use Rattle.fields.specs.Written.{decimal, joined, writtenLines}
 use Rattle.fields.proofs.SizeLaws.{decimal-size}
 use Rattle.soc.specs.Record.{nameOf}
 use Rattle.soc.specs.declared.record.Soc.{Soc}
@@ -16,8 +16,7 @@ use Rattle.plan.specs.declared.record.Bus.{Bus}
 use Rattle.plan.specs.declared.record.PlacedModule.{PlacedModule}
 use Rattle.plan.specs.declared.record.BusPlan.{BusPlan}
 use Rattle.plan_file.specs.Good.{busesOf, modulesOf}
-use Rattle.text_writer.specs.Written.{writtenLines}
-use Rattle.text_writer.proofs.RunLaws.{written-append, front-more}
+use Rattle.fields.proofs.LinesWritten.{written-append, front-more}
 use Rattle.listing.specs.Listing.{refusalFields, socFields, busFields, busLines, moduleFields, moduleLines, planLines}
 
 -- figures are below 2⁶⁴, which has 20 digits

@@ -10,18 +10,19 @@ use borrow.Author.Tests.{eq-eqb, ne-eqb, lt-leb, leb-true, leb-false, ltb-true, 
 use lib.ListN.{length, take, length-drop}
 use lib.Seq.{take-all, take-take, length-take-le}
 use lib.Dec.{leb, ltb}
+use Rattle.units.proofs.TestLaws.{clash}
 use Rattle.units.specs.Refusals.{refused}
 use Rattle.units.specs.declared.Refusal.{Refusal}
 use Rattle.units.proofs.Unique.{answer-and-bytes-unique}
 use Rattle.fields.specs.Lines.{untilLf, lineAt}
-use Rattle.fields.specs.Puts.{Put}
+use Rattle.buffer.specs.Puts.{Put}
 use Rattle.soc.specs.Rules.{goodSoc}
 use Rattle.soc.specs.declared.record.Soc.{Soc}
 use Rattle.text_lines.specs.Parts.{Whole, refuses, says}
 use Rattle.text_reader.specs.Reading.{textMax, refusedSoc, acceptedSoc, readSoc}
 use Rattle.text_reader.specs.declared.read.SocRead.{SocRead}
 use Rattle.text.proofs.Acceptance.{accepts-or-refuses, accepted-good}
-use Rattle.text_writer.specs.Written.{writtenLines}
+use Rattle.fields.specs.Written.{writtenLines}
 use Rattle.plan.specs.Answers.{planAnswer}
 use Rattle.plan.specs.declared.record.PlanAnswer.{PlanAnswer}
 use Rattle.listing.specs.Asked.{planLineMax, Wanted, textBehind, asked, askedAnswer}
@@ -70,11 +71,11 @@ read-good t a e h = go (accepts-or-refuses t)
 pub answer-no : (w : Whole Wanted) (c : ℕ) → No c ≡ askedAnswer w → w ≡ refuses c
 unfolding askedAnswer
 answer-no (refuses d) c e = let q : d ≡ c = cc in ap refuses q
-answer-no (says k) c e = let z : _≡_ {A = ℕ} 0 1 = cc in absurd (omega arith)
+answer-no (says k) c e = clash cc
 
 pub answer-for : (w : Whole Wanted) (W B : ℕ) → For W B ≡ askedAnswer w → w ≡ says (record { wires = W; limit = B })
 unfolding askedAnswer
-answer-for (refuses d) W B e = let z : _≡_ {A = ℕ} 0 1 = cc in absurd (omega arith)
+answer-for (refuses d) W B e = clash cc
 answer-for (says k) W B e =
     let p : k .wires ≡ W = cc in
     let q : k .limit ≡ B = cc in

@@ -7,13 +7,13 @@ use lib.Dec.{leb, eqb}
 use Rattle.units.specs.Refusals.{accepted, refused}
 use Rattle.units.specs.declared.Refusal.{Refusal}
 use Rattle.fields.specs.Bytes.{bytes}
-use Rattle.fields.specs.Written.{decimal, putFront}
+use Rattle.buffer.specs.Puts.{putFront}
+use Rattle.fields.specs.Written.{decimal, writtenLines}
 use Rattle.soc.specs.Record.{nameOf}
 use Rattle.soc.specs.declared.record.Soc.{Soc}
 use Rattle.text_lines.specs.Parts.{Whole, refuses, says}
 use Rattle.text_reader.specs.Reading.{readSoc}
 use Rattle.text_reader.specs.declared.read.SocRead.{SocRead}
-use Rattle.text_writer.specs.Written.{writtenLines}
 use Rattle.plan.specs.Answers.{planAnswer}
 use Rattle.plan.specs.declared.record.Bus.{Bus}
 use Rattle.plan.specs.declared.record.PlacedModule.{PlacedModule}

@@ -10,10 +10,10 @@ ghost use mathlib.Core.Path.{_≡_};
 ghost use mathlib.Core.Bool.{true};
 ghost use Prim.Native.Nat.{_≤_};
 ghost use lib.ListN.{length};
-ghost use Rattle.fields.specs.Puts.{Put};
+ghost use Rattle.buffer.specs.Puts.{Put};
 ghost use Rattle.soc.specs.Rules.{goodSoc};
 ghost use Rattle.text_reader.specs.Reading.{readSoc};
-ghost use Rattle.text_writer.specs.Written.{writtenLines};
+ghost use Rattle.fields.specs.Written.{writtenLines};
 ghost use Rattle.plan.specs.Answers.{planAnswer};
 ghost use Rattle.listing.specs.Listing.{planPrinted, textPrinted, listed, listingMax, listingAnswer, listingLeaves};
 
@@ -73,7 +73,7 @@ pub fn listing(input: &[u8], buf: &mut [u8]) -> Listed
             len: 0,
         };
     }
-    fields::write_bytes(&mut *buf, &form[..n]);
+    buffer::write_bytes(&mut *buf, &form[..n]);
     Listed {
         refusal: Refusal::none(),
         len: n,

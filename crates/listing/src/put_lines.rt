@@ -8,8 +8,8 @@ use units::Refusal;
 ghost use Prim.Native.Nat.{_+_, _≤_};
 ghost use mathlib.Core.List.{[], _∷_};
 ghost use lib.ListN.{length, take};
-ghost use Rattle.fields.specs.Puts.{Put};
-ghost use Rattle.text_writer.specs.Written.{writtenLines};
+ghost use Rattle.buffer.specs.Puts.{Put};
+ghost use Rattle.fields.specs.Written.{writtenLines};
 ghost use Rattle.plan_file.specs.Good.{busesOf, modulesOf};
 ghost use Rattle.listing.specs.Listing.{refusalFields, socFields, busFields, busLines, moduleFields, moduleLines, planLines};
 
@@ -20,7 +20,7 @@ pub(crate) fn put_refusal(buf: &mut [u8], at: usize, r: Refusal) -> usize
 {
     let a = fields::put_key(&mut *buf, at, b"refused ", r.number as u64);
     let b = fields::put_key(&mut *buf, a, b" line ", r.line as u64);
-    fields::put_bytes(&mut *buf, b, b"\n")
+    buffer::put_bytes(&mut *buf, b, b"\n")
 }
 
 // `soc` name `wires` W `limit` B `time` T.
@@ -30,12 +30,12 @@ fn put_soc_line(buf: &mut [u8], at: usize, s: Soc, p: BusPlan) -> usize
 {
     let n = s.name_len;
     let name = s.name;
-    let a = fields::put_bytes(&mut *buf, at, b"soc ");
-    let b = fields::put_bytes(&mut *buf, a, &name[..n]);
+    let a = buffer::put_bytes(&mut *buf, at, b"soc ");
+    let b = buffer::put_bytes(&mut *buf, a, &name[..n]);
     let c = fields::put_key(&mut *buf, b, b" wires ", p.wires.0 as u64);
     let d = fields::put_key(&mut *buf, c, b" limit ", p.limit as u64);
     let e = fields::put_key(&mut *buf, d, b" time ", p.time.0);
-    fields::put_bytes(&mut *buf, e, b"\n")
+    buffer::put_bytes(&mut *buf, e, b"\n")
 }
 
 // `bus` i `width` w `busy` b.
@@ -46,7 +46,7 @@ fn put_bus_line(buf: &mut [u8], at: usize, i: u64, b: Bus) -> usize
     let a = fields::put_key(&mut *buf, at, b"bus ", i);
     let c = fields::put_key(&mut *buf, a, b" width ", b.width.0 as u64);
     let d = fields::put_key(&mut *buf, c, b" busy ", b.busy.0);
-    fields::put_bytes(&mut *buf, d, b"\n")
+    buffer::put_bytes(&mut *buf, d, b"\n")
 }
 
 // `module` m `bus` i `wires` k `cycles` x.
@@ -58,7 +58,7 @@ fn put_module_line(buf: &mut [u8], at: usize, m: PlacedModule) -> usize
     let b = fields::put_key(&mut *buf, a, b" bus ", m.bus as u64);
     let c = fields::put_key(&mut *buf, b, b" wires ", m.wires.0 as u64);
     let d = fields::put_key(&mut *buf, c, b" cycles ", m.cycles.0);
-    fields::put_bytes(&mut *buf, d, b"\n")
+    buffer::put_bytes(&mut *buf, d, b"\n")
 }
 
 fn put_buses(buf: &mut [u8], at: usize, p: BusPlan) -> usize

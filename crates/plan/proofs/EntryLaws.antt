@@ -12,11 +12,11 @@ use lib.Seq.{take-suc, length-take-le}
 use lib.Dec.{eqb}
 use borrow.Author.Tests.{eq-eqb, ne-eqb}
 use Rattle.soc.specs.Limits.{modulesMax}
-use Rattle.soc.specs.Places.{padded}
+use Rattle.units.specs.Places.{padded}
 use Rattle.soc.specs.Planned.{plannedOf, plannedIs}
 use Rattle.soc.specs.declared.planned.Planned.{Planned}
 use Rattle.soc.specs.declared.record.Soc.{Soc}
-use Rattle.soc.proofs.PlaceLaws.{padded-take, padded-set, padded-at}
+use Rattle.units.proofs.PlaceLaws.{padded-take, padded-set, padded-at}
 use Rattle.wrapper.specs.Answers.{wires, cycles}
 use Rattle.plan_rules.specs.Plans.{Plan, IsPlan, sum, busyFrom, busies}
 use Rattle.plan_rules.specs.Listed.{bestPlan}

@@ -10,7 +10,7 @@ use lib.ListN.{length, getD, length-take}
 use lib.Seq.{getD-take}
 use lib.Dec.{leb}
 use Rattle.units.specs.Refusals.{accepted}
-use Rattle.fields.proofs.TestLaws.{and-both}
+use Rattle.units.proofs.TestLaws.{and-both}
 use Rattle.soc.specs.Limits.{modulesMax, levelMax}
 use Rattle.soc.specs.Record.{noModule, modulesOf}
 use Rattle.soc.specs.Rules.{goodName, goodTerminals, goodChains, goodPosition, levelRule, goodTests, goodModule, goodModules, goodSoc}

@@ -9,7 +9,7 @@ use native.Mathlib.Omega.{arith}
 use borrow.Author.Count.{below-more}
 use borrow.Author.Tests.{le-leb, lt-ltb}
 use lib.ListN.{length, getD, replicate, length-take}
-use Rattle.soc.specs.Places.{padded}
+use Rattle.units.specs.Places.{padded}
 use Rattle.soc.specs.Record.{modulesOf}
 use Rattle.soc.specs.Planned.{isPlanned, plannedFrom, plannedOf}
 use Rattle.soc.specs.Rules.{goodSoc}
@@ -25,7 +25,7 @@ use Rattle.wrapper.proofs.KeptLaws.{good-kept}
 use Rattle.plan_rules.specs.Plans.{Plan, IsPlan, sum, busyFrom, busies, largest, timeOf}
 use Rattle.plan_rules.specs.Listed.{plans, firstLeast, firstOf, bestPlan}
 use Rattle.plan_rules.proofs.ListedLaws.{sound}
-use Rattle.soc.proofs.PlaceLaws.{padded-at}
+use Rattle.units.proofs.PlaceLaws.{padded-at}
 use Rattle.plan.specs.Answers.{plannedModule, timeIn, wiresIn}
 use Rattle.wrapper.specs.Maxima.{moduleTimeMax}
 use Rattle.plan_search.specs.Search.{tableTime, timeBound, IsTable}

@@ -3,7 +3,7 @@ use Prim.Native.Nat.{ℕ, zero, suc, _+_, _-_, _*_, _≤_, _<_}
 use mathlib.Core.Path.{_≡_}
 use mathlib.Core.List.{List, [], _∷_}
 use lib.ListN.{length, getD, take}
-use Rattle.soc.specs.Places.{padded}
+use Rattle.units.specs.Places.{padded}
 use Rattle.soc.specs.declared.planned.Planned.{Planned}
 use Rattle.wrapper.specs.Answers.{wires, cycles, widthMax}
 use Rattle.plan_rules.specs.Plans.{busies}

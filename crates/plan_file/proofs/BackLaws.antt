@@ -10,13 +10,13 @@ use native.Mathlib.Nat.{pow-succ'}
 use lib.ListN.{length, getD, take, drop, replicate, length-append, length-drop, take-append-drop}
 use lib.Dec.{eqb}
 use lib.Seq.{length-take-le, take-all, take-at, drop-cons, take-add, drop-drop, drop-append-add, getD-take, getD-drop, getD-append-add}
-use Rattle.fields.proofs.TestLaws.{and-both}
+use Rattle.units.proofs.TestLaws.{and-both}
 use Rattle.units.specs.Refusals.{accepted}
-use Rattle.soc.specs.Places.{padded, allOf}
+use Rattle.units.specs.Places.{padded, allOf}
 use Rattle.wrapper.specs.Answers.{wires, cycles}
 use Rattle.wrapper.specs.Maxima.{moduleTimeMax}
-use Rattle.soc.proofs.PlaceLaws.{padded-take}
-use Rattle.soc.proofs.TestLaws.{and-goes}
+use Rattle.units.proofs.PlaceLaws.{padded-take}
+use Rattle.units.proofs.TestLaws.{and-goes}
 use Rattle.plan_record.specs.Record.{busPlaces, modulePlaces, noBus, noPlaced, modulesOf, busesOf, cyclesOn, busiesOf}
 use Rattle.plan_record.specs.declared.record.Bus.{Bus}
 use Rattle.plan_record.specs.declared.record.PlacedModule.{PlacedModule}
@@ -28,48 +28,6 @@ use Rattle.plan_file.specs.Files.{number, byte, numberAt, records, modul
 use Rattle.plan_record.specs.Whole.{Whole}
 use Rattle.plan_record.proofs.GoodPlanLaws.{good-parts, good-figures, good-busy, good-time}
 use Rattle.plan_file.proofs.ReadLaws.{records-length, Fitting, length-fits, answer-accepted}
-
--- every element is a byte
-abbrev pub AreBytes : List ℕ → Type 0
-AreBytes f = (i : ℕ) → i < length f → byte f i < 256
-
--- a number of n bytes, and its bytes
-pub number-little : (n v : ℕ) → v < 256 ^ n → number (little n v) ≡ v
-unfolding number little
-number-little zero v h = omega arith
-number-little (suc n) v h =
-    let k : v < 256 * 256 ^ n = rw pow-succ' at h in
-    rw (number-little n (v / 256) (omega arith)) (omega arith)
-
-pub number-of-length : (bs : List ℕ) → AreBytes bs → little (length bs) (number bs) ≡ bs
-unfolding number little
-number-of-length [] b = refl
-number-of-length (x ∷ bs) b =
-    let k : x < 256 = b 0 (omega arith) in
-    let r : (x + 256 * number bs) % 256 ≡ x = omega arith in
-    let q : (x + 256 * number bs) / 256 ≡ number bs = omega arith in
-    rw (r, q, number-of-length bs (λ i h. b (suc i) (omega arith)))
-
-pub little-number : (n : ℕ) (bs : List ℕ) → length bs ≡ n → AreBytes bs → little n (number bs) ≡ bs
-little-number n bs e b = rw (sym e) (number-of-length bs b)
-
--- n bytes of a file from a place on
-pub part-length : (f : List ℕ) (n at : ℕ) → at + n ≤ length f → length (take n (drop at f)) ≡ n
-part-length f n at h = length-take-le n (drop at f) (simp length-drop (omega arith))
-
-pub part-bytes : (f : List ℕ) (n at : ℕ) → at + n ≤ length f → AreBytes f → AreBytes (take n (drop at f))
-part-bytes f n at h b i k =
-    let j : i < n = omega (arith, part-length f n at h) in
-    rw (getD-take, getD-drop) (b (at + i) (omega arith))
-
-pub part-join : (f : List ℕ) (n m at : ℕ) → take n (drop at f) ++ take m (drop (at + n) f) ≡ take (n + m) (drop at f)
-part-join f n m at = rw (take-add n m (drop at f), drop-drop n at f)
-
-pub part-number : (f : List ℕ) (n at : ℕ) → at + n ≤ length f → AreBytes f → little n (numberAt n f at) ≡ take n (drop at f)
-part-number f n at h b = little-number n (take n (drop at f)) (part-length f n at h) (part-bytes f n at h b)
-
-part-step : (f : List ℕ) (n at : ℕ) → at < length f → take (suc n) (drop at f) ≡ byte f at ∷ take n (drop (suc at) f)
-part-step f n at h = rw (drop-cons f at 0 h)
 
 -- four bytes and a number of eight, as each record and the trailer end
 pub part-record : (f : List ℕ) (at : ℕ) → at + 12 ≤ length f → AreBytes f → byte f at ∷ byte f (at + 1) ∷ byte f (at + 2) ∷ byte f (at + 3) ∷ little 8 (numberAt 8 f (at + 4)) ≡ take 12 (drop at f)

@@ -11,7 +11,7 @@ use borrow.Author.Tests.{le-leb, lt-leb}
 use borrow.Rule.Slice.PartMut.{putMid}
 use lib.ListN.{length, getD, take, drop, set, length-append, length-drop, length-set, drop-of-length-le}
 use lib.Seq.{take-all, take-at, drop-at, take-suc, drop-drop, length-take-le}
-use Rattle.fields.proofs.PutLaws.{partFrom, part-rest}
+use Rattle.buffer.proofs.PutLaws.{partFrom, part-rest}
 use Rattle.units.specs.Refusals.{accepted}
 use Rattle.plan_record.specs.declared.record.Bus.{Bus}
 use Rattle.plan_record.specs.declared.record.PlacedModule.{PlacedModule}

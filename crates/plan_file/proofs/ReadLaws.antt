@@ -9,53 +9,12 @@ use native.Mathlib.Numerals.{add-one}
 use lib.ListN.{length, set, replicate}
 use lib.Dec.{eqb}
 use lib.Seq.{drop-cons}
-use Rattle.fields.proofs.TestLaws.{and-both}
+use Rattle.units.proofs.TestLaws.{and-both}
 use Rattle.units.specs.Refusals.{accepted}
-use Rattle.soc.specs.Places.{padded}
-use Rattle.soc.proofs.PlaceLaws.{padded-none, padded-set}
-use Rattle.soc.proofs.TestLaws.{and-stops, and-goes}
+use Rattle.units.specs.Places.{padded}
+use Rattle.units.proofs.PlaceLaws.{padded-none, padded-set}
+use Rattle.units.proofs.TestLaws.{and-stops, and-goes}
 use Rattle.plan_file.specs.Files.{number, byte, numberAt, records, moduleCount, busCount, zeroModules, zeroBuses, goodLength, trailer, goodOffsets, planIn, goodFile, refusedRead, readAnswer}
-
--- one byte more at the front
-pub number-step : (n : ℕ) (f : List ℕ) (at : ℕ) → at < length f → numberAt (suc n) f at ≡ byte f at + 256 * numberAt n f (suc at)
-unfolding number
-number-step n f at h = rw (drop-cons f at 0 h)
-
-pub number-none : (f : List ℕ) (at : ℕ) → numberAt 0 f at ≡ 0
-unfolding number
-number-none f at = refl
-
-pub number-two : (f : List ℕ) (at : ℕ) → at + 2 ≤ length f → numberAt 2 f at ≡ byte f at + 256 * byte f (at + 1)
-number-two f at h =
-    let e : at + 1 ≡ suc at = add-one at in
-    rw (number-step 1 f at (omega arith), number-step 0 f (suc at) (omega arith), number-none, e) (omega arith)
-
--- the number in four bytes from a place on, as the code puts it together
-abbrev pub four : List ℕ → ℕ → ℕ
-four f at = byte f at + 256 * (byte f (at + 1) + 256 * (byte f (at + 2) + 256 * byte f (at + 3)))
-
-pub number-more : (n : ℕ) (f : List ℕ) (at : ℕ) → at + 4 ≤ length f → numberAt (suc (suc (suc (suc n)))) f at ≡ four f at + 4294967296 * numberAt n f (at + 4)
-number-more n f at h =
-    let e1 : at + 1 ≡ suc at = omega arith in
-    let e2 : at + 2 ≡ suc (suc at) = omega arith in
-    let e3 : at + 3 ≡ suc (suc (suc at)) = omega arith in
-    let e4 : at + 4 ≡ suc (suc (suc (suc at))) = omega arith in
-    rw (
-      number-step (suc (suc (suc n))) f at (omega arith),
-      number-step (suc (suc n)) f (suc at) (omega arith),
-      number-step (suc n) f (suc (suc at)) (omega arith),
-      number-step n f (suc (suc (suc at))) (omega arith),
-      e1,
-      e2,
-      e3,
-      e4,
-    ) (omega arith)
-
-pub number-four : (f : List ℕ) (at : ℕ) → at + 4 ≤ length f → numberAt 4 f at ≡ four f at
-number-four f at h = number-more 0 f at h ∙ rw number-none (omega arith)
-
-pub number-eight : (f : List ℕ) (at : ℕ) → at + 8 ≤ length f → numberAt 8 f at ≡ numberAt 4 f at + 4294967296 * numberAt 4 f (at + 4)
-number-eight f at h = let k : at + 4 ≤ length f = omega arith in rw (number-more 4 f at k, number-four f at k)
 
 -- one record more at the end
 pub records-end : {A : Type 0} (read : ℕ → A) (n at : ℕ) → records read (suc n) at ≡ records read n at ++ read (at + 12 * n) ∷ []

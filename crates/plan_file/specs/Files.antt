@@ -5,7 +5,7 @@ use mathlib.Core.List.{List, [], _∷_, _++_}
 use lib.ListN.{length, getD, take, drop}
 use lib.Dec.{leb, eqb}
 use Rattle.units.specs.Refusals.{accepted, refused}
-use Rattle.soc.specs.Places.{padded}
+use Rattle.units.specs.Places.{padded}
 use Rattle.wrapper.specs.Answers.{wires, cycles}
 use Rattle.plan_record.specs.Record.{busPlaces, modulePlaces, noBus, noPlaced, noPlan}
 use Rattle.plan_record.specs.declared.record.Bus.{Bus}

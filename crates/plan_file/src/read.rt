@@ -10,7 +10,7 @@ ghost use mathlib.Core.Path.{_≡_};
 ghost use mathlib.Core.Bool.{true};
 ghost use Prim.Native.Nat.{_+_, _*_, _≤_, _<_};
 ghost use lib.ListN.{length};
-ghost use Rattle.soc.specs.Places.{padded};
+ghost use Rattle.units.specs.Places.{padded};
 ghost use Rattle.plan_record.specs.Record.{busPlaces, modulePlaces, noBus, noPlaced};
 ghost use Rattle.plan_file.specs.Files.{numberAt, moduleAt, busAt, records, goodLength, goodOffsets, planIn, zeroModules, zeroBuses, refusedRead, readAnswer};
 

@@ -10,9 +10,9 @@ use borrow.Author.Tests.{leb-true, eqb-true, eq-eqb, ne-eqb}
 use lib.ListN.{length, getD, take, drop, drop-of-length-le}
 use lib.Seq.{drop-cons, getD-take, length-take-le}
 use lib.Dec.{leb, eqb}
-use Rattle.fields.proofs.TestLaws.{and-both}
-use Rattle.soc.specs.Places.{allOf}
-use Rattle.soc.proofs.PlaceLaws.{front-has, front-ends}
+use Rattle.units.proofs.TestLaws.{and-both}
+use Rattle.units.specs.Places.{allOf}
+use Rattle.units.proofs.PlaceLaws.{front-has, front-ends}
 use Rattle.plan_record.specs.Record.{noBus, noPlaced, busesOf, modulesOf, widthsOf, cyclesOn, busiesOf, numbersOf, modulePlaces}
 use Rattle.plan_record.specs.Whole.{Whole}
 use Rattle.wrapper.specs.Maxima.{moduleTimeMax}

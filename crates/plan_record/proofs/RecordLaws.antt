@@ -9,9 +9,9 @@ use borrow.Author.Tests.{le-leb, eq-eqb, eqb-true}
 use lib.ListN.{length, getD, drop, replicate, length-take, drop-of-length-le}
 use lib.Seq.{getD-take, drop-cons}
 use lib.Dec.{eqb}
-use Rattle.fields.proofs.TestLaws.{within-true}
-use Rattle.soc.specs.Places.{allOf, padded}
-use Rattle.soc.proofs.PlaceLaws.{all-replicate, padded-length, padded-take, padded-drop}
+use Rattle.units.proofs.TestLaws.{within-true}
+use Rattle.units.specs.Places.{allOf, padded}
+use Rattle.units.proofs.PlaceLaws.{all-replicate, padded-length, padded-take, padded-drop}
 use Rattle.wrapper.specs.Answers.{widthMax}
 use Rattle.wrapper.specs.Maxima.{moduleTimeMax}
 use Rattle.plan_rules.specs.Plans.{Plan, IsPlan, sum, busyFrom, busies, largest, timeOf}

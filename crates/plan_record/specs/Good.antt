@@ -6,7 +6,7 @@ use mathlib.Core.List.{List, [], _∷_}
 use lib.ListN.{getD, drop}
 use lib.Dec.{leb, eqb}
 use Rattle.soc.specs.Limits.{modulesMax}
-use Rattle.soc.specs.Places.{allOf}
+use Rattle.units.specs.Places.{allOf}
 use Rattle.wrapper.specs.Answers.{widthMax}
 use Rattle.wrapper.specs.Maxima.{moduleTimeMax}
 use Rattle.plan_rules.specs.Plans.{sum, largest}

@@ -4,7 +4,7 @@ use mathlib.Core.Bool.{cond}
 use mathlib.Core.List.{List, [], _∷_, map}
 use lib.ListN.{length, getD, take, replicate}
 use lib.Dec.{eqb}
-use Rattle.soc.specs.Places.{padded}
+use Rattle.units.specs.Places.{padded}
 use Rattle.wrapper.specs.Answers.{wires, cycles}
 use Rattle.plan_rules.specs.Plans.{Plan, busies, timeOf}
 use Rattle.plan_record.specs.declared.record.Bus.{Bus}

@@ -11,7 +11,7 @@ ghost use mathlib.Core.Path.{_≡_};
 ghost use mathlib.Core.Bool.{true};
 ghost use Prim.Native.Nat.{_≤_};
 ghost use lib.ListN.{drop};
-ghost use Rattle.soc.specs.Places.{allOf};
+ghost use Rattle.units.specs.Places.{allOf};
 ghost use Rattle.plan_rules.specs.Plans.{sum};
 ghost use Rattle.plan_record.specs.Record.{busPlaces, modulePlaces, modulesOf, busesOf, widthsOf, numbersOf};
 ghost use Rattle.plan_record.specs.Good.{goodCounts, ascendingFrom, goodPlaced, risingFrom, goodBuses, spareBus, sparePlaced, spareRest, goodPlan};

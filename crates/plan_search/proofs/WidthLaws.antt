@@ -10,8 +10,8 @@ use native.Mathlib.Numerals.{add-one}
 use lib.ListN.{length, getD, take, drop, set, length-drop}
 use lib.Seq.{take-suc, getD-drop, length-take-le}
 use borrow.Author.Tests.{ne-eqb}
-use Rattle.soc.specs.Places.{padded}
-use Rattle.soc.proofs.PlaceLaws.{padded-set}
+use Rattle.units.specs.Places.{padded}
+use Rattle.units.proofs.PlaceLaws.{padded-set}
 use Rattle.plan_rules.specs.Listed.{upward, widthLists, placements, plan, plansOn}
 use Rattle.plan_rules.proofs.SkipLaws.{total, lower-single, lower-shared}
 use Rattle.plan_search.specs.Search.{tableTime, timeOn, IsTable, AreWidths}

@@ -5,7 +5,7 @@ use mathlib.Core.Bool.{cond}
 use mathlib.Core.List.{List, [], _∷_, _++_, map}
 use lib.ListN.{length, getD, take, drop, replicate}
 use lib.Dec.{ltb}
-use Rattle.soc.specs.Places.{padded}
+use Rattle.units.specs.Places.{padded}
 use Rattle.plan_rules.specs.Plans.{Plan, busies, largest, timeOf}
 use Rattle.plan_rules.specs.Listed.{placements, plan, plansOn}
 use Rattle.plan_search.specs.declared.widths.Found.{Found}

@@ -1,3 +1,2 @@
 pub mod FigureLaws
-pub mod PlaceLaws
-pub mod TestLaws
+pub mod GoodSocLaws

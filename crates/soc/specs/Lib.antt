@@ -1,5 +1,4 @@
 pub mod Limits
-pub mod Places
 pub mod Record
 pub mod Rules
 pub mod Planned

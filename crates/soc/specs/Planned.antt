@@ -4,7 +4,7 @@ use mathlib.Core.Bool.{Bool, true, false, cond}
 use mathlib.Core.List.{List, [], _∷_}
 use lib.ListN.{length}
 use Rattle.soc.specs.Limits.{modulesMax}
-use Rattle.soc.specs.Places.{anyOf, padded}
+use Rattle.units.specs.Places.{anyOf, padded}
 use Rattle.soc.specs.Record.{modulesOf, testsOf}
 use Rattle.soc.specs.declared.record.Test.{Test}
 use Rattle.soc.specs.declared.record.Module.{Module}

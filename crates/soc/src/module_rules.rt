@@ -15,7 +15,7 @@ ghost use mathlib.Core.Path.{_≡_};
 ghost use Prim.Native.Nat.{_≤_};
 ghost use lib.ListN.{take, drop};
 ghost use Rattle.soc.specs.Limits.{positionMax};
-ghost use Rattle.soc.specs.Places.{allOf};
+ghost use Rattle.units.specs.Places.{allOf};
 ghost use Rattle.soc.specs.Rules.{upTo, goodLength, spareLength, goodPosition, levelRule, goodTerminals, goodChains, goodTests, goodModule, spareModule};
 
 // 0 to 1,000,000.

@@ -8,7 +8,7 @@ use fields::NAME_MAX;
 ghost use mathlib.Core.Path.{_≡_};
 ghost use Prim.Native.Nat.{_≤_};
 ghost use lib.ListN.{take, drop};
-ghost use Rattle.soc.specs.Places.{allOf};
+ghost use Rattle.units.specs.Places.{allOf};
 ghost use Rattle.soc.specs.Rules.{none, goodModules, spareModule, goodName, goodSoc};
 
 fn are_good_modules(s: Soc) -> bool

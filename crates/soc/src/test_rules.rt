@@ -8,7 +8,7 @@ ghost use mathlib.Core.Path.{_≡_};
 ghost use Prim.Native.Nat.{_≤_};
 ghost use lib.ListN.{take, drop};
 ghost use Rattle.soc.specs.Limits.{powerMax};
-ghost use Rattle.soc.specs.Places.{allOf};
+ghost use Rattle.units.specs.Places.{allOf};
 ghost use Rattle.soc.specs.Rules.{noneZ, isNotGiven, upTo, goodPower, goodTest, spareTest};
 
 pub(crate) fn is_not_given(z: i32) -> bool

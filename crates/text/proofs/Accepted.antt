@@ -15,16 +15,16 @@ use Rattle.fields.specs.Lines.{Line}
 use Rattle.fields.specs.Names.{nameMax, nameBytes}
 use Rattle.fields.specs.Readers.{Got, got, Reader, each}
 use Rattle.fields.specs.Written.{decimal}
-use Rattle.fields.proofs.TestLaws.{and-both}
+use Rattle.units.proofs.TestLaws.{clash, and-both}
 use Rattle.soc.specs.Limits.{modulesMax, terminalsMax, chainsMax, testsMax}
-use Rattle.soc.specs.Places.{padded, allOf, filled}
+use Rattle.units.specs.Places.{padded, allOf, filled}
 use Rattle.soc.specs.Record.{notGiven, flipFlops, noTest, noModule, nameOf, modulesOf, chainsOf, testsOf}
 use Rattle.soc.specs.Rules.{none, goodLength, spareLength, goodPosition, goodTest, spareTest, goodTerminals, goodChains, goodTests, goodModule, goodModules, spareModule, goodName, goodSoc}
 use Rattle.soc.specs.Sized.{SizedModule, Sized}
 use Rattle.soc.specs.declared.record.Test.{Test}
 use Rattle.soc.specs.declared.record.Module.{Module}
 use Rattle.soc.specs.declared.record.Soc.{Soc}
-use Rattle.soc.proofs.PlaceLaws.{all-replicate, padded-length, padded-take, padded-drop}
+use Rattle.units.proofs.PlaceLaws.{all-replicate, padded-length, padded-take, padded-drop}
 use Rattle.text_lines.specs.Parts.{Whole, refuses, says, whole}
 use Rattle.text_lines.specs.Kinds.{Name, Options, Shape, Second, nameLine, totalLine, optionsLine, levelLine, secondLine, testsLine, testLine}
 use Rattle.text_lines.specs.Written.{givenField, moduleFields, nameFields, totalFields, optionsFields, levelFields, positionFields, testsFields}
@@ -49,12 +49,12 @@ pub record LineRead {A : Type 0} (p : Reader A) (ls : List Line) (v : A) (rest :
 
 judged-only : {A : Type 0} (n : ℕ) (ls : List Line) (w : Whole A) (v : A) (rest : List Line) → judged n ls w ≡ got v rest → (w ≡ says v) × (ls ≡ rest)
 unfolding judged
-judged-only n ls (refuses c) v rest h = let z : _≡_ {A = ℕ} 0 1 = cc in absurd (omega arith)
+judged-only n ls (refuses c) v rest h = clash cc
 judged-only n ls (says a) v rest h = (cc, cc)
 
 pub line-only : {A : Type 0} (p : Reader A) (ls : List Line) (v : A) (rest : List Line) → line p ls ≡ got v rest → LineRead p ls v rest
 unfolding line
-line-only p [] v rest h = let z : _≡_ {A = ℕ} 0 1 = cc in absurd (omega arith)
+line-only p [] v rest h = clash cc
 line-only p (l ∷ ls) v rest h =
     let j = judged-only (l .number) ls (whole p (l .fields)) v rest h in
     record { first = l; lines = ap (λ r. l ∷ r) (j .1); says = j .0 }
@@ -274,7 +274,7 @@ pub record Read (s : Soc) (ls : List Line) : Type 0 where
 no-more-only : (ls : List Line) (u : Unit {0}) (rest : List Line) → noMore ls ≡ got u rest → (ls ≡ []) × (rest ≡ [])
 unfolding noMore
 no-more-only [] u rest h = (refl, cc)
-no-more-only (l ∷ ls) u rest h = let z : _≡_ {A = ℕ} 0 1 = cc in absurd (omega arith)
+no-more-only (l ∷ ls) u rest h = clash cc
 
 module _ (name : Name) (n : ℕ) (o : Options) (ds : List Module) where
   name-good : (fs : List (List ℕ)) → NameSays fs name → (fs ≡ nameFields (socOf name n o ds)) × (goodName (socOf name n o ds) ≡ true) × (length (name .bytes) ≡ nameMax)

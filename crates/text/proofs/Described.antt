@@ -11,9 +11,9 @@ use lib.ListN.{length}
 use Rattle.fields.specs.Lines.{Line}
 use Rattle.fields.specs.Readers.{got, Reader, after, _>>=_, _>>_, give, each}
 use Rattle.fields.proofs.ReaderLaws.{after-got}
-use Rattle.fields.proofs.TestLaws.{and-both}
+use Rattle.units.proofs.TestLaws.{clash, and-both}
 use Rattle.soc.specs.Limits.{testsMax}
-use Rattle.soc.specs.Places.{allOf}
+use Rattle.units.specs.Places.{allOf}
 use Rattle.soc.specs.Record.{notGiven, modulesOf, testsOf}
 use Rattle.soc.specs.Rules.{goodTest, goodPosition, goodModule, goodModules, goodSoc}
 use Rattle.soc.specs.Sized.{SizedModule, Sized}
@@ -49,7 +49,7 @@ give-passes a ls gs e = record { left = ls; is = refl; fields = e }
 
 pub line-passes : {A : Type 0} (p : Reader A) (fs : List (List ℕ)) (a : A) → whole p fs ≡ says a → Passes (line p) (fs ∷ []) a
 unfolding line judged
-line-passes p fs a h [] gs e = let z : _≡_ {A = ℕ} 0 1 = cc in absurd (omega arith)
+line-passes p fs a h [] gs e = clash cc
 line-passes p fs a h (l ∷ ls) gs e =
     let f : l .fields ≡ fs = cc in
     let g : map fieldsIn ls ≡ gs = cc in
@@ -174,7 +174,7 @@ modules-pass {power = power} {xy = xy} (ModulesLines.more {m} {d} {ds} {ls} {ms}
 no-more-ends : {A : Type 0} (a : A) → Ends (noMore >> give a) [] a
 unfolding noMore after
 no-more-ends a [] e = refl
-no-more-ends a (l ∷ ls) e = let z : _≡_ {A = ℕ} 0 1 = cc in absurd (omega arith)
+no-more-ends a (l ∷ ls) e = clash cc
 
 abbrev pub heldName : Soc → Name
 heldName s = record { len = s .«name_len»; bytes = s .name }

@@ -12,16 +12,16 @@ use lib.ListN.{length, getD, take, drop, replicate, length-take, length-drop, ta
 use lib.Seq.{getD-take, getD-drop}
 use Rattle.units.specs.declared.FlipFlops.{FlipFlops}
 use Rattle.fields.specs.Names.{nameMax, isName}
-use Rattle.fields.proofs.TestLaws.{and-both}
+use Rattle.units.proofs.TestLaws.{and-both}
 use Rattle.soc.specs.Limits.{modulesMax, levelMax, chainsMax, testsMax}
-use Rattle.soc.specs.Places.{allOf, filled, padded}
+use Rattle.units.specs.Places.{allOf, filled, padded}
 use Rattle.soc.specs.Record.{nameOf, modulesOf, chainsOf, testsOf, flipFlops, noTest, noModule}
 use Rattle.soc.specs.Rules.{none, noneZ, goodLength, spareLength, goodTest, spareTest, levelRule, goodTerminals, goodChains, goodPosition, goodTests, goodModule, goodModules, spareModule, goodName, goodSoc}
 use Rattle.soc.specs.Sized.{SizedModule, Sized}
 use Rattle.soc.specs.declared.record.Test.{Test}
 use Rattle.soc.specs.declared.record.Module.{Module}
 use Rattle.soc.specs.declared.record.Soc.{Soc}
-use Rattle.soc.proofs.PlaceLaws.{padded-none}
+use Rattle.units.proofs.PlaceLaws.{padded-none}
 use Rattle.text.specs.Describes.{spareIn, Spare}
 use Rattle.text.proofs.LineBack.{padded-back, spare-length}
 

@@ -17,10 +17,10 @@ use Rattle.fields.specs.Names.{nameMax, isName}
 use Rattle.fields.specs.Readers.{got, after, each, bytesDue, within, between}
 use Rattle.fields.specs.Written.{decimal}
 use Rattle.fields.proofs.BackLaws.{same-bytes-refl, same-bytes-eq}
-use Rattle.fields.proofs.TestLaws.{and-both, within-true}
+use Rattle.units.proofs.TestLaws.{and-both, within-true}
 use Rattle.fields.proofs.WrittenLaws.{allDigits, decimal-back, decimal-plain}
 use Rattle.soc.specs.Limits.{modulesMax, levelMax, terminalsMax, chainsMax, lengthMax, testsMax, patternsMax, positionMax, powerMax}
-use Rattle.soc.specs.Places.{padded, allOf, filled}
+use Rattle.units.specs.Places.{padded, allOf, filled}
 use Rattle.soc.specs.Record.{nameOf, chainsOf, flipFlops, notGiven}
 use Rattle.soc.specs.Rules.{none, isNotGiven, upTo, goodLength, spareLength, goodPower, goodPosition, goodTest, levelRule, goodTerminals, goodChains, goodName}
 use Rattle.soc.specs.declared.record.Test.{Test}

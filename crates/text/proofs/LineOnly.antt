@@ -18,9 +18,9 @@ use Rattle.fields.specs.Numbers.{decimalOf}
 use Rattle.fields.specs.Readers.{Got, no, got, FieldsGot, Reads, Reader, _>>_, after, each, bytesDue, within, between, keyBetween}
 use Rattle.fields.specs.Written.{decimal}
 use Rattle.fields.proofs.BackLaws.{same-bytes-eq, decimal-unique}
-use Rattle.fields.proofs.TestLaws.{and-both, within-true}
+use Rattle.units.proofs.TestLaws.{clash, and-both, within-true}
 use Rattle.soc.specs.Limits.{modulesMax, levelMax, terminalsMax, chainsMax, lengthMax, testsMax, patternsMax, positionMax, powerMax}
-use Rattle.soc.specs.Places.{padded, allOf}
+use Rattle.units.specs.Places.{padded, allOf}
 use Rattle.soc.specs.Record.{flipFlops, notGiven}
 use Rattle.soc.specs.Rules.{isNotGiven, upTo, goodLength, goodPower, goodPosition, goodTest, levelRule}
 use Rattle.soc.specs.declared.record.Test.{Test}
@@ -33,9 +33,9 @@ use Rattle.text.proofs.LineBack.{mayBe, may-say}
 -- a line that says a: its reading leaves no field
 pub closed-only : {A : Type 0} (g : FieldsGot A) (a : A) → closed g ≡ says a → g ≡ got a []
 unfolding closed
-closed-only (no c) a h = let z : _≡_ {A = ℕ} 0 1 = cc in absurd (omega arith)
+closed-only (no c) a h = clash cc
 closed-only (got b []) a h = cc
-closed-only (got b (f ∷ fs)) a h = let z : _≡_ {A = ℕ} 0 1 = cc in absurd (omega arith)
+closed-only (got b (f ∷ fs)) a h = clash cc
 
 -- what the first of two readings gave, and what the second made of it
 pub record Two {E S A B : Type 0} (g : Got E S A) (k : A → Reads E S B) (b : B) (t : S) : Type 0 where
@@ -46,7 +46,7 @@ pub record Two {E S A B : Type 0} (g : Got E S A) (k : A → Reads E S B) (b : B
 
 pub after-only : {E S A B : Type 0} {g : Got E S A} {k : A → Reads E S B} {b : B} {t : S} → after g k ≡ got b t → Two g k b t
 unfolding after
-after-only {g = no c} h = let z : _≡_ {A = ℕ} 0 1 = cc in absurd (omega arith)
+after-only {g = no c} h = clash cc
 after-only {g = got a s} h = record { value = a; left = s; first = refl; second = h }
 
 -- the parts of a line
@@ -55,11 +55,11 @@ after-only {g = got a s} h = record { value = a; left = s; first = refl; second 
 pub tested-only : {A : Type 0} (t : Bool) (c : ℕ) (v u : A) (fs gs : List (List ℕ)) → cond {A = FieldsGot A} t (got v fs) (no c) ≡ got u gs
     → (t ≡ true) × (v ≡ u) × (fs ≡ gs)
 tested-only true c v u fs gs h = (refl, cc, cc)
-tested-only false c v u fs gs h = let z : _≡_ {A = ℕ} 0 1 = cc in absurd (omega arith)
+tested-only false c v u fs gs h = clash cc
 
 pub word-only : (w : List ℕ) (fs gs : List (List ℕ)) (u : Unit {0}) → bytesDue w fs ≡ got u gs → fs ≡ w ∷ gs
 unfolding bytesDue
-word-only w [] gs u h = let z : _≡_ {A = ℕ} 0 1 = cc in absurd (omega arith)
+word-only w [] gs u h = clash cc
 word-only w (f ∷ fs) gs u h =
     let p = tested-only (sameBytes f w) 3 tt u fs gs h in
     let q : f ≡ w = same-bytes-eq f w (p .0) in
@@ -85,7 +85,7 @@ pub record Number (low high : ℕ) (fs : List (List ℕ)) (v : ℕ) (gs : List (
 within-only : (low high : ℕ) (f : List ℕ) (fs : List (List ℕ)) (v : ℕ) (gs : List (List ℕ)) (o : Option ℕ) → decimalOf f ≡ o → within low high o fs ≡ got v gs
     → Number low high (f ∷ fs) v gs
 unfolding within
-within-only low high f fs v gs none e h = let z : _≡_ {A = ℕ} 0 1 = cc in absurd (omega arith)
+within-only low high f fs v gs none e h = clash cc
 within-only low high f fs v gs (some n) e h =
     let p = tested-only (leb low n && leb n high) 4 n v fs gs h in
     let b = and-both (leb low n) (leb n high) (p .0) in
@@ -94,12 +94,12 @@ within-only low high f fs v gs (some n) e h =
 
 pub between-only : (low high : ℕ) (fs : List (List ℕ)) (v : ℕ) (gs : List (List ℕ)) → between low high fs ≡ got v gs → Number low high fs v gs
 unfolding between
-between-only low high [] v gs h = let z : _≡_ {A = ℕ} 0 1 = cc in absurd (omega arith)
+between-only low high [] v gs h = clash cc
 between-only low high (f ∷ fs) v gs h = within-only low high f fs v gs (decimalOf f) refl h
 
 due-is-only : (n : ℕ) (f : List ℕ) (fs : List (List ℕ)) (u : Unit {0}) (gs : List (List ℕ)) (o : Option ℕ) → decimalOf f ≡ o → dueIs n o fs ≡ got u gs → f ∷ fs ≡ decimal n ∷ gs
 unfolding dueIs
-due-is-only n f fs u gs none e h = let z : _≡_ {A = ℕ} 0 1 = cc in absurd (omega arith)
+due-is-only n f fs u gs none e h = clash cc
 due-is-only n f fs u gs (some v) e h =
     let p = tested-only (eqb v n) 5 tt u fs gs h in
     let q : v ≡ n = eqb-true v n (p .0) in
@@ -108,12 +108,12 @@ due-is-only n f fs u gs (some v) e h =
 
 pub due-only : (n : ℕ) (fs : List (List ℕ)) (u : Unit {0}) (gs : List (List ℕ)) → due n fs ≡ got u gs → fs ≡ decimal n ∷ gs
 unfolding due
-due-only n [] u gs h = let z : _≡_ {A = ℕ} 0 1 = cc in absurd (omega arith)
+due-only n [] u gs h = clash cc
 due-only n (f ∷ fs) u gs h = due-is-only n f fs u gs (decimalOf f) refl h
 
 pub flag-only : (fs : List (List ℕ)) (b : Bool) (gs : List (List ℕ)) → flag fs ≡ got b gs → fs ≡ flagField b ∷ gs
 unfolding flag flagField
-flag-only [] b gs h = let z : _≡_ {A = ℕ} 0 1 = cc in absurd (omega arith)
+flag-only [] b gs h = clash cc
 flag-only (f ∷ fs) b gs h = go (sameBytes f (bytes "0")) refl h
   where
     go : (t : Bool) → sameBytes f (bytes "0") ≡ t
@@ -135,7 +135,7 @@ pub record Given (high : ℕ) (fs : List (List ℕ)) (z : ℤ) (gs : List (List 
 
 given-is-only : (high : ℕ) (f : List ℕ) (fs : List (List ℕ)) (z : ℤ) (gs : List (List ℕ)) (o : Option ℕ) → decimalOf f ≡ o → givenIs high o fs ≡ got z gs → Given high (f ∷ fs) z gs
 unfolding givenIs givenField
-given-is-only high f fs z gs none e h = let z : _≡_ {A = ℕ} 0 1 = cc in absurd (omega arith)
+given-is-only high f fs z gs none e h = clash cc
 given-is-only high f fs z gs (some v) e h =
     let p = tested-only (leb v high) 4 (pos v) z fs gs h in
     let d : f ≡ givenField (pos v) = decimal-unique f v e in
@@ -143,7 +143,7 @@ given-is-only high f fs z gs (some v) e h =
 
 pub given-only : (high : ℕ) (fs : List (List ℕ)) (z : ℤ) (gs : List (List ℕ)) → orNotGiven high fs ≡ got z gs → Given high fs z gs
 unfolding orNotGiven givenField
-given-only high [] z gs h = let z : _≡_ {A = ℕ} 0 1 = cc in absurd (omega arith)
+given-only high [] z gs h = clash cc
 given-only high (f ∷ fs) z gs h = go (sameBytes f (bytes "-1")) refl h
   where
     go : (t : Bool) → sameBytes f (bytes "-1") ≡ t → cond {A = FieldsGot ℤ} t (got notGiven fs) (givenIs high (decimalOf f) fs) ≡ got z gs → Given high (f ∷ fs) z gs
@@ -159,14 +159,14 @@ pub record Named (fs : List (List ℕ)) (f : List ℕ) (gs : List (List ℕ)) : 
 
 pub named-only : (fs : List (List ℕ)) (f : List ℕ) (gs : List (List ℕ)) → name fs ≡ got f gs → Named fs f gs
 unfolding name
-named-only [] f gs h = let z : _≡_ {A = ℕ} 0 1 = cc in absurd (omega arith)
+named-only [] f gs h = clash cc
 named-only (g ∷ fs) f gs h =
     let p = tested-only (isName g) 3 g f fs gs h in
     record { fields = cc; named = ap isName (sym (p .1)) ∙ p .0 }
 
 pub rule-only : (b : Bool) (fs gs : List (List ℕ)) (u : Unit {0}) → rule b fs ≡ got u gs → (b ≡ true) × (fs ≡ gs)
 unfolding rule
-rule-only false fs gs u h = let z : _≡_ {A = ℕ} 0 1 = cc in absurd (omega arith)
+rule-only false fs gs u h = clash cc
 rule-only true fs gs u h = (refl, cc)
 
 -- a keyword, and a part behind it
@@ -490,7 +490,7 @@ second-only-position m xy fs x y h =
         let i : p .x ≡ x = cc in
         let j : p .y ≡ y = cc in
         record { option = o; fields = cc; good = rw (i, j) at (p .good) }
-    go gs e (inr p) = let q = p .is in let z : _≡_ {A = ℕ} 0 1 = cc in absurd (omega arith)
+    go gs e (inr p) = let q = p .is in clash cc
 
 pub second-only-tests : (m : ℕ) (xy : Bool) (fs : List (List ℕ)) (t : ℕ) → whole (secondLine m xy) fs ≡ says (Second.tests t) → TestsSay m fs t
 unfolding secondLine
@@ -499,7 +499,7 @@ second-only-tests m xy fs t h =
     go (a .left) (key-due-only (bytes "Module") fs (a .left) m (a .value) (a .first)) (second-part xy (a .left) (Second.tests t) (a .second))
   where
     go : (gs : List (List ℕ)) → fs ≡ moduleFields m gs → ((xy ≡ true) × PositionPart gs (Second.tests t)) ⊎ TestsPart gs (Second.tests t) → TestsSay m fs t
-    go gs e (inl (o, p)) = let q = p .is in let z : _≡_ {A = ℕ} 0 1 = cc in absurd (omega arith)
+    go gs e (inl (o, p)) = let q = p .is in clash cc
     go gs e (inr p) =
         let i : p .count ≡ t = cc in
         record { fields = cc; most = omega (arith, p .most) }

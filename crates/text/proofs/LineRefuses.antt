@@ -8,6 +8,7 @@ use mathlib.Core.Option.{Option, some, none}
 use native.Mathlib.Omega.{arith}
 use lib.Dec.{eqb, leb}
 use lib.IntN.{pos}
+use Rattle.units.proofs.TestLaws.{clash}
 use Rattle.fields.specs.Bytes.{bytes, sameBytes}
 use Rattle.fields.specs.Names.{isName}
 use Rattle.fields.specs.Numbers.{decimalOf}
@@ -30,7 +31,7 @@ module _ {A : Type 0} where
   fair-no n h k = record { fair = λ c e. let q : n ≡ c = cc in (omega arith, omega arith) }
 
   pub fair-got : (a : A) (fs : List (List ℕ)) → Fair (got a fs)
-  fair-got a fs = record { fair = λ c e. let z : _≡_ {A = ℕ} 0 1 = cc in absurd (omega arith) }
+  fair-got a fs = record { fair = λ c e. clash cc }
 
   pub fair-if : (t : Bool) {x y : FieldsGot A} → Fair x → Fair y → Fair (cond t x y)
   fair-if true p q = p
@@ -39,7 +40,7 @@ module _ {A : Type 0} where
   pub fair-closed : (g : FieldsGot A) → Fair g → (c : ℕ) → closed g ≡ refuses c → (3 ≤ c) × (c ≤ 5)
   unfolding closed
   fair-closed (no n) f c h = let q : n ≡ c = cc in f .fair c (ap no q)
-  fair-closed (got a []) f c h = let z : _≡_ {A = ℕ} 0 1 = cc in absurd (omega arith)
+  fair-closed (got a []) f c h = clash cc
   fair-closed (got a (g ∷ gs)) f c h = let q : _≡_ {A = ℕ} 3 c = cc in (omega arith, omega arith)
 
 pub fair-after : {A B : Type 0} {g : FieldsGot A} {k : A → Reader B} → Fair g → ((a : A) → FairReader (k a)) → Fair (after g k)

@@ -16,9 +16,9 @@ use Rattle.units.specs.declared.FlipFlops.{FlipFlops}
 use Rattle.fields.specs.Bytes.{bytes}
 use Rattle.fields.specs.Numbers.{decimalOf}
 use Rattle.fields.specs.Written.{decimal}
-use Rattle.fields.proofs.TestLaws.{and-both}
+use Rattle.units.proofs.TestLaws.{clash, and-both}
 use Rattle.fields.proofs.WrittenLaws.{allDigits, decimal-back, decimal-plain}
-use Rattle.soc.specs.Places.{allOf}
+use Rattle.units.specs.Places.{allOf}
 use Rattle.soc.specs.Record.{nameOf, modulesOf, chainsOf, testsOf, flipFlops, noTest, noModule}
 use Rattle.soc.specs.Rules.{spareLength, spareTest, spareModule}
 use Rattle.soc.specs.Rules as rules
@@ -59,8 +59,8 @@ given-once x y (inr p) (inr q) e = p ∙ sym q
 pub lengths-once : (a b : List FlipFlops) → map lengthField a ≡ map lengthField b → a ≡ b
 unfolding lengthField
 lengths-once [] [] e = refl
-lengths-once [] (y ∷ b) e = let z : _≡_ {A = ℕ} 0 1 = cc in absurd (omega arith)
-lengths-once (x ∷ a) [] e = let z : _≡_ {A = ℕ} 0 1 = cc in absurd (omega arith)
+lengths-once [] (y ∷ b) e = clash cc
+lengths-once (x ∷ a) [] e = clash cc
 lengths-once (x ∷ a) (y ∷ b) e =
     let p : decimal (x .0) ≡ decimal (y .0) = cc in
     let q : map lengthField a ≡ map lengthField b = cc in
@@ -86,8 +86,8 @@ taken-once i j a b h n = length-take i a ∙ ap₂ min h n ∙ sym (length-take 
 power-once : (power : Bool) (t u : Test) (ps qs : List (List ℕ)) → PowerPart power t ps → PowerPart power u qs → ps ≡ qs → t .power ≡ u .power
 unfolding powerFields
 power-once power t u ps qs (inl (o, x, a)) (inl (p, y, b)) e = given-once (t .power) (u .power) x y (field-once 1 (sym a ∙ e ∙ b))
-power-once power t u ps qs (inl (o, x, a)) (inr (y, b)) e = let z : _≡_ {A = ℕ} 0 1 = cc in absurd (omega arith)
-power-once power t u ps qs (inr (x, a)) (inl (p, y, b)) e = let z : _≡_ {A = ℕ} 0 1 = cc in absurd (omega arith)
+power-once power t u ps qs (inl (o, x, a)) (inr (y, b)) e = clash cc
+power-once power t u ps qs (inr (x, a)) (inl (p, y, b)) e = clash cc
 power-once power t u ps qs (inr (x, a)) (inr (y, b)) e = x ∙ sym y
 
 pub test-once : (power : Bool) (m i : ℕ) (t u : Test) (fs gs : List (List ℕ)) → TestLine power m i t fs → TestLine power m i u gs → fs ≡ gs → t ≡ u

@@ -5,6 +5,7 @@ use mathlib.Core.Path.{_≡_, refl, ap}
 use mathlib.Core.Bool.{Bool}
 use mathlib.Core.List.{List, [], _∷_}
 use native.Mathlib.Omega.{arith}
+use Rattle.units.proofs.TestLaws.{clash}
 use Rattle.units.specs.Refusals.{refused}
 use Rattle.units.specs.declared.Refusal.{Refusal}
 use Rattle.fields.specs.Lines.{Line}
@@ -32,7 +33,7 @@ module _ {A : Type 0} where
   fair-no q h = record { fair = λ r e. let i : q ≡ r = cc in rw i at h }
 
   pub fair-got : (a : A) (ls : List Line) → Fair (got a ls)
-  fair-got a ls = record { fair = λ r e. let z : _≡_ {A = ℕ} 0 1 = cc in absurd (omega arith) }
+  fair-got a ls = record { fair = λ r e. clash cc }
 
 module _ {A B : Type 0} where
   pub fair-after : {g : LinesRead A} {k : A → LinesReader B} → Fair g → ((a : A) → FairReader (k a)) → Fair (after g k)

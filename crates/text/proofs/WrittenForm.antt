@@ -16,11 +16,11 @@ use Rattle.fields.specs.Fields.{blank}
 use Rattle.fields.specs.Lines.{linesOf, numbered, linesFrom}
 use Rattle.fields.specs.Names.{nameMax, isName}
 use Rattle.fields.specs.Numbers.{more}
-use Rattle.fields.specs.Written.{decimal, joined}
+use Rattle.fields.specs.Written.{decimal, joined, writtenLines}
 use Rattle.fields.proofs.FormLaws.{printable, printables, bad-written, numbered-written, joined-printable, decimal-printable, name-printable}
-use Rattle.fields.proofs.TestLaws.{and-both}
+use Rattle.units.proofs.TestLaws.{and-both}
 use Rattle.fields.proofs.WrittenLaws.{noGap, plainField, plainFields, decimal-field, name-field}
-use Rattle.soc.specs.Places.{allOf}
+use Rattle.units.specs.Places.{allOf}
 use Rattle.soc.specs.Record.{nameOf, modulesOf, testsOf}
 use Rattle.soc.specs.Rules.{none, goodPower, goodPosition, goodTest, goodModule, goodModules, goodName, goodSoc}
 use Rattle.soc.specs.declared.record.Test.{Test}
@@ -29,7 +29,7 @@ use Rattle.soc.specs.declared.record.Soc.{Soc}
 use Rattle.text_lines.specs.Written.{flagField, givenField, lengthField, nameFields, totalFields, optionsFields, levelFields, positionFields, testsFields, powerFields, testFields}
 use Rattle.text.proofs.LineBack.{not-given, good-test, power-says, position-says}
 use Rattle.text.specs.Describes.{PowerPart, TestLines, PositionPart, ModuleLines, ModulesLines, Describes, fieldsIn, fieldLines}
-use Rattle.text_writer.specs.Written.{testLines, positionLines, moduleLinesOf, moduleLinesFrom, socLines, writtenLines, writtenSoc}
+use Rattle.text_writer.specs.Written.{testLines, positionLines, moduleLinesOf, moduleLinesFrom, socLines, writtenSoc}
 use Rattle.text.proofs.GoodLaws.{good-module, good-soc, good-spare}
 
 -- the lines of the written form describe the record

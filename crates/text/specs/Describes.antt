@@ -10,7 +10,7 @@ use lib.IntN.{ℤ, pos}
 use lib.ListN.{drop}
 use Rattle.fields.specs.Lines.{Line, linesFrom}
 use Rattle.fields.specs.Names.{nameMax}
-use Rattle.soc.specs.Places.{allOf}
+use Rattle.units.specs.Places.{allOf}
 use Rattle.soc.specs.Record.{notGiven, modulesOf, testsOf}
 use Rattle.soc.specs.Rules.{spareLength, spareTest, spareModule}
 use Rattle.soc.specs.Rules as rules

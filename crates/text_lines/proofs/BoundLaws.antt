@@ -5,6 +5,7 @@ use mathlib.Core.Path.{_≡_, refl}
 use mathlib.Core.Bool.{Bool, true, false, cond}
 use mathlib.Core.List.{List, [], _∷_}
 use lib.IntN.{ℤ}
+use Rattle.units.proofs.TestLaws.{clash}
 use Rattle.fields.specs.Bytes.{bytes}
 use Rattle.fields.specs.Readers.{no, got, FieldsGot, Reader, after, give}
 use Rattle.fields.proofs.ReaderLaws.{key-between-within}
@@ -15,15 +16,15 @@ use Rattle.text_lines.specs.Kinds.{Second, moduleDue, pairRule, position
 -- what a line says was read, and nothing is left of it
 pub closed-got : {A : Type 0} (g : FieldsGot A) (a : A) → closed g ≡ says a → g ≡ got a []
 unfolding closed
-closed-got (no c) a h = let z : _≡_ {A = ℕ} 0 1 = cc in absurd (omega arith)
+closed-got (no c) a h = clash cc
 closed-got (got b []) a h = cc
-closed-got (got b (f ∷ fs)) a h = let z : _≡_ {A = ℕ} 0 1 = cc in absurd (omega arith)
+closed-got (got b (f ∷ fs)) a h = clash cc
 
 -- where two readings say b, the second one does so behind the first
 pub after-says : {A B C : Type 0} (k : A → Reader B) (b : B) → ((a : A) (fs : List (List ℕ)) → whole (k a) fs ≡ says b → C)
     → (g : FieldsGot A) → closed (after g k) ≡ says b → C
 unfolding after closed
-after-says k b f (no c) h = let z : _≡_ {A = ℕ} 0 1 = cc in absurd (omega arith)
+after-says k b f (no c) h = clash cc
 after-says k b f (got a fs) h = f a fs h
 
 module _ (t : ℕ) where
@@ -39,7 +40,7 @@ module _ (t : ℕ) where
   position-given : {C : Type 0} (x y : ℤ) (fs : List (List ℕ)) → closed (got (Second.position x y) fs) ≡ says (Second.tests t) → C
   position-given x y fs h =
       let g : got (Second.position x y) fs ≡ got (Second.tests t) [] = closed-got _ _ h in
-      let z : _≡_ {A = ℕ} 0 1 = cc in absurd (omega arith)
+      clash cc
 
   position-no-tests : {C : Type 0} (fs : List (List ℕ)) → whole positionPart fs ≡ says (Second.tests t) → C
   unfolding positionPart
@@ -55,7 +56,7 @@ module _ (t : ℕ) where
   tests-part-within fs h = go (totalTests fs) refl h
     where
       go : (g : FieldsGot ℕ) → totalTests fs ≡ g → closed (after g (λ u. give (Second.tests u))) ≡ says (Second.tests t) → t ≤ testsMax
-      go (no c) e k = let z : _≡_ {A = ℕ} 0 1 = cc in absurd (omega arith)
+      go (no c) e k = clash cc
       go (got u gs) e k = omega (arith, tests-given u gs k, key-between-within (bytes "TotalTests") 0 testsMax fs u gs e)
 
   second-part-within : (xy : Bool) (fs : List (List ℕ)) → whole (secondPart xy) fs ≡ says (Second.tests t) → t ≤ testsMax

@@ -15,10 +15,10 @@ use Rattle.fields.specs.Fields.{blank}
 use Rattle.fields.specs.Names.{nameMax, nameBytes, isName}
 use Rattle.fields.specs.Readers.{FieldsGot, no, got, after, keyBetween}
 use Rattle.fields.proofs.ReaderLaws.{key-between-within}
-use Rattle.fields.proofs.TestLaws.{and-both}
+use Rattle.units.proofs.TestLaws.{clash, and-both}
 use Rattle.soc.specs.Limits.{modulesMax}
-use Rattle.soc.specs.Places.{padded}
-use Rattle.soc.proofs.PlaceLaws.{padded-set}
+use Rattle.units.specs.Places.{padded}
+use Rattle.units.proofs.PlaceLaws.{padded-set}
 use Rattle.text_lines.specs.Parts.{refuses, says, closed, whole, name}
 use Rattle.text_lines.specs.Kinds.{namePart, totalLine}
 use Rattle.text_lines.specs.Answers.{nameAnswer}
@@ -32,11 +32,11 @@ module _ {A : Type 0} where
   blank-says : (a : A) (fs : List (List ℕ)) → blank fs ≡ true → closed (got a fs) ≡ says a
   unfolding closed blank
   blank-says a [] h = refl
-  blank-says a (f ∷ fs) h = let z : _≡_ {A = ℕ} 0 1 = cc in absurd (omega arith)
+  blank-says a (f ∷ fs) h = clash cc
 
   blank-refuses : (a : A) (fs : List (List ℕ)) → blank fs ≡ false → closed (got a fs) ≡ refuses 3
   unfolding closed blank
-  blank-refuses a [] h = let z : _≡_ {A = ℕ} 0 1 = cc in absurd (omega arith)
+  blank-refuses a [] h = clash cc
   blank-refuses a (f ∷ fs) h = refl
 
   -- no field is left
@@ -56,9 +56,9 @@ module _ {A : Type 0} where
 
 closed-total : (fs : List (List ℕ)) (n : ℕ) (g : FieldsGot ℕ) → keyBetween (bytes "TotalModules") 1 modulesMax fs ≡ g → closed g ≡ says n → (1 ≤ n) × (n ≤ modulesMax)
 unfolding closed
-closed-total fs n (no c) e h = let z : _≡_ {A = ℕ} 0 1 = cc in absurd (omega arith)
+closed-total fs n (no c) e h = clash cc
 closed-total fs n (got v []) e h = let q : v ≡ n = cc in rw q at (key-between-within (bytes "TotalModules") 1 modulesMax fs v [] e)
-closed-total fs n (got v (f ∷ gs)) e h = let z : _≡_ {A = ℕ} 0 1 = cc in absurd (omega arith)
+closed-total fs n (got v (f ∷ gs)) e h = clash cc
 
 -- a text has from 1 to 40 modules
 pub total-within : (fs : List (List ℕ)) (n : ℕ) → whole totalLine fs ≡ says n → (1 ≤ n) × (n ≤ modulesMax)

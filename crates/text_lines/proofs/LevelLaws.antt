@@ -6,11 +6,12 @@ use mathlib.Core.Path.{_≡_, refl, sym, ap, _∙_}
 use mathlib.Core.List.{List, _++_}
 use lib.ListN.{length, take, drop, set, replicate, length-replicate, replicate-append-replicate, take-append-drop}
 use lib.Seq.{length-take-le, drop-drop, drop-at, drop-set-lt}
+use Rattle.units.proofs.TestLaws.{clash}
 use Rattle.fields.specs.Readers.{Got, Reads, no, got, after, between}
 use Rattle.fields.specs.Bytes.{bytes}
 use Rattle.fields.proofs.ReaderLaws.{after-no, after-got, key-between-within}
 use Rattle.soc.specs.Limits.{levelMax, lengthMax}
-use Rattle.soc.specs.Places.{padded}
+use Rattle.units.specs.Places.{padded}
 use Rattle.soc.specs.Record.{flipFlops}
 use Rattle.text_lines.specs.Kinds.{level, chainLength}
 
@@ -58,7 +59,7 @@ record Came {E S A B : Type 0} (g : Got E S A) (k : A → Reads E S B) (b : B) (
 
 came : {E S A B : Type 0} (g : Got E S A) (k : A → Reads E S B) (b : B) (t : S) → after g k ≡ got b t → Came g k b t
 unfolding after
-came (no c) k b t h = let z : _≡_ {A = ℕ} 0 1 = cc in absurd (omega arith)
+came (no c) k b t h = clash cc
 came (got a s) k b t h = record { value = a; left = s; first = refl; behind = h }
 
 -- a level that was read is within its limit

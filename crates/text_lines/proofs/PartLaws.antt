@@ -8,6 +8,7 @@ use mathlib.Core.Option.{Option, some, none}
 use native.Mathlib.Omega.{arith}
 use borrow.Author.Tests.{eq-eqb, ne-eqb, le-leb, lt-leb}
 use lib.IntN.{pos}
+use Rattle.units.proofs.TestLaws.{clash}
 use Rattle.fields.specs.Fields.{blank}
 use Rattle.fields.specs.Numbers.{cap, cut}
 use Rattle.fields.specs.Readers.{no, got}
@@ -19,18 +20,18 @@ module _ (n : ℕ) (fs : List (List ℕ)) where
   pub due-bad : (o : Option ℕ) → cut o ≡ Bad → dueIs n o fs ≡ no 4
   unfolding dueIs cut
   due-bad none h = refl
-  due-bad (some m) h = let z : _≡_ {A = ℕ} 0 1 = cc in absurd (omega arith)
+  due-bad (some m) h = clash cc
 
   pub given-bad : (o : Option ℕ) → cut o ≡ Bad → givenIs n o fs ≡ no 4
   unfolding givenIs cut
   given-bad none h = refl
-  given-bad (some m) h = let z : _≡_ {A = ℕ} 0 1 = cc in absurd (omega arith)
+  given-bad (some m) h = clash cc
 
 -- the field is the number v, or where v is the cap, some number from there on
 module _ (n v : ℕ) (fs : List (List ℕ)) where
   pub due-got : (o : Option ℕ) → cut o ≡ Value v → v ≡ n → n < cap → dueIs n o fs ≡ got tt fs
   unfolding dueIs cut
-  due-got none h k l = let z : _≡_ {A = ℕ} 0 1 = cc in absurd (omega arith)
+  due-got none h k l = clash cc
   due-got (some m) h k l =
       let q : min m cap ≡ v = cc in
       let e : m ≡ n = omega arith in
@@ -38,14 +39,14 @@ module _ (n v : ℕ) (fs : List (List ℕ)) where
 
   pub due-other : (o : Option ℕ) → cut o ≡ Value v → (v ≡ n → ⊥) → n < cap → dueIs n o fs ≡ no 5
   unfolding dueIs cut
-  due-other none h k l = let z : _≡_ {A = ℕ} 0 1 = cc in absurd (omega arith)
+  due-other none h k l = clash cc
   due-other (some m) h k l =
       let q : min m cap ≡ v = cc in
       simp (ne-eqb m n (λ e. k (omega arith)))
 
   pub given-got : (o : Option ℕ) → cut o ≡ Value v → v ≤ n → n < cap → givenIs n o fs ≡ got (pos v) fs
   unfolding givenIs cut
-  given-got none h k l = let z : _≡_ {A = ℕ} 0 1 = cc in absurd (omega arith)
+  given-got none h k l = clash cc
   given-got (some m) h k l =
       let q : min m cap ≡ v = cc in
       let e : m ≡ v = omega arith in
@@ -53,7 +54,7 @@ module _ (n v : ℕ) (fs : List (List ℕ)) where
 
   pub given-above : (o : Option ℕ) → cut o ≡ Value v → n < v → givenIs n o fs ≡ no 4
   unfolding givenIs cut
-  given-above none h k = let z : _≡_ {A = ℕ} 0 1 = cc in absurd (omega arith)
+  given-above none h k = clash cc
   given-above (some m) h k =
       let q : min m cap ≡ v = cc in
       let b : n < m = omega arith in

@@ -10,7 +10,7 @@ use Rattle.fields.specs.Readers.{no, got, FieldsGot}
 use Rattle.fields.specs.declared.reader.Past.{Past}
 use Rattle.fields.specs.declared.reader.Past.the-variants as past
 use Rattle.soc.specs.Limits.{chainsMax}
-use Rattle.soc.specs.Places.{padded}
+use Rattle.units.specs.Places.{padded}
 use Rattle.soc.specs.Record.{flipFlops}
 use Rattle.soc.specs.declared.record.Test.{Test}
 use Rattle.text_lines.specs.Parts.{Whole, refuses, says}

@@ -9,7 +9,7 @@ use Rattle.fields.specs.Bytes.{bytes}
 use Rattle.fields.specs.Names.{nameMax}
 use Rattle.fields.specs.Readers.{Reader, got, _>>=_, _>>_, give, each, word, between}
 use Rattle.soc.specs.Limits.{modulesMax, levelMax, terminalsMax, chainsMax, lengthMax, testsMax, patternsMax, positionMax, powerMax}
-use Rattle.soc.specs.Places.{padded}
+use Rattle.units.specs.Places.{padded}
 use Rattle.soc.specs.Record.{flipFlops, notGiven}
 use Rattle.soc.specs.Rules.{levelRule, isNotGiven}
 use Rattle.soc.specs.declared.record.Test.{Test}

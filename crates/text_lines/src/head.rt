@@ -10,7 +10,7 @@ ghost use mathlib.Core.List.{_∷_};
 ghost use lib.ListN.{length, drop};
 ghost use Rattle.fields.specs.Fields.{fieldsOf, part};
 ghost use Rattle.fields.specs.Names.{nameMax};
-ghost use Rattle.soc.specs.Places.{padded};
+ghost use Rattle.units.specs.Places.{padded};
 ghost use Rattle.text_lines.specs.Parts.{refuses, whole};
 ghost use Rattle.text_lines.specs.Kinds.{namePart, nameLine, totalLine, optionsPart, optionsLine};
 ghost use Rattle.text_lines.specs.Answers.{nameAnswer, countAnswer, optionsAnswer};

@@ -4,6 +4,7 @@ use mathlib.Core.Path.{_≡_, refl, sym, ap, _∙_}
 use mathlib.Core.Bool.{Bool}
 use native.Mathlib.Omega.{arith}
 use lib.IntN.{ℤ}
+use Rattle.units.proofs.TestLaws.{clash}
 use Rattle.soc.specs.declared.record.Test.{Test}
 use Rattle.text_lines.specs.Parts.{Whole, refuses, says}
 use Rattle.text_lines.specs.Kinds.{Name, Options, Shape, Second}
@@ -24,14 +25,14 @@ module _ (w : Whole Name) (l : NameLine) (is : l ≡ nameAnswer w) where
     where
       go : (w : Whole Name) → nameAnswer w .verdict ≡ Refused c → w ≡ refuses c
       go (refuses d) e = cc
-      go (says n) e = let z : _≡_ {A = ℕ} 0 1 = cc in absurd (omega arith)
+      go (says n) e = clash cc
 
   pub name-taken : l .verdict ≡ Taken → w ≡ says (nameIn l)
   unfolding nameAnswer
   name-taken h = rw is (go w (ap (λ x. x .verdict) (sym is) ∙ h))
     where
       go : (w : Whole Name) → nameAnswer w .verdict ≡ Taken → w ≡ says (nameIn (nameAnswer w))
-      go (refuses d) e = let z : _≡_ {A = ℕ} 0 1 = cc in absurd (omega arith)
+      go (refuses d) e = clash cc
       go (says n) e = refl
 
 module _ (w : Whole Shape) (l : LevelLine) (is : l ≡ levelAnswer w) where
@@ -41,34 +42,34 @@ module _ (w : Whole Shape) (l : LevelLine) (is : l ≡ levelAnswer w) where
     where
       go : (w : Whole Shape) → levelAnswer w .verdict ≡ Refused c → w ≡ refuses c
       go (refuses d) e = cc
-      go (says s) e = let z : _≡_ {A = ℕ} 0 1 = cc in absurd (omega arith)
+      go (says s) e = clash cc
 
   pub level-taken : l .verdict ≡ Taken → w ≡ says (shapeIn l)
   unfolding levelAnswer
   level-taken h = rw is (go w (ap (λ x. x .verdict) (sym is) ∙ h))
     where
       go : (w : Whole Shape) → levelAnswer w .verdict ≡ Taken → w ≡ says (shapeIn (levelAnswer w))
-      go (refuses d) e = let z : _≡_ {A = ℕ} 0 1 = cc in absurd (omega arith)
+      go (refuses d) e = clash cc
       go (says s) e = refl
 
 pub count-no : (w : Whole ℕ) (c : ℕ) → countAnswer w ≡ count.No c → w ≡ refuses c
 unfolding countAnswer
 count-no (refuses d) c e = cc
-count-no (says n) c e = let z : _≡_ {A = ℕ} 0 1 = cc in absurd (omega arith)
+count-no (says n) c e = clash cc
 
 pub count-is : (w : Whole ℕ) (n : ℕ) → countAnswer w ≡ count.Is n → w ≡ says n
 unfolding countAnswer
-count-is (refuses d) n e = let z : _≡_ {A = ℕ} 0 1 = cc in absurd (omega arith)
+count-is (refuses d) n e = clash cc
 count-is (says m) n e = cc
 
 pub options-no : (w : Whole Options) (c : ℕ) → optionsAnswer w ≡ options.No c → w ≡ refuses c
 unfolding optionsAnswer
 options-no (refuses d) c e = cc
-options-no (says o) c e = let z : _≡_ {A = ℕ} 0 1 = cc in absurd (omega arith)
+options-no (says o) c e = clash cc
 
 pub options-are : (w : Whole Options) (p x : Bool) → optionsAnswer w ≡ options.Are p x → w ≡ says (record { power = p; xy = x })
 unfolding optionsAnswer
-options-are (refuses d) p x e = let z : _≡_ {A = ℕ} 0 1 = cc in absurd (omega arith)
+options-are (refuses d) p x e = clash cc
 options-are (says o) p x e =
     let f : o .power ≡ p = cc in
     let g : o .xy ≡ x = cc in
@@ -77,27 +78,27 @@ options-are (says o) p x e =
 pub second-no : (w : Whole Second) (c : ℕ) → secondAnswer w ≡ second.No c → w ≡ refuses c
 unfolding secondAnswer
 second-no (refuses d) c e = cc
-second-no (says (Second.position x y)) c e = let z : _≡_ {A = ℕ} 0 1 = cc in absurd (omega arith)
-second-no (says (Second.tests t)) c e = let z : _≡_ {A = ℕ} 0 1 = cc in absurd (omega arith)
+second-no (says (Second.position x y)) c e = clash cc
+second-no (says (Second.tests t)) c e = clash cc
 
 pub second-tests : (w : Whole Second) (t : ℕ) → secondAnswer w ≡ second.Tests t → w ≡ says (Second.tests t)
 unfolding secondAnswer
-second-tests (refuses d) t e = let z : _≡_ {A = ℕ} 0 1 = cc in absurd (omega arith)
-second-tests (says (Second.position x y)) t e = let z : _≡_ {A = ℕ} 0 1 = cc in absurd (omega arith)
+second-tests (refuses d) t e = clash cc
+second-tests (says (Second.position x y)) t e = clash cc
 second-tests (says (Second.tests u)) t e = cc
 
 pub second-position : (w : Whole Second) (x y : ℤ) → secondAnswer w ≡ second.Position x y → w ≡ says (Second.position x y)
 unfolding secondAnswer
-second-position (refuses d) x y e = let z : _≡_ {A = ℕ} 0 1 = cc in absurd (omega arith)
+second-position (refuses d) x y e = clash cc
 second-position (says (Second.position u v)) x y e = cc
-second-position (says (Second.tests t)) x y e = let z : _≡_ {A = ℕ} 0 1 = cc in absurd (omega arith)
+second-position (says (Second.tests t)) x y e = clash cc
 
 pub test-no : (w : Whole Test) (c : ℕ) → testAnswer w ≡ test.No c → w ≡ refuses c
 unfolding testAnswer
 test-no (refuses d) c e = cc
-test-no (says t) c e = let z : _≡_ {A = ℕ} 0 1 = cc in absurd (omega arith)
+test-no (says t) c e = clash cc
 
 pub test-is : (w : Whole Test) (t : Test) → testAnswer w ≡ test.Is t → w ≡ says t
 unfolding testAnswer
-test-is (refuses d) t e = let z : _≡_ {A = ℕ} 0 1 = cc in absurd (omega arith)
+test-is (refuses d) t e = clash cc
 test-is (says u) t e = cc

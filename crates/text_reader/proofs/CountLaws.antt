@@ -4,6 +4,7 @@ use native.Mathlib.Omega.{arith}
 use mathlib.Core.Path.{_≡_, refl}
 use mathlib.Core.Bool.{Bool}
 use mathlib.Core.List.{List, [], _∷_}
+use Rattle.units.proofs.TestLaws.{clash}
 use Rattle.fields.specs.Lines.{Line}
 use Rattle.fields.specs.Readers.{Got, no, got, Reads, Reader, after}
 use Rattle.soc.specs.Limits.{modulesMax, testsMax}
@@ -18,17 +19,17 @@ use Rattle.text_reader.specs.Reading.{Body, behind, body}
 -- a value of a line is what the line says
 line-got : {A C : Type 0} (r : Reader A) (a : A) → ((fs : List (List ℕ)) → whole r fs ≡ says a → C) → (ls ms : List Line) → line r ls ≡ got a ms → C
 unfolding line judged
-line-got r a f [] ms h = let z : _≡_ {A = ℕ} 0 1 = cc in absurd (omega arith)
+line-got r a f [] ms h = clash cc
 line-got {A = A} {C = C} r a f (l ∷ ls) ms h = go (whole r (l .fields)) refl h
   where
     go : (w : Whole A) → whole r (l .fields) ≡ w → judged (l .number) ls w ≡ got a ms → C
-    go (refuses c) e k = let z : _≡_ {A = ℕ} 0 1 = cc in absurd (omega arith)
+    go (refuses c) e k = clash cc
     go (says b) e k = f (l .fields) (cc)
 
 -- a value of two readings is of the second, behind a value of the first
 after-gives : {E S A B C : Type 0} (k : A → Reads E S B) (b : B) (t : S) → (g : Got E S A) → ((a : A) (s : S) → g ≡ got a s → k a s ≡ got b t → C) → after g k ≡ got b t → C
 unfolding after
-after-gives k b t (no c) f h = let z : _≡_ {A = ℕ} 0 1 = cc in absurd (omega arith)
+after-gives k b t (no c) f h = clash cc
 after-gives k b t (got a s) f h = f a s refl h
 
 pub total-count : (n : ℕ) (ls ms : List Line) → line totalLine ls ≡ got n ms → n ≤ modulesMax

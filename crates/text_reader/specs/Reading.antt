@@ -13,7 +13,7 @@ use Rattle.fields.specs.declared.byte.BadByte.the-variants.{OnLine, Nowhere}
 use Rattle.fields.specs.Lines.{Line, linesFrom}
 use Rattle.fields.specs.Readers.{Got, no, got, _>>=_, _>>_, give, each}
 use Rattle.soc.specs.Limits.{modulesMax, testsMax}
-use Rattle.soc.specs.Places.{padded}
+use Rattle.units.specs.Places.{padded}
 use Rattle.soc.specs.Record.{notGiven, noTest, noModule, noSoc}
 use Rattle.soc.specs.declared.record.Test.{Test}
 use Rattle.soc.specs.declared.record.Module.{Module}

@@ -8,7 +8,7 @@ use Rattle.fields.specs.Fields.{fieldsOf, part}
 use Rattle.fields.specs.Lines.{Line, linesFrom}
 use Rattle.fields.specs.Readers.{no, got}
 use Rattle.soc.specs.Limits.{modulesMax, testsMax}
-use Rattle.soc.specs.Places.{padded}
+use Rattle.units.specs.Places.{padded}
 use Rattle.soc.specs.Record.{noTest, noModule}
 use Rattle.soc.specs.declared.record.Test.{Test}
 use Rattle.soc.specs.declared.record.Module.{Module}

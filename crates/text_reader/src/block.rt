@@ -19,7 +19,7 @@ ghost use Prim.Native.Nat.{_≤_};
 ghost use lib.ListN.{take};
 ghost use Rattle.text_lines.specs.Kinds.{levelLine, testsLine, testLine};
 ghost use Rattle.soc.specs.Limits.{testsMax};
-ghost use Rattle.soc.specs.Places.{padded};
+ghost use Rattle.units.specs.Places.{padded};
 ghost use Rattle.soc.specs.Record.{noTest};
 ghost use Rattle.text_reader.specs.Lines.{line};
 ghost use Rattle.text_reader.specs.Reading.{body, tests, moduleTests, moduleRest, moduleLines};

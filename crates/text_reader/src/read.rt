@@ -18,7 +18,7 @@ ghost use mathlib.Core.Path.{_≡_};
 ghost use Prim.Native.Nat.{_≤_};
 ghost use lib.ListN.{take};
 ghost use Rattle.soc.specs.Limits.{modulesMax};
-ghost use Rattle.soc.specs.Places.{padded};
+ghost use Rattle.units.specs.Places.{padded};
 ghost use Rattle.soc.specs.Record.{noModule};
 ghost use Rattle.fields.specs.Lines.{linesFrom};
 ghost use Rattle.text_reader.specs.Reading.{modules, rest, behindName, soc, refusedSoc, acceptedSoc, answer, readSoc};

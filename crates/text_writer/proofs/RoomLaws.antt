@@ -7,7 +7,7 @@ use native.Mathlib.Omega.{arith}
 use borrow.Author.Tests.{leb-false, le-leb}
 use lib.ListN.{length, take, drop}
 use lib.Dec.{leb}
-use Rattle.fields.specs.Written.{putFront}
+use Rattle.buffer.specs.Puts.{putFront}
 use Rattle.text_writer.specs.Room.{allOrNone}
 
 -- no more than there is

@@ -10,28 +10,14 @@ use lib.ListN.{length, getD, take, length-append}
 use lib.Seq.{take-suc, take-add, length-take-le}
 use Rattle.units.specs.declared.FlipFlops.{FlipFlops}
 use Rattle.fields.specs.Bytes.{lf, space}
-use Rattle.fields.specs.Written.{joined}
+use Rattle.fields.specs.Written.{writtenLines}
+use Rattle.fields.proofs.LinesWritten.{written-append, front-fits, front-more}
 use Rattle.soc.specs.Record.{modulesOf, testsOf}
 use Rattle.soc.specs.declared.record.Test.{Test}
 use Rattle.soc.specs.declared.record.Module.{Module}
 use Rattle.soc.specs.declared.record.Soc.{Soc}
 use Rattle.text_lines.specs.Written.{lengthField, nameFields, totalFields, optionsFields, levelFields, testsFields, powerFields, testFields}
-use Rattle.text_writer.specs.Written.{testLines, positionLines, moduleLinesOf, moduleLinesFrom, socLines, writtenLines, writtenSoc, spacedLengths}
-
-pub written-append : (xs ys : List (List (List ℕ))) → writtenLines (xs ++ ys) ≡ writtenLines xs ++ writtenLines ys
-unfolding writtenLines
-written-append [] ys = refl
-written-append (l ∷ xs) ys = ap (λ t. joined l ++ lf ∷ t) (written-append xs ys) ∙ sym (append-assoc (joined l) (lf ∷ writtenLines xs) (writtenLines ys))
-
--- a text of a list, to which more elements add text at the end: what those add behind xs is more xs
-module _ {A : Type 0} (text : List A → List ℕ) (more : List A → List A → List ℕ) (adds : (xs ys : List A) → text (xs ++ ys) ≡ text xs ++ more xs ys) where
-  pub front-fits : (k n : ℕ) (l : List A) → k ≤ n → length (text (take k l)) ≤ length (text (take n l))
-  front-fits k n l h =
-      let e : n ≡ k + (n - k) = omega arith in
-      rw (e, take-add k (n - k) l, adds, length-append) (omega arith)
-
-  pub front-more : (k : ℕ) (l : List A) (z : A) → k < length l → text (take (k + 1) l) ≡ text (take k l) ++ more (take k l) (getD l k z ∷ [])
-  front-more k l z h = rw (add-one, take-suc l k z, adds)
+use Rattle.text_writer.specs.Written.{testLines, positionLines, moduleLinesOf, moduleLinesFrom, socLines, writtenSoc, spacedLengths}
 
 spaced-append : (xs ys : List FlipFlops) → spacedLengths (xs ++ ys) ≡ spacedLengths xs ++ spacedLengths ys
 unfolding spacedLengths

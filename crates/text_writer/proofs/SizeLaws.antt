@@ -9,19 +9,20 @@ use lib.Dec.{leb}
 use lib.IntN.{ℤ, pos, negsuc}
 use lib.ListN.{length, take, length-append, length-take}
 use Rattle.units.specs.declared.FlipFlops.{FlipFlops}
-use Rattle.fields.proofs.TestLaws.{and-both}
+use Rattle.units.proofs.TestLaws.{and-both}
 use Rattle.fields.proofs.SizeLaws.{size, decimal-size, joined-size, name-size}
 use Rattle.soc.specs.Limits.{lengthMax, positionMax, powerMax}
-use Rattle.soc.specs.Places.{allOf}
+use Rattle.units.specs.Places.{allOf}
 use Rattle.soc.specs.Record.{nameOf, modulesOf, chainsOf, testsOf}
 use Rattle.soc.specs.Rules.{isNotGiven, upTo, goodLength, goodPower, goodPosition, goodTest, goodModule, goodModules, goodSoc}
 use Rattle.soc.specs.declared.record.Test.{Test}
 use Rattle.soc.specs.declared.record.Module.{Module}
 use Rattle.soc.specs.declared.record.Soc.{Soc}
 use Rattle.text_lines.specs.Written.{givenField, lengthField, nameFields, totalFields, optionsFields, levelFields, positionFields, testsFields, powerFields, testFields}
-use Rattle.text_writer.specs.Written.{testLines, positionLines, moduleLinesOf, moduleLinesFrom, socLines, writtenLines, writtenSoc}
+use Rattle.fields.specs.Written.{writtenLines}
+use Rattle.text_writer.specs.Written.{testLines, positionLines, moduleLinesOf, moduleLinesFrom, socLines, writtenSoc}
 use Rattle.text_writer.proofs.FigureLaws.{flag-length}
-use Rattle.text_writer.proofs.GoodLaws.{TestFigures, test-figures, ModuleFigures, module-figures, SocFigures, soc-figures}
+use Rattle.soc.proofs.GoodSocLaws.{TestFigures, test-figures, ModuleFigures, module-figures, SocFigures, soc-figures}
 
 -- each line with two bytes for its end
 unfoldable linesSize : List (List (List ℕ)) → ℕ

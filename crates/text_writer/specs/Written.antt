@@ -8,7 +8,7 @@ use lib.ListN.{length, getD, drop}
 use lib.Dec.{leb}
 use Rattle.units.specs.Refusals.{accepted, refused}
 use Rattle.fields.specs.Bytes.{bytes, lf, space}
-use Rattle.fields.specs.Written.{joined}
+use Rattle.fields.specs.Written.{writtenLines}
 use Rattle.units.specs.declared.FlipFlops.{FlipFlops}
 use Rattle.soc.specs.Limits.{chainsMax, testsMax}
 use Rattle.soc.specs.Record.{noModule, modulesOf, testsOf}
@@ -38,11 +38,6 @@ moduleLinesFrom power xy m (d ∷ ds) = moduleLinesOf power xy m d ++ moduleLine
 -- the fields of all lines
 unfoldable pub socLines : Soc → List (List (List ℕ))
 socLines s = nameFields s ∷ totalFields s ∷ optionsFields s ∷ moduleLinesFrom (s .power) (s .xy) 0 (modulesOf s)
-
--- single spaces, and LF after every line
-unfoldable pub writtenLines : List (List (List ℕ)) → List ℕ
-writtenLines [] = []
-writtenLines (l ∷ ls) = joined l ++ lf ∷ writtenLines ls
 
 unfoldable pub writtenSoc : Soc → List ℕ
 writtenSoc s = writtenLines (socLines s)

@@ -4,13 +4,13 @@ ghost use mathlib.Core.List.{_++_};
 ghost use lib.ListN.{length};
 ghost use Rattle.fields.specs.Written.{decimal};
 ghost use Rattle.text_lines.specs.Written.{flagField, givenField};
-ghost use Rattle.fields.specs.Puts.{Put};
+ghost use Rattle.buffer.specs.Puts.{Put};
 
 pub(crate) fn put_bytes(buf: &mut [u8], at: usize, w: &[u8]) -> usize
     requires { ⌜ at + length (now w) ≤ length (now buf) ⌝ }
     ensures { λ r. ⌜ Put (now (w .entry)) at (now (buf .entry)) (now (buf .exit)) r ⌝ }
 {
-    fields::put_bytes(&mut *buf, at, w)
+    buffer::put_bytes(&mut *buf, at, w)
 }
 
 pub(crate) fn put_number(buf: &mut [u8], at: usize, v: u64) -> usize

@@ -12,9 +12,10 @@ ghost use mathlib.Core.Bool.{true};
 ghost use Prim.Native.Nat.{_+_, _≤_};
 ghost use lib.ListN.{length, take};
 ghost use Rattle.soc.specs.Rules.{goodSoc};
-ghost use Rattle.text_writer.specs.Written.{writtenLines, testLines, moduleLinesOf, moduleLinesFrom, writtenSoc, refusedWrite, writeAnswer, writeLeaves, Countable};
+ghost use Rattle.fields.specs.Written.{writtenLines};
+ghost use Rattle.text_writer.specs.Written.{testLines, moduleLinesOf, moduleLinesFrom, writtenSoc, refusedWrite, writeAnswer, writeLeaves, Countable};
 ghost use Rattle.text_writer.specs.Room.{allOrNone};
-ghost use Rattle.fields.specs.Puts.{Put};
+ghost use Rattle.buffer.specs.Puts.{Put};
 
 // How many bytes were written; or the refusal.
 pub struct SocWritten {
@@ -100,7 +101,7 @@ pub fn write_soc(s: Soc, buf: &mut [u8]) -> SocWritten
     let mut form = [0u8; 61440];
     let n = put_soc(&mut form, s);
     let k = all_or_none(n, buf.len());
-    fields::write_bytes(&mut *buf, &form[..k]);
+    buffer::write_bytes(&mut *buf, &form[..k]);
     if k < n {
         return refused_write(11);
     }

@@ -11,8 +11,9 @@ ghost use mathlib.Core.Bool.{cond};
 ghost use mathlib.Core.List.{[], _∷_};
 ghost use lib.ListN.{length, take};
 ghost use Rattle.text_lines.specs.Written.{nameFields, totalFields, optionsFields, levelFields, testsFields, powerFields, testFields};
-ghost use Rattle.text_writer.specs.Written.{writtenLines, positionLines, spacedLengths, powerEnd};
-ghost use Rattle.fields.specs.Puts.{Put};
+ghost use Rattle.fields.specs.Written.{writtenLines};
+ghost use Rattle.text_writer.specs.Written.{positionLines, spacedLengths, powerEnd};
+ghost use Rattle.buffer.specs.Puts.{Put};
 
 // `SocName` name, `TotalModules` n, `Options Power` 0/1 `XY` 0/1.
 pub(crate) fn put_head(buf: &mut [u8], at: usize, s: Soc) -> usize

@@ -1,1 +1,3 @@
 pub mod Unique
+pub mod TestLaws
+pub mod PlaceLaws

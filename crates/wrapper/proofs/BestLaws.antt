@@ -10,8 +10,9 @@ use native.Mathlib.Nat.{add-mul, one-mul, eq-or-lt-of-le}
 use lib.Dec.{leb, ltb}
 use lib.ListN.{length, getD, drop}
 use borrow.Author.Tests.{ltb-true, ltb-false, leb-true}
+use Rattle.units.proofs.TestLaws.{clash}
 use Rattle.soc.specs.Limits.{testsMax}
-use Rattle.soc.specs.Places.{allOf, anyOf, filled}
+use Rattle.units.specs.Places.{allOf, anyOf, filled}
 use Rattle.soc.specs.Record.{noTest, testsOf}
 use Rattle.soc.specs.Planned.{onTam, isPlanned}
 use Rattle.soc.specs.Rules.{goodTest, spareTest, goodTests}
@@ -115,7 +116,7 @@ and-left false b e = e
 
 and-right : (a b : Bool) → (a && b) ≡ true → b ≡ true
 and-right true b e = e
-and-right false b e = let z : _≡_ {A = ℕ} 0 1 = cc in absurd (omega arith)
+and-right false b e = clash cc
 
 -- a test takes at least as many cycles as it has patterns
 cycles-patterns : (si so p : ℕ) → p ≤ testCycles si so p

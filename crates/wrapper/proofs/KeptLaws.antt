@@ -11,15 +11,15 @@ use lib.ListN.{length, getD, take, drop, replicate, length-take, length-replicat
 use lib.Seq.{getD-take}
 use borrow.Author.Tests.{leb-true, eqb-true}
 use Rattle.units.specs.declared.FlipFlops.{FlipFlops}
-use Rattle.fields.proofs.TestLaws.{and-both}
+use Rattle.units.proofs.TestLaws.{and-both}
 use Rattle.soc.specs.Limits.{terminalsMax, chainsMax, lengthMax, testsMax, patternsMax, modulesMax, levelMax}
-use Rattle.soc.specs.Places.{allOf, filled, padded}
+use Rattle.units.specs.Places.{allOf, filled, padded}
 use Rattle.soc.specs.Record.{chainsOf, modulesOf, flipFlops, noTest, noModule}
 use Rattle.soc.specs.Rules.{none, goodLength, spareLength, goodTest, spareTest, levelRule, goodTerminals, goodChains, goodPosition, goodTests, goodModule, goodModules, goodName, goodSoc}
 use Rattle.soc.specs.declared.record.Test.{Test}
 use Rattle.soc.specs.declared.record.Module.{Module}
 use Rattle.soc.specs.declared.record.Soc.{Soc}
-use Rattle.soc.proofs.PlaceLaws.{padded-at}
+use Rattle.units.proofs.PlaceLaws.{padded-at}
 use Rattle.wrapper.specs.Fit.{longest, longestAfter}
 use Rattle.wrapper.specs.Chains.{numberedFrom, usedChains, thread, empty, threaded}
 use Rattle.wrapper.specs.Answers.{widthMax, noChain, front, orderOf, Threadable}

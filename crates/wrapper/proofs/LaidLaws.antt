@@ -6,7 +6,7 @@ use mathlib.Core.List.{List, [], _∷_, _++_, map, map-append}
 use native.Mathlib.Omega.{arith}
 use lib.ListN.{length, getD, take, drop, replicate, length-map, take-append-drop}
 use lib.Seq.{drop-at}
-use Rattle.soc.specs.Places.{padded}
+use Rattle.units.specs.Places.{padded}
 use Rattle.wrapper.specs.Fit.{longest}
 use Rattle.wrapper.specs.Answers.{widthMax, gained}
 

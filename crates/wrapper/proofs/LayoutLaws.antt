@@ -12,10 +12,10 @@ use lib.Seq.{drop-cons, getD-set-same, getD-set-other}
 use borrow.Author.Tests.{eqb-true, eqb-false}
 use Rattle.units.specs.declared.FlipFlops.{FlipFlops}
 use Rattle.soc.specs.Limits.{chainsMax}
-use Rattle.soc.specs.Places.{padded}
+use Rattle.units.specs.Places.{padded}
 use Rattle.soc.specs.Record.{chainsOf, flipFlops}
 use Rattle.soc.specs.declared.record.Module.{Module}
-use Rattle.soc.proofs.PlaceLaws.{padded-at}
+use Rattle.units.proofs.PlaceLaws.{padded-at}
 use Rattle.wrapper.specs.Fit.{longest, goes, placed, withCells, longestAfter}
 use Rattle.wrapper.specs.Chains.{numberedFrom, ordered, usedChains, Threaded, thread, empty, threaded}
 use Rattle.wrapper.specs.Times.{inputCells, outputCells, scanIn, scanOut}

@@ -11,15 +11,15 @@ use lib.Dec.{leb, ltb, eqb}
 use lib.ListN.{length, getD, drop, set, replicate, length-map, length-take, drop-of-length-le}
 use lib.Seq.{drop-cons, getD-at, getD-take}
 use borrow.Author.Tests.{leb-true, ltb-true, lt-ltb, le-ltb, eq-eqb, ne-eqb}
-use Rattle.fields.proofs.TestLaws.{and-both}
+use Rattle.units.proofs.TestLaws.{and-both}
 use Rattle.soc.specs.Limits.{patternsMax}
-use Rattle.soc.specs.Places.{anyOf, padded}
+use Rattle.units.specs.Places.{anyOf, padded}
 use Rattle.soc.specs.Record.{noTest, noModule, testsOf}
 use Rattle.soc.specs.Rules.{goodSoc}
 use Rattle.soc.specs.declared.record.Test.{Test}
 use Rattle.soc.specs.declared.record.Module.{Module}
 use Rattle.soc.specs.declared.record.Soc.{Soc}
-use Rattle.soc.proofs.PlaceLaws.{padded-set}
+use Rattle.units.proofs.PlaceLaws.{padded-set}
 use Rattle.wrapper.specs.Chains.{usedChains}
 use Rattle.wrapper.specs.Times.{scanIn, scanOut, testCycles, testTime, sumTimes, figure, Best, bestTo, moduleBest}
 use Rattle.wrapper.specs.Answers.{widthMax, orderOf, askedModule, askedTest, noAsked, isAsked, foundModule, foundTest, bestsFrom}

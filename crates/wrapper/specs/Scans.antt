@@ -4,7 +4,7 @@ use mathlib.Core.Bool.{Bool, true, false, cond, _&&_, Bool·beq}
 use mathlib.Core.List.{List, [], _∷_}
 use lib.ListN.{getD}
 use Rattle.soc.specs.Limits.{terminalsMax, chainsMax, lengthMax, testsMax, patternsMax}
-use Rattle.soc.specs.Places.{anyOf}
+use Rattle.units.specs.Places.{anyOf}
 use Rattle.soc.specs.Record.{flipFlops, noTest, testsOf}
 use Rattle.soc.specs.declared.record.Test.{Test}
 use Rattle.soc.specs.declared.record.Module.{Module}

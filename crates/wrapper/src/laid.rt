@@ -14,7 +14,7 @@ ghost use mathlib.Core.Path.{_≡_};
 ghost use mathlib.Core.List.{map};
 ghost use Prim.Native.Nat.{ℕ, _+_, _≤_, _<_};
 ghost use lib.ListN.{take, getD};
-ghost use Rattle.soc.specs.Places.{padded};
+ghost use Rattle.units.specs.Places.{padded};
 ghost use Rattle.soc.specs.Record.{flipFlops};
 ghost use Rattle.wrapper.specs.Fit.{longest, withCells};
 ghost use Rattle.wrapper.specs.Chains.{threaded};

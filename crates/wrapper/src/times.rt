@@ -10,7 +10,7 @@ use units::Wires;
 ghost use mathlib.Core.Path.{_≡_};
 ghost use mathlib.Core.Bool.{true, false};
 ghost use Prim.Native.Nat.{_≤_, _<_};
-ghost use Rattle.soc.specs.Places.{anyOf};
+ghost use Rattle.units.specs.Places.{anyOf};
 ghost use Rattle.soc.specs.Record.{testsOf};
 ghost use Rattle.wrapper.specs.Chains.{usedChains};
 ghost use Rattle.wrapper.specs.Times.{testCycles, testTime, figure};

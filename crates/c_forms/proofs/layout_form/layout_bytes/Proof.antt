@@ -4,7 +4,7 @@ use borrow.Author.Needs.{needs}
 use native.Mathlib.Omega.{arith}
 use mathlib.Core.Path.{_≡_}
 use lib.ListN.{length, length-map}
-use Rattle.fields.proofs.PutLaws.{put-then}
+use Rattle.buffer.proofs.PutLaws.{put-then}
 use Rattle.c_forms.specs.LayoutForm.{layoutLength, layoutBytes}
 use Rattle.c_forms.proofs.FormLaws.{layout-length}
 use Rattle.c_forms.proofs.WholeLaws.{none-put, all-put}

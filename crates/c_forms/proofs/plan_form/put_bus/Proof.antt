@@ -6,7 +6,7 @@ use lib.ListN.{length}
 use Rattle.plan_file.specs.Bytes.{little}
 use Rattle.c_forms.specs.PlanForm.{busBytes}
 use Rattle.c_forms.proofs.FormLaws.{bus-length}
-use Rattle.fields.proofs.PutLaws.{put-then}
+use Rattle.buffer.proofs.PutLaws.{put-then}
 use Rattle.c_forms.proofs.plan_form.put_bus.Statement.{statement}
 use Rattle.c_forms.proofs.plan_form.put_bus.Tie as tie
 

@@ -4,11 +4,11 @@ use native.Mathlib.Omega.{arith}
 use Prim.Native.Nat.{_≤_}
 use mathlib.Core.Path.{_≡_}
 use lib.ListN.{length, length-map}
-use Rattle.fields.specs.Puts.{Put}
+use Rattle.buffer.specs.Puts.{Put}
 use Rattle.plan_file.specs.Bytes.{little}
 use Rattle.c_forms.specs.SocForm.{headBytes}
 use Rattle.c_forms.proofs.FormLaws.{head-length}
-use Rattle.fields.proofs.PutLaws.{put-is, put-then}
+use Rattle.buffer.proofs.PutLaws.{put-is, put-then}
 use Rattle.c_forms.proofs.soc_form.put_head.Statement.{statement}
 use Rattle.c_forms.proofs.soc_form.put_head.Tie as tie
 

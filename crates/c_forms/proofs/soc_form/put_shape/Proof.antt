@@ -6,7 +6,7 @@ use lib.ListN.{length}
 use Rattle.plan_file.specs.Bytes.{little}
 use Rattle.c_forms.specs.SocForm.{shapeBytes}
 use Rattle.c_forms.proofs.FormLaws.{shape-length}
-use Rattle.fields.proofs.PutLaws.{put-then}
+use Rattle.buffer.proofs.PutLaws.{put-then}
 use Rattle.c_forms.proofs.soc_form.put_shape.Statement.{statement}
 use Rattle.c_forms.proofs.soc_form.put_shape.Tie as tie
 

@@ -10,7 +10,7 @@ use Rattle.plan_file.specs.Bytes.{little}
 use Rattle.soc.proofs.FigureLaws.{figure-back}
 use Rattle.c_forms.specs.SocForm.{testBytes}
 use Rattle.c_forms.proofs.FormLaws.{test-length}
-use Rattle.fields.proofs.PutLaws.{put-then}
+use Rattle.buffer.proofs.PutLaws.{put-then}
 use Rattle.c_forms.proofs.soc_form.put_test.Statement.{statement}
 use Rattle.c_forms.proofs.soc_form.put_test.Tie as tie
 

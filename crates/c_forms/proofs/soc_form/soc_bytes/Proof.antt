@@ -4,7 +4,7 @@ use borrow.Author.Needs.{needs}
 use native.Mathlib.Omega.{arith}
 use mathlib.Core.Path.{_≡_}
 use lib.ListN.{length}
-use Rattle.fields.proofs.PutLaws.{put-then}
+use Rattle.buffer.proofs.PutLaws.{put-then}
 use Rattle.c_forms.specs.SocForm.{socLength, socBytes}
 use Rattle.c_forms.proofs.FormLaws.{soc-length}
 use Rattle.c_forms.proofs.HeldLaws.{held-soc}

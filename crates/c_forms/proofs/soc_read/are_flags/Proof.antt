@@ -7,8 +7,8 @@ use Prim.Native.Nat.{_+_, _-_, _*_, _≤_}
 use mathlib.Core.Path.{_≡_, sym, _∙_}
 use mathlib.Core.Bool.{true}
 use Rattle.soc.specs.Limits.{modulesMax}
-use Rattle.soc.specs.Places.{allOf}
-use Rattle.soc.proofs.TestLaws.{and-stops, and-goes}
+use Rattle.units.specs.Places.{allOf}
+use Rattle.units.proofs.TestLaws.{and-stops, and-goes}
 use Rattle.c_forms.specs.Words.{places}
 use Rattle.c_forms.specs.SocForm.{moduleLength, modulesFrom, flagAt, moduleFlags, socFlags}
 use Rattle.c_forms.proofs.PlaceLaws.{all-places-step, all-places-fails, all-places-end}

@@ -6,7 +6,7 @@ use native.Mathlib.Omega.{arith}
 use Prim.Native.Nat.{_+_, _-_, _*_, _≤_}
 use mathlib.Core.Path.{_≡_, sym, _∙_}
 use Rattle.soc.specs.Limits.{testsMax}
-use Rattle.soc.specs.Places.{allOf}
+use Rattle.units.specs.Places.{allOf}
 use Rattle.c_forms.specs.Words.{places}
 use Rattle.c_forms.specs.SocForm.{testLength, testFlags, moduleFlags}
 use Rattle.c_forms.proofs.PlaceLaws.{all-places-step, all-places-fails, all-places-end}

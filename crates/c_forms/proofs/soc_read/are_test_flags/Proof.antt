@@ -2,7 +2,7 @@
 use borrow.Author.Needs.{needs}
 use borrow.Author.Tests.{lt-leb, le-leb}
 use mathlib.Core.Path.{sym}
-use Rattle.soc.proofs.TestLaws.{and-stops, and-goes}
+use Rattle.units.proofs.TestLaws.{and-stops, and-goes}
 use Rattle.c_forms.proofs.soc_read.are_test_flags.Statement.{statement}
 use Rattle.c_forms.proofs.soc_read.are_test_flags.Tie as tie
 

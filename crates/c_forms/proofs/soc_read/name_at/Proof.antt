@@ -5,7 +5,7 @@ use native.Mathlib.Omega.{arith}
 use Prim.Native.Nat.{_+_, _-_, _*_, _≤_}
 use mathlib.Core.Path.{_≡_, ap, _∙_}
 use Rattle.fields.specs.Names.{nameMax}
-use Rattle.soc.specs.Places.{padded}
+use Rattle.units.specs.Places.{padded}
 use Rattle.plan_file.specs.Files.{byte}
 use Rattle.c_forms.specs.Words.{places}
 use Rattle.c_forms.proofs.PlaceLaws.{filled-none, filled-step, filled-end, places-bytes}

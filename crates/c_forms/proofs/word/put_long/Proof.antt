@@ -2,7 +2,7 @@
 use borrow.Author.Needs.{needs}
 use native.Mathlib.Omega.{arith}
 use Rattle.plan_file.specs.Bytes.{little}
-use Rattle.fields.proofs.PutLaws.{put-then}
+use Rattle.buffer.proofs.PutLaws.{put-then}
 use Rattle.c_forms.proofs.FormLaws.{long-words}
 use Rattle.c_forms.proofs.word.put_long.Statement.{statement}
 use Rattle.c_forms.proofs.word.put_long.Tie as tie

@@ -1,6 +1,6 @@
 -- `c_forms::word::put_word` meets its contract: the four bytes are those of the word. Assumes nothing.
 use borrow.Author.Needs.{needs}
-use Rattle.fields.proofs.PutLaws.{put-is}
+use Rattle.buffer.proofs.PutLaws.{put-is}
 use Rattle.c_forms.proofs.FormLaws.{word-four}
 use Rattle.c_forms.proofs.word.put_word.Statement.{statement}
 use Rattle.c_forms.proofs.word.put_word.Tie as tie

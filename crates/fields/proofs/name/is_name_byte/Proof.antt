@@ -4,7 +4,7 @@ use mathlib.Core.Path.{sym}
 use mathlib.Core.Bool.{or-false, or-true}
 use borrow.Author.Tests.{ne-eqb, eq-eqb, le-leb}
 use Rattle.fields.proofs.NameLaws.{name-byte-no}
-use Rattle.fields.proofs.TestLaws.{within-true, below-false, above-false}
+use Rattle.units.proofs.TestLaws.{within-true, below-false, above-false}
 use Rattle.fields.proofs.name.is_name_byte.Statement.{statement}
 use Rattle.fields.proofs.name.is_name_byte.Tie as tie
 

@@ -1,6 +1,6 @@
 -- `fields::put::put_key` meets its contract: the number is put behind the bytes. Assumes nothing.
 use borrow.Author.Needs.{needs}
-use Rattle.fields.proofs.PutLaws.{put-behind}
+use Rattle.buffer.proofs.PutLaws.{put-behind}
 use Rattle.fields.proofs.put.put_key.Statement.{statement}
 use Rattle.fields.proofs.put.put_key.Tie as tie
 

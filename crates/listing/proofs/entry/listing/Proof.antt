@@ -9,7 +9,7 @@ use mathlib.Core.Bool.{true, false}
 use lib.ListN.{length, replicate, length-replicate}
 use lib.Dec.{leb}
 use lib.Seq.{length-take-le}
-use Rattle.fields.proofs.PutLaws.{front-behind, front-within, front-text}
+use Rattle.buffer.proofs.PutLaws.{front-behind, front-within, front-text}
 use Rattle.listing.specs.Listing.{listed, listingMax, listingAnswer, listingLeaves}
 use Rattle.listing.proofs.entry.listing.Statement.{statement}
 use Rattle.listing.proofs.entry.listing.Tie as tie

@@ -3,8 +3,8 @@
 use borrow.Author.Needs.{needs}
 use native.Mathlib.Omega.{arith}
 use mathlib.Core.Path.{ap}
-use Rattle.text_writer.specs.Written.{writtenLines}
-use Rattle.text_writer.proofs.GoodLaws.{soc-figures}
+use Rattle.fields.specs.Written.{writtenLines}
+use Rattle.soc.proofs.GoodSocLaws.{soc-figures}
 use Rattle.plan_file.proofs.GoodLaws.{GoodFigures, good-figures}
 use Rattle.plan_file.proofs.PlannerLaws.{planner-answers-good}
 use Rattle.listing.proofs.ListingLaws.{put-as, plan-refused, plan-found}

@@ -8,10 +8,10 @@ use lib.ListN.{length, drop}
 use Rattle.units.specs.Refusals.{refused}
 use Rattle.units.specs.declared.Refusal.{Refusal}
 use Rattle.fields.specs.declared.line.OneLine.{OneLine}
-use Rattle.fields.proofs.PutLaws.{partFrom, part-rest}
+use Rattle.buffer.proofs.PutLaws.{partFrom, part-rest}
 use Rattle.text_lines.specs.Parts.{refuses, says}
 use Rattle.text_reader.specs.Reading.{readSoc}
-use Rattle.text_writer.specs.Written.{writtenLines}
+use Rattle.fields.specs.Written.{writtenLines}
 use Rattle.listing.specs.Asked.{Wanted, asked, textBehind}
 use Rattle.listing.specs.Listing.{refusalFields, textPrinted, listingMax}
 use Rattle.listing.proofs.AskedLaws.{first-line}

@@ -2,7 +2,7 @@
 use borrow.Author.Needs.{needs}
 use native.Mathlib.Omega.{arith}
 use mathlib.Core.Path.{ap}
-use Rattle.text_writer.specs.Written.{writtenLines}
+use Rattle.fields.specs.Written.{writtenLines}
 use Rattle.listing.specs.Listing.{listingMax}
 use Rattle.listing.proofs.ListingLaws.{put-as, text-refused, text-read, read-good}
 use Rattle.listing.proofs.entry.put_text.Statement.{statement}

@@ -6,10 +6,10 @@ use Prim.Native.Nat.{_+_, _-_, _*_, _≤_}
 use mathlib.Core.Path.{_≡_, refl, _∙_}
 use mathlib.Core.List.{[], _∷_, _++_}
 use lib.ListN.{length, getD, take, length-map, length-append}
-use Rattle.fields.specs.Puts.{Put}
-use Rattle.fields.proofs.PutLaws.{put-none, put-then}
+use Rattle.buffer.specs.Puts.{Put}
+use Rattle.buffer.proofs.PutLaws.{put-none, put-then}
 use Rattle.plan.specs.Answers.{noBus}
-use Rattle.text_writer.specs.Written.{writtenLines}
+use Rattle.fields.specs.Written.{writtenLines}
 use Rattle.listing.specs.Listing.{busFields, busLines}
 use Rattle.listing.proofs.LineLaws.{busesText, buses-more}
 use Rattle.listing.proofs.put_lines.put_buses.Statement.{statement}

@@ -6,9 +6,8 @@ use Prim.Native.Nat.{_+_, _≤_}
 use mathlib.Core.List.{[], _∷_}
 use lib.ListN.{length}
 use Rattle.fields.specs.Bytes.{bytes}
-use Rattle.fields.specs.Written.{decimal}
-use Rattle.fields.proofs.PutLaws.{due-all, due-key, put-is}
-use Rattle.text_writer.specs.Written.{writtenLines}
+use Rattle.fields.specs.Written.{decimal, writtenLines}
+use Rattle.buffer.proofs.PutLaws.{due-all, due-key, put-is}
 use Rattle.listing.specs.Listing.{moduleFields}
 use Rattle.listing.proofs.LineLaws.{module-text, module-size}
 use Rattle.listing.proofs.put_lines.put_module_line.Statement.{statement}

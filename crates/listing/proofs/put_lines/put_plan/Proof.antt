@@ -2,7 +2,7 @@
 use borrow.Author.Needs.{needs}
 use native.Mathlib.Omega.{arith}
 use lib.ListN.{length-append}
-use Rattle.fields.proofs.PutLaws.{put-then}
+use Rattle.buffer.proofs.PutLaws.{put-then}
 use Rattle.listing.proofs.LineLaws.{plan-text}
 use Rattle.listing.proofs.put_lines.put_plan.Statement.{statement}
 use Rattle.listing.proofs.put_lines.put_plan.Tie as tie

@@ -8,10 +8,9 @@ use mathlib.Core.List.{[], _∷_}
 use lib.ListN.{length, length-map}
 use lib.Seq.{length-take-le}
 use Rattle.fields.specs.Bytes.{bytes}
-use Rattle.fields.specs.Written.{decimal}
-use Rattle.fields.proofs.PutLaws.{due-all, due-put, due-key, put-is}
+use Rattle.fields.specs.Written.{decimal, writtenLines}
+use Rattle.buffer.proofs.PutLaws.{due-all, due-put, due-key, put-is}
 use Rattle.soc.specs.Record.{nameOf}
-use Rattle.text_writer.specs.Written.{writtenLines}
 use Rattle.listing.specs.Listing.{socFields}
 use Rattle.listing.proofs.LineLaws.{soc-text, soc-size}
 use Rattle.listing.proofs.put_lines.put_soc_line.Statement.{statement}

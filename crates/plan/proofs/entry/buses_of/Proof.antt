@@ -5,8 +5,8 @@ use native.Mathlib.Omega.{arith}
 use Prim.Native.Nat.{_-_, _≤_, _<_}
 use mathlib.Core.Path.{_≡_, sym, _∙_}
 use lib.ListN.{length, take}
-use Rattle.soc.specs.Places.{padded}
-use Rattle.soc.proofs.PlaceLaws.{padded-none}
+use Rattle.units.specs.Places.{padded}
+use Rattle.units.proofs.PlaceLaws.{padded-none}
 use Rattle.plan_search.specs.Search.{tableTime}
 use Rattle.plan_record.specs.Record.{busPlaces, noBus}
 use Rattle.plan.proofs.EntryLaws.{busFront, front-none, front-fill, front-all}

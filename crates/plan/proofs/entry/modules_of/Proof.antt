@@ -5,8 +5,8 @@ use native.Mathlib.Omega.{arith}
 use Prim.Native.Nat.{_+_, _-_, _*_, _≤_, _<_}
 use mathlib.Core.Path.{_≡_, sym, _∙_}
 use lib.ListN.{length, getD, take}
-use Rattle.soc.specs.Places.{padded}
-use Rattle.soc.proofs.PlaceLaws.{padded-none}
+use Rattle.units.specs.Places.{padded}
+use Rattle.units.proofs.PlaceLaws.{padded-none}
 use Rattle.plan_record.specs.Record.{modulePlaces, noPlaced}
 use Rattle.plan.specs.Records.{placedFrom}
 use Rattle.plan.proofs.EntryLaws.{placed-none, placed-fill, placed-all}

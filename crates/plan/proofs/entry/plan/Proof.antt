@@ -5,7 +5,7 @@ use mathlib.Core.Bool.{true, _&&_}
 use lib.ListN.{length}
 use lib.Dec.{leb}
 use borrow.Author.Tests.{le-leb, lt-leb, not-true, not-false}
-use Rattle.fields.proofs.TestLaws.{within-true, below-false, above-false}
+use Rattle.units.proofs.TestLaws.{within-true, below-false, above-false}
 use Rattle.soc.specs.Rules.{goodSoc}
 use Rattle.soc.specs.Planned.{plannedOf}
 use Rattle.wrapper.specs.Answers.{widthMax}

@@ -7,7 +7,7 @@ use native.Mathlib.Omega.{arith}
 use lib.ListN.{length, getD}
 use Rattle.soc.specs.Planned.{plannedOf}
 use Rattle.wrapper.proofs.KeptLaws.{good-count}
-use Rattle.soc.proofs.PlaceLaws.{padded-at}
+use Rattle.units.proofs.PlaceLaws.{padded-at}
 use Rattle.plan.specs.Tables.{timesAt, TablesAre}
 use Rattle.plan.proofs.TableLaws.{planned-number, tables-none, tables-more, times-asked}
 use Rattle.plan.proofs.tables.tables_of.Statement.{statement}

@@ -7,7 +7,7 @@ use mathlib.Core.Path.{_≡_, sym, _∙_}
 use Rattle.plan_file.specs.Files.{zeroBuses}
 use Rattle.plan_file.proofs.ReadLaws.{zero-buses-step, zero-buses-fails, zero-buses-end}
 use borrow.Author.Tests.{eq-eqb, ne-eqb}
-use Rattle.soc.proofs.TestLaws.{and-stops, and-goes}
+use Rattle.units.proofs.TestLaws.{and-stops, and-goes}
 use Rattle.plan_file.proofs.read.are_zero_buses.Statement.{statement}
 use Rattle.plan_file.proofs.read.are_zero_buses.Tie as tie
 

@@ -4,7 +4,7 @@ use borrow.Author.Needs.{needs}
 use native.Mathlib.Omega.{arith}
 use Prim.Native.Nat.{_+_, _-_, _*_, _≤_}
 use mathlib.Core.Path.{_≡_, _∙_}
-use Rattle.soc.specs.Places.{padded}
+use Rattle.units.specs.Places.{padded}
 use Rattle.plan_record.specs.Record.{busPlaces, noBus}
 use Rattle.plan_file.specs.Files.{busAt, records}
 use Rattle.plan_file.proofs.ReadLaws.{filled-none, filled-step}

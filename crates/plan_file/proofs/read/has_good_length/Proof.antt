@@ -5,7 +5,7 @@ use Prim.Native.Nat.{_+_, _-_}
 use mathlib.Core.Path.{sym, _∙_}
 use lib.ListN.{length}
 use borrow.Author.Tests.{lt-leb, le-leb}
-use Rattle.soc.proofs.TestLaws.{and-stops, and-goes}
+use Rattle.units.proofs.TestLaws.{and-stops, and-goes}
 use Rattle.plan_file.specs.Files.{goodLength}
 use Rattle.plan_file.proofs.read.has_good_length.Statement.{statement}
 use Rattle.plan_file.proofs.read.has_good_length.Tie as tie

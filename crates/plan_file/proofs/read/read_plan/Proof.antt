@@ -5,7 +5,7 @@ use Prim.Native.Nat.{_*_}
 use mathlib.Core.Path.{_≡_, sym, ap, _∙_}
 use mathlib.Core.Bool.{true, _&&_}
 use borrow.Author.Tests.{not-true, not-false}
-use Rattle.soc.proofs.TestLaws.{and-stops, and-goes}
+use Rattle.units.proofs.TestLaws.{and-stops, and-goes}
 use Rattle.plan_record.specs.Good.{goodPlan}
 use Rattle.plan_file.specs.Files.{moduleCount, busCount, goodLength, planIn, zeroModules, zeroBuses, goodOffsets, goodFile}
 use Rattle.plan_file.proofs.ReadLaws.{Fitting, length-fits, answer-refused, answer-accepted}

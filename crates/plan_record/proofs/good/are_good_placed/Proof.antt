@@ -7,8 +7,8 @@ use mathlib.Core.Path.{_≡_, refl, sym, _∙_}
 use mathlib.Core.Logic.{inl}
 use native.Mathlib.Omega.{arith}
 use lib.ListN.{length, length-map, take, drop}
-use Rattle.soc.specs.Places.{allOf}
-use Rattle.soc.proofs.PlaceLaws.{all-front-step, all-front-fails, all-front-end}
+use Rattle.units.specs.Places.{allOf}
+use Rattle.units.proofs.PlaceLaws.{all-front-step, all-front-fails, all-front-end}
 use Rattle.plan_record.specs.Record.{noPlaced}
 use Rattle.plan_record.specs.Good.{goodPlaced}
 use Rattle.plan_record.proofs.good.are_good_placed.Statement.{statement}

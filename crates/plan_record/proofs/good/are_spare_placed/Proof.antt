@@ -6,8 +6,8 @@ use Prim.Native.Nat.{_≤_, _-_}
 use mathlib.Core.Path.{_≡_, refl, sym, _∙_}
 use native.Mathlib.Omega.{arith}
 use lib.ListN.{length, length-map, drop}
-use Rattle.soc.specs.Places.{allOf}
-use Rattle.soc.proofs.PlaceLaws.{all-step, all-fails, all-end}
+use Rattle.units.specs.Places.{allOf}
+use Rattle.units.proofs.PlaceLaws.{all-step, all-fails, all-end}
 use Rattle.plan_record.specs.Record.{noPlaced}
 use Rattle.plan_record.specs.Good.{sparePlaced}
 use Rattle.plan_record.proofs.good.are_spare_placed.Statement.{statement}

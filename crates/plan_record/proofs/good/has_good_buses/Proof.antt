@@ -4,8 +4,8 @@ use borrow.Author.Tests.{not-true, not-false}
 use mathlib.Core.Path.{_≡_, sym, _∙_}
 use mathlib.Core.Bool.{_&&_}
 use lib.Dec.{eqb}
-use Rattle.fields.proofs.TestLaws.{within-true, below-false, above-false}
-use Rattle.soc.proofs.TestLaws.{and-stops, and-goes}
+use Rattle.units.proofs.TestLaws.{within-true, below-false, above-false}
+use Rattle.units.proofs.TestLaws.{and-stops, and-goes}
 use Rattle.plan_rules.specs.Plans.{sum}
 use Rattle.plan_record.specs.Record.{busesOf, widthsOf}
 use Rattle.plan_record.specs.Good.{risingFrom, goodBuses}

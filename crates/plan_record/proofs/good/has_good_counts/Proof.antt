@@ -3,8 +3,8 @@ use borrow.Author.Needs.{needs}
 use borrow.Author.Tests.{le-leb}
 use mathlib.Core.Path.{_≡_, sym, _∙_}
 use mathlib.Core.Bool.{_&&_}
-use Rattle.fields.proofs.TestLaws.{within-true, below-false, above-false}
-use Rattle.soc.proofs.TestLaws.{and-stops, and-goes}
+use Rattle.units.proofs.TestLaws.{within-true, below-false, above-false}
+use Rattle.units.proofs.TestLaws.{and-stops, and-goes}
 use Rattle.wrapper.specs.Answers.{widthMax}
 use Rattle.plan_record.specs.Record.{busPlaces, modulePlaces}
 use Rattle.plan_record.specs.Good.{within, goodCounts}

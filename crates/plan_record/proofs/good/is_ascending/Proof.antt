@@ -8,7 +8,7 @@ use mathlib.Core.Bool.{_&&_}
 use native.Mathlib.Omega.{arith}
 use lib.ListN.{length, length-map, getD, take, drop}
 use lib.Dec.{leb}
-use Rattle.soc.proofs.TestLaws.{and-stops, and-goes}
+use Rattle.units.proofs.TestLaws.{and-stops, and-goes}
 use Rattle.plan_record.specs.Record.{noPlaced, modulesOf, numbersOf}
 use Rattle.plan_record.specs.Good.{ascendingFrom}
 use Rattle.plan_record.proofs.GoodPlanLaws.{front-none, ascending-step}

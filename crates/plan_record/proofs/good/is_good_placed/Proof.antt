@@ -5,8 +5,8 @@ use Prim.Native.Nat.{_-_}
 use mathlib.Core.Path.{_≡_, sym, _∙_}
 use mathlib.Core.Bool.{_&&_}
 use lib.ListN.{getD}
-use Rattle.fields.proofs.TestLaws.{within-true, below-false, above-false}
-use Rattle.soc.proofs.TestLaws.{and-stops, and-goes}
+use Rattle.units.proofs.TestLaws.{within-true, below-false, above-false}
+use Rattle.units.proofs.TestLaws.{and-stops, and-goes}
 use Rattle.plan_record.specs.Record.{noBus}
 use Rattle.wrapper.specs.Maxima.{moduleTimeMax}
 use Rattle.plan_record.specs.Good.{within, goodPlaced}

@@ -6,8 +6,8 @@ use Prim.Native.Nat.{_≤_}
 use mathlib.Core.Path.{_≡_, sym, _∙_}
 use mathlib.Core.Bool.{true, _&&_}
 use native.Mathlib.Omega.{arith}
-use Rattle.soc.specs.Places.{allOf}
-use Rattle.soc.proofs.TestLaws.{and-stops, and-goes}
+use Rattle.units.specs.Places.{allOf}
+use Rattle.units.proofs.TestLaws.{and-stops, and-goes}
 use Rattle.plan_record.specs.Record.{modulesOf, numbersOf}
 use Rattle.plan_record.specs.Good.{goodCounts, ascendingFrom, goodPlaced, goodBuses, goodTimes, spareRest, goodPlan}
 use Rattle.plan_record.proofs.GoodPlanLaws.{GoodCounts, good-counts, good-bus-count, placed-front, plan-order}

@@ -1,7 +1,7 @@
 -- `plan_record::good::is_spare_placed` meets its contract: its tests are those of `sparePlaced`, in order. Assumes nothing.
 use borrow.Author.Tests.{eq-eqb, ne-eqb}
 use mathlib.Core.Path.{sym, _∙_}
-use Rattle.soc.proofs.TestLaws.{and-stops, and-goes}
+use Rattle.units.proofs.TestLaws.{and-stops, and-goes}
 use Rattle.plan_record.specs.Good.{sparePlaced}
 use Rattle.plan_record.proofs.good.is_spare_placed.Statement.{statement}
 use Rattle.plan_record.proofs.good.is_spare_placed.Tie as tie

@@ -8,7 +8,7 @@ use mathlib.Core.Bool.{_&&_}
 use native.Mathlib.Omega.{arith}
 use lib.ListN.{length, length-map, getD, take, drop}
 use lib.Dec.{eqb}
-use Rattle.soc.proofs.TestLaws.{and-stops, and-goes}
+use Rattle.units.proofs.TestLaws.{and-stops, and-goes}
 use Rattle.plan_record.specs.Record.{noBus, busesOf, modulesOf, cyclesOn}
 use Rattle.plan_record.specs.Good.{goodBusies}
 use Rattle.plan_record.proofs.GoodPlanLaws.{front-none, busy-step}

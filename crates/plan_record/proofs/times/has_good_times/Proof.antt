@@ -2,7 +2,7 @@
 use borrow.Author.Needs.{needs}
 use borrow.Author.Tests.{not-true, not-false}
 use mathlib.Core.Path.{sym, _∙_}
-use Rattle.soc.proofs.TestLaws.{and-stops, and-goes}
+use Rattle.units.proofs.TestLaws.{and-stops, and-goes}
 use Rattle.plan_record.specs.Good.{goodTimes}
 use Rattle.plan_record.proofs.times.has_good_times.Statement.{statement}
 use Rattle.plan_record.proofs.times.has_good_times.Tie as tie

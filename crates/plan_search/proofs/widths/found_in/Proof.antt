@@ -5,8 +5,8 @@ use Prim.Native.Nat.{_+_, _-_, _≤_}
 use mathlib.Core.Path.{_≡_, refl, sym, ap, _∙_}
 use lib.ListN.{length, getD, take, drop, length-set, length-drop}
 use lib.Seq.{take-all, length-take-le}
-use Rattle.soc.specs.Places.{padded}
-use Rattle.soc.proofs.PlaceLaws.{padded-none}
+use Rattle.units.specs.Places.{padded}
+use Rattle.units.proofs.PlaceLaws.{padded-none}
 use Rattle.plan_search.proofs.WidthLaws.{padded-more}
 use Rattle.plan_search.proofs.widths.found_in.Statement.{statement}
 use Rattle.plan_search.proofs.widths.found_in.Tie as tie

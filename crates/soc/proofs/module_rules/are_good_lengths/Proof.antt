@@ -7,11 +7,11 @@ use mathlib.Core.Path.{_≡_, refl, sym, _∙_}
 use mathlib.Core.Logic.{inl}
 use native.Mathlib.Omega.{arith}
 use lib.ListN.{length, take, drop}
-use Rattle.soc.specs.Places.{allOf}
+use Rattle.units.specs.Places.{allOf}
 use Rattle.soc.specs.Record.{flipFlops}
 use Rattle.soc.specs.Rules.{goodLength}
-use Rattle.soc.proofs.PlaceLaws.{all-front-step, all-front-fails, all-front-end}
-use Rattle.soc.proofs.TestLaws.{and-stops, and-goes}
+use Rattle.units.proofs.PlaceLaws.{all-front-step, all-front-fails, all-front-end}
+use Rattle.units.proofs.TestLaws.{and-stops, and-goes}
 use Rattle.soc.proofs.module_rules.are_good_lengths.Statement.{statement}
 use Rattle.soc.proofs.module_rules.are_good_lengths.Tie as tie
 

@@ -6,10 +6,10 @@ use Prim.Native.Nat.{_≤_, _-_}
 use mathlib.Core.Path.{_≡_, refl, sym, _∙_}
 use native.Mathlib.Omega.{arith}
 use lib.ListN.{length, drop}
-use Rattle.soc.specs.Places.{allOf}
+use Rattle.units.specs.Places.{allOf}
 use Rattle.soc.specs.Record.{flipFlops}
 use Rattle.soc.specs.Rules.{spareLength}
-use Rattle.soc.proofs.PlaceLaws.{all-step, all-fails, all-end}
+use Rattle.units.proofs.PlaceLaws.{all-step, all-fails, all-end}
 use Rattle.soc.proofs.module_rules.are_spare_lengths.Statement.{statement}
 use Rattle.soc.proofs.module_rules.are_spare_lengths.Tie as tie
 

@@ -2,7 +2,7 @@
 use borrow.Author.Tests.{lt-leb, le-leb}
 use mathlib.Core.Path.{sym, _∙_}
 use Rattle.soc.specs.Rules.{goodTerminals}
-use Rattle.soc.proofs.TestLaws.{and-stops, and-goes}
+use Rattle.units.proofs.TestLaws.{and-stops, and-goes}
 use Rattle.soc.proofs.module_rules.has_good_terminals.Statement.{statement}
 use Rattle.soc.proofs.module_rules.has_good_terminals.Tie as tie
 

@@ -3,7 +3,7 @@ use borrow.Author.Needs.{needs}
 use borrow.Author.Tests.{lt-leb, le-leb, not-true, not-false}
 use mathlib.Core.Path.{sym, _∙_}
 use Rattle.soc.specs.Rules.{goodTests}
-use Rattle.soc.proofs.TestLaws.{and-stops, and-goes}
+use Rattle.units.proofs.TestLaws.{and-stops, and-goes}
 use Rattle.soc.proofs.module_rules.has_good_tests.Statement.{statement}
 use Rattle.soc.proofs.module_rules.has_good_tests.Tie as tie
 

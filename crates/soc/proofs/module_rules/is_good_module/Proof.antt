@@ -5,7 +5,7 @@ use mathlib.Core.Path.{_≡_, sym, _∙_}
 use mathlib.Core.Bool.{_&&_}
 use Rattle.soc.specs.Rules.{goodModule, goodPosition, goodTests}
 use Rattle.soc.proofs.FigureLaws.{figure-back}
-use Rattle.soc.proofs.TestLaws.{and-stops, and-goes}
+use Rattle.units.proofs.TestLaws.{and-stops, and-goes}
 use Rattle.soc.proofs.module_rules.is_good_module.Statement.{statement}
 use Rattle.soc.proofs.module_rules.is_good_module.Tie as tie
 

@@ -8,7 +8,7 @@ use lib.IntN.{ℤ, pos, negsuc}
 use Rattle.soc.specs.Limits.{positionMax}
 use Rattle.soc.specs.Rules.{goodPosition, isNotGiven, upTo}
 use Rattle.soc.proofs.FigureLaws.{figure-back}
-use Rattle.soc.proofs.TestLaws.{and-stops, and-goes}
+use Rattle.units.proofs.TestLaws.{and-stops, and-goes}
 use Rattle.soc.proofs.module_rules.is_good_position.Statement.{statement}
 use Rattle.soc.proofs.module_rules.is_good_position.Tie as tie
 

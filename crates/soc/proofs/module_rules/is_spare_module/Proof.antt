@@ -4,10 +4,10 @@ use borrow.Author.Needs.{needs}
 use borrow.Author.Tests.{eq-eqb, ne-eqb, not-true, not-false}
 use mathlib.Core.Path.{_≡_, sym, _∙_}
 use mathlib.Core.Bool.{_&&_}
-use Rattle.soc.specs.Places.{allOf}
+use Rattle.units.specs.Places.{allOf}
 use Rattle.soc.specs.Rules.{spareModule, spareLength, spareTest, none, noneZ}
 use Rattle.soc.proofs.FigureLaws.{figure-back}
-use Rattle.soc.proofs.TestLaws.{and-stops, and-goes}
+use Rattle.units.proofs.TestLaws.{and-stops, and-goes}
 use Rattle.soc.proofs.module_rules.is_spare_module.Statement.{statement}
 use Rattle.soc.proofs.module_rules.is_spare_module.Tie as tie
 

@@ -6,10 +6,10 @@ use mathlib.Core.Path.{_≡_, refl, sym, _∙_}
 use mathlib.Core.Logic.{inl, inr}
 use native.Mathlib.Omega.{arith}
 use lib.ListN.{length, length-map, take, drop}
-use Rattle.soc.specs.Places.{anyOf}
+use Rattle.units.specs.Places.{anyOf}
 use Rattle.soc.specs.Planned.{isPlanned, onTam}
 use Rattle.soc.specs.Record.{noTest}
-use Rattle.soc.proofs.PlaceLaws.{any-front-step, any-front-found, any-front-end}
+use Rattle.units.proofs.PlaceLaws.{any-front-step, any-front-found, any-front-end}
 use Rattle.soc.proofs.planned.is_planned.Statement.{statement}
 use Rattle.soc.proofs.planned.is_planned.Tie as tie
 

@@ -12,11 +12,11 @@ use native.Mathlib.Numerals.{add-one}
 use lib.ListN.{length, length-map, length-append, getD, take, set}
 use lib.Seq.{length-take-le, take-all, take-suc}
 use Rattle.soc.specs.Limits.{modulesMax}
-use Rattle.soc.specs.Places.{padded}
+use Rattle.units.specs.Places.{padded}
 use Rattle.soc.specs.Planned.{isPlanned, plannedFrom, plannedIs}
 use Rattle.soc.specs.declared.planned.Planned.{Planned}
 use Rattle.soc.specs.declared.record.Module.{Module}
-use Rattle.soc.proofs.PlaceLaws.{padded-none, padded-set}
+use Rattle.units.proofs.PlaceLaws.{padded-none, padded-set}
 use Rattle.soc.proofs.planned.planned_modules.Statement.{statement}
 use Rattle.soc.proofs.planned.planned_modules.Tie as tie
 

@@ -13,8 +13,8 @@ use lib.ListN.{length, length-map, getD, take, drop, drop-of-length-le}
 use lib.Seq.{drop-cons, getD-take}
 use Rattle.soc.specs.Rules.{goodModule, goodModules}
 use Rattle.soc.specs.declared.record.Module.{Module}
-use Rattle.soc.proofs.PlaceLaws.{front-has, front-ends}
-use Rattle.soc.proofs.TestLaws.{and-stops, and-goes}
+use Rattle.units.proofs.PlaceLaws.{front-has, front-ends}
+use Rattle.units.proofs.TestLaws.{and-stops, and-goes}
 use Rattle.soc.proofs.rules.are_good_modules.Statement.{statement}
 use Rattle.soc.proofs.rules.are_good_modules.Tie as tie
 

@@ -6,9 +6,9 @@ use Prim.Native.Nat.{_≤_, _-_}
 use mathlib.Core.Path.{_≡_, refl, sym, _∙_}
 use native.Mathlib.Omega.{arith}
 use lib.ListN.{length, length-map, drop}
-use Rattle.soc.specs.Places.{allOf}
+use Rattle.units.specs.Places.{allOf}
 use Rattle.soc.specs.Rules.{spareModule}
-use Rattle.soc.proofs.PlaceLaws.{all-step, all-fails, all-end}
+use Rattle.units.proofs.PlaceLaws.{all-step, all-fails, all-end}
 use Rattle.soc.proofs.rules.are_spare_modules.Statement.{statement}
 use Rattle.soc.proofs.rules.are_spare_modules.Tie as tie
 

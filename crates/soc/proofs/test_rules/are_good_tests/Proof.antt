@@ -7,10 +7,10 @@ use mathlib.Core.Path.{_≡_, refl, sym, _∙_}
 use mathlib.Core.Logic.{inl}
 use native.Mathlib.Omega.{arith}
 use lib.ListN.{length, take, drop}
-use Rattle.soc.specs.Places.{allOf}
+use Rattle.units.specs.Places.{allOf}
 use Rattle.soc.specs.Record.{noTest}
 use Rattle.soc.specs.Rules.{goodTest}
-use Rattle.soc.proofs.PlaceLaws.{all-front-step, all-front-fails, all-front-end}
+use Rattle.units.proofs.PlaceLaws.{all-front-step, all-front-fails, all-front-end}
 use Rattle.soc.proofs.test_rules.are_good_tests.Statement.{statement}
 use Rattle.soc.proofs.test_rules.are_good_tests.Tie as tie
 

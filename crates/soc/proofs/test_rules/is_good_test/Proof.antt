@@ -6,7 +6,7 @@ use mir.Syntax.{w32}
 use mir.Val.{toZ, ofZ}
 use Rattle.soc.specs.Rules.{goodTest}
 use Rattle.soc.proofs.FigureLaws.{figure-back}
-use Rattle.soc.proofs.TestLaws.{and-stops, and-goes}
+use Rattle.units.proofs.TestLaws.{and-stops, and-goes}
 use Rattle.soc.proofs.test_rules.is_good_test.Statement.{statement}
 use Rattle.soc.proofs.test_rules.is_good_test.Tie as tie
 

@@ -6,8 +6,8 @@ use Prim.Native.Nat.{_-_, _≤_}
 use mathlib.Core.Path.{_≡_, sym, ap, _∙_}
 use lib.ListN.{length, take}
 use lib.Seq.{take-all}
-use Rattle.soc.specs.Places.{padded}
-use Rattle.soc.proofs.PlaceLaws.{padded-none}
+use Rattle.units.specs.Places.{padded}
+use Rattle.units.proofs.PlaceLaws.{padded-none}
 use Rattle.text_lines.proofs.HeadLaws.{padded-more}
 use Rattle.text_lines.proofs.head.placed_name.Statement.{statement}
 use Rattle.text_lines.proofs.head.placed_name.Tie as tie

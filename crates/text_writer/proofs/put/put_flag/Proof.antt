@@ -4,7 +4,7 @@ use native.Mathlib.Omega.{arith}
 use lib.ListN.{length-append}
 use Rattle.text_lines.specs.Written.{flagField}
 use Rattle.text_writer.proofs.FigureLaws.{flag-length}
-use Rattle.fields.proofs.PutLaws.{put-then}
+use Rattle.buffer.proofs.PutLaws.{put-then}
 use Rattle.text_writer.proofs.put.put_flag.Statement.{statement}
 use Rattle.text_writer.proofs.put.put_flag.Tie as tie
 

@@ -7,7 +7,7 @@ use mir.Syntax.{w32}
 use mir.Val.{toZ, ofZ}
 use Rattle.soc.proofs.FigureLaws.{figure-back}
 use Rattle.text_writer.proofs.FigureLaws.{given-below, given-above, given-cast}
-use Rattle.fields.proofs.PutLaws.{put-then}
+use Rattle.buffer.proofs.PutLaws.{put-then}
 use Rattle.text_writer.proofs.put.put_given.Statement.{statement}
 use Rattle.text_writer.proofs.put.put_given.Tie as tie
 

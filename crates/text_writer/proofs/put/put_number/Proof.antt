@@ -1,6 +1,6 @@
 -- `text_writer::put::put_number` meets its contract: with the room that it requires, all is put. Assumes nothing.
 use borrow.Author.Needs.{needs}
-use Rattle.fields.proofs.PutLaws.{put-is}
+use Rattle.buffer.proofs.PutLaws.{put-is}
 use Rattle.text_writer.proofs.put.put_number.Statement.{statement}
 use Rattle.text_writer.proofs.put.put_number.Tie as tie
 

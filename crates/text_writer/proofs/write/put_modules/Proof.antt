@@ -9,10 +9,11 @@ use lib.IntN.{pos}
 use lib.ListN.{length, getD, take, length-map, length-append}
 use Rattle.soc.specs.Record.{noModule}
 use Rattle.soc.specs.declared.record.Module.{Module}
-use Rattle.fields.specs.Puts.{Put}
-use Rattle.text_writer.specs.Written.{moduleLinesOf, moduleLinesFrom, writtenLines}
+use Rattle.buffer.specs.Puts.{Put}
+use Rattle.fields.specs.Written.{writtenLines}
+use Rattle.text_writer.specs.Written.{moduleLinesOf, moduleLinesFrom}
 use Rattle.text_writer.proofs.GoodLaws.{getD-same}
-use Rattle.fields.proofs.PutLaws.{put-none, put-then}
+use Rattle.buffer.proofs.PutLaws.{put-none, put-then}
 use Rattle.text_writer.proofs.RunLaws.{modulesText, modules-more, modules-fits}
 use Rattle.text_writer.proofs.write.put_modules.Statement.{statement}
 use Rattle.text_writer.proofs.write.put_modules.Tie as tie

@@ -6,9 +6,11 @@ use Prim.Native.Nat.{ℕ}
 use mathlib.Core.List.{List, [], _∷_, _++_}
 use Rattle.soc.specs.Record.{modulesOf}
 use Rattle.text_lines.specs.Written.{nameFields, totalFields, optionsFields}
-use Rattle.text_writer.specs.Written.{writtenLines, writtenSoc}
-use Rattle.text_writer.proofs.GoodLaws.{soc-figures, good-countable}
-use Rattle.fields.proofs.PutLaws.{Due, due-all, due-room, due-next}
+use Rattle.fields.specs.Written.{writtenLines}
+use Rattle.text_writer.specs.Written.{writtenSoc}
+use Rattle.soc.proofs.GoodSocLaws.{soc-figures}
+use Rattle.text_writer.proofs.GoodLaws.{good-countable}
+use Rattle.buffer.proofs.PutLaws.{Due, due-all, due-room, due-next}
 use Rattle.text_writer.proofs.RunLaws.{modulesText, soc-text}
 use Rattle.text_writer.proofs.write.put_soc.Statement.{statement}
 use Rattle.text_writer.proofs.write.put_soc.Tie as tie

@@ -9,9 +9,10 @@ use mathlib.Core.List.{[], _∷_, _++_}
 use lib.ListN.{length, getD, take, length-map, length-append}
 use Rattle.soc.specs.Record.{noTest}
 use Rattle.text_lines.specs.Written.{powerFields, testFields}
-use Rattle.fields.specs.Puts.{Put}
-use Rattle.text_writer.specs.Written.{testLines, writtenLines}
-use Rattle.fields.proofs.PutLaws.{put-none, put-then}
+use Rattle.buffer.specs.Puts.{Put}
+use Rattle.fields.specs.Written.{writtenLines}
+use Rattle.text_writer.specs.Written.{testLines}
+use Rattle.buffer.proofs.PutLaws.{put-none, put-then}
 use Rattle.text_writer.proofs.RunLaws.{testsText, tests-more, tests-fits}
 use Rattle.text_writer.proofs.write.put_tests.Statement.{statement}
 use Rattle.text_writer.proofs.write.put_tests.Tie as tie

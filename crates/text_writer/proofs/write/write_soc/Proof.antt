@@ -11,7 +11,7 @@ use lib.ListN.{length, replicate, length-replicate}
 use lib.Seq.{length-take-le}
 use Rattle.soc.specs.Rules.{goodSoc}
 use Rattle.text_writer.specs.Written.{writtenSoc, writeAnswer, writeLeaves}
-use Rattle.fields.proofs.PutLaws.{front-behind, front-within, front-text}
+use Rattle.buffer.proofs.PutLaws.{front-behind, front-within, front-text}
 use Rattle.text_writer.proofs.RoomLaws.{room-most, room-none, room-all}
 use Rattle.text_writer.proofs.SizeLaws.{written-short}
 use Rattle.text_writer.proofs.write.write_soc.Statement.{statement}

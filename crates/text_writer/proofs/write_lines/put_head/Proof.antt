@@ -7,12 +7,11 @@ use mathlib.Core.List.{List, [], _∷_, _++_}
 use lib.ListN.{length, length-map}
 use lib.Seq.{length-take-le}
 use Rattle.fields.specs.Bytes.{bytes, lf}
-use Rattle.fields.specs.Written.{decimal}
+use Rattle.fields.specs.Written.{decimal, writtenLines}
 use Rattle.soc.specs.Record.{nameOf}
 use Rattle.text_lines.specs.Written.{flagField, nameFields, totalFields, optionsFields}
-use Rattle.text_writer.specs.Written.{writtenLines}
 use Rattle.text_writer.proofs.LineLaws.{head-text}
-use Rattle.fields.proofs.PutLaws.{Due, due-all, due-room, due-next}
+use Rattle.buffer.proofs.PutLaws.{Due, due-all, due-room, due-next}
 use Rattle.text_writer.proofs.write_lines.put_head.Statement.{statement}
 use Rattle.text_writer.proofs.write_lines.put_head.Tie as tie
 

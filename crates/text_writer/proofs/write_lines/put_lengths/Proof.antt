@@ -9,9 +9,9 @@ use lib.ListN.{length, getD, take, length-map, length-append}
 use Rattle.fields.specs.Bytes.{space}
 use Rattle.soc.specs.Record.{flipFlops}
 use Rattle.text_lines.specs.Written.{lengthField}
-use Rattle.fields.specs.Puts.{Put}
+use Rattle.buffer.specs.Puts.{Put}
 use Rattle.text_writer.specs.Written.{spacedLengths}
-use Rattle.fields.proofs.PutLaws.{put-none, put-then}
+use Rattle.buffer.proofs.PutLaws.{put-none, put-then}
 use Rattle.text_writer.proofs.RunLaws.{spaced-more, spaced-fits}
 use Rattle.text_writer.proofs.write_lines.put_lengths.Statement.{statement}
 use Rattle.text_writer.proofs.write_lines.put_lengths.Tie as tie

@@ -3,12 +3,12 @@ use borrow.Author.Needs.{needs}
 use Prim.Native.Nat.{ℕ}
 use mathlib.Core.List.{List, [], _∷_, _++_}
 use Rattle.fields.specs.Bytes.{bytes, lf}
-use Rattle.fields.specs.Written.{decimal}
+use Rattle.fields.specs.Written.{decimal, writtenLines}
 use Rattle.soc.specs.Record.{chainsOf}
 use Rattle.text_lines.specs.Written.{levelFields}
-use Rattle.text_writer.specs.Written.{writtenLines, spacedLengths}
+use Rattle.text_writer.specs.Written.{spacedLengths}
 use Rattle.text_writer.proofs.LineLaws.{level-text}
-use Rattle.fields.proofs.PutLaws.{put-kept, Due, due-all, due-room, due-next}
+use Rattle.buffer.proofs.PutLaws.{put-kept, Due, due-all, due-room, due-next}
 use Rattle.text_writer.proofs.write_lines.put_level_line.Statement.{statement}
 use Rattle.text_writer.proofs.write_lines.put_level_line.Tie as tie
 

@@ -9,11 +9,11 @@ use mir.Syntax.{w32}
 use mir.Val.{toZ, ofZ}
 use Rattle.soc.proofs.FigureLaws.{figure-back}
 use Rattle.fields.specs.Bytes.{bytes, lf}
-use Rattle.fields.specs.Written.{decimal}
+use Rattle.fields.specs.Written.{decimal, writtenLines}
 use Rattle.text_lines.specs.Written.{givenField}
-use Rattle.text_writer.specs.Written.{writtenLines, positionLines}
+use Rattle.text_writer.specs.Written.{positionLines}
 use Rattle.text_writer.proofs.LineLaws.{position-none, position-text}
-use Rattle.fields.proofs.PutLaws.{put-none, Due, due-all, due-room, due-next}
+use Rattle.buffer.proofs.PutLaws.{put-none, Due, due-all, due-room, due-next}
 use Rattle.text_writer.proofs.write_lines.put_position_line.Statement.{statement}
 use Rattle.text_writer.proofs.write_lines.put_position_line.Tie as tie
 

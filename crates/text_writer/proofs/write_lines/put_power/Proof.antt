@@ -14,7 +14,7 @@ use Rattle.fields.specs.Bytes.{bytes, lf}
 use Rattle.text_lines.specs.Written.{givenField}
 use Rattle.text_writer.specs.Written.{powerEnd}
 use Rattle.text_writer.proofs.LineLaws.{power-none, power-text}
-use Rattle.fields.proofs.PutLaws.{Due, due-all, due-room, due-next}
+use Rattle.buffer.proofs.PutLaws.{Due, due-all, due-room, due-next}
 use Rattle.text_writer.proofs.write_lines.put_power.Statement.{statement}
 use Rattle.text_writer.proofs.write_lines.put_power.Tie as tie
 

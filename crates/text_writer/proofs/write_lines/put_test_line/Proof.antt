@@ -4,11 +4,11 @@ use Prim.Native.Nat.{ℕ}
 use mathlib.Core.Bool.{cond}
 use mathlib.Core.List.{List, [], _∷_, _++_}
 use Rattle.fields.specs.Bytes.{bytes}
-use Rattle.fields.specs.Written.{decimal}
+use Rattle.fields.specs.Written.{decimal, writtenLines}
 use Rattle.text_lines.specs.Written.{flagField, powerFields, testFields}
-use Rattle.text_writer.specs.Written.{writtenLines, powerEnd}
+use Rattle.text_writer.specs.Written.{powerEnd}
 use Rattle.text_writer.proofs.LineLaws.{test-text}
-use Rattle.fields.proofs.PutLaws.{Due, due-all, due-room, due-next}
+use Rattle.buffer.proofs.PutLaws.{Due, due-all, due-room, due-next}
 use Rattle.text_writer.proofs.write_lines.put_test_line.Statement.{statement}
 use Rattle.text_writer.proofs.write_lines.put_test_line.Tie as tie
 

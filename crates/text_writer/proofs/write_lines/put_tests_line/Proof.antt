@@ -3,11 +3,10 @@ use borrow.Author.Needs.{needs}
 use Prim.Native.Nat.{ℕ}
 use mathlib.Core.List.{List, [], _∷_, _++_}
 use Rattle.fields.specs.Bytes.{bytes, lf}
-use Rattle.fields.specs.Written.{decimal}
+use Rattle.fields.specs.Written.{decimal, writtenLines}
 use Rattle.text_lines.specs.Written.{testsFields}
-use Rattle.text_writer.specs.Written.{writtenLines}
 use Rattle.text_writer.proofs.LineLaws.{tests-text}
-use Rattle.fields.proofs.PutLaws.{Due, due-all, due-room, due-next}
+use Rattle.buffer.proofs.PutLaws.{Due, due-all, due-room, due-next}
 use Rattle.text_writer.proofs.write_lines.put_tests_line.Statement.{statement}
 use Rattle.text_writer.proofs.write_lines.put_tests_line.Tie as tie
 

@@ -8,7 +8,7 @@ use mathlib.Core.Bool.{true, _&&_}
 use mathlib.Core.List.{List, [], _∷_}
 use lib.Dec.{leb}
 use lib.ListN.{length, length-map, getD}
-use Rattle.fields.proofs.TestLaws.{within-true, below-false, above-false}
+use Rattle.units.proofs.TestLaws.{within-true, below-false, above-false}
 use Rattle.soc.specs.Record.{noModule}
 use Rattle.soc.specs.Rules.{goodSoc}
 use Rattle.wrapper.specs.Answers.{widthMax, askedModule, isAsked, foundModule}

@@ -1,7 +1,7 @@
 -- `wrapper::asked::asked_test` meets its contract: its tests are those of `askedTest`, in order. Assumes nothing.
 use borrow.Author.Needs.{needs}
 use native.Mathlib.Omega.{arith}
-use Rattle.fields.proofs.TestLaws.{within-true, below-false, above-false}
+use Rattle.units.proofs.TestLaws.{within-true, below-false, above-false}
 use Rattle.wrapper.specs.Answers.{askedTest, foundTest}
 use Rattle.wrapper.proofs.asked.asked_test.Statement.{statement}
 use Rattle.wrapper.proofs.asked.asked_test.Tie as tie

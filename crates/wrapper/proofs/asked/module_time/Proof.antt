@@ -5,7 +5,7 @@ use Prim.Native.Nat.{ℕ, _-_}
 use mathlib.Core.Path.{_≡_, ap, _∙_}
 use mathlib.Core.List.{List, map}
 use lib.ListN.{getD}
-use Rattle.soc.specs.Places.{padded}
+use Rattle.units.specs.Places.{padded}
 use Rattle.soc.specs.declared.record.Module.{Module}
 use Rattle.wrapper.specs.Times.{Best, moduleBest}
 use Rattle.wrapper.specs.Answers.{widthMax, wires, cycles, bestsFrom, noModuleTime, moduleTimeOf, moduleTimeAnswer, cyclesIn, wiresIn, timesOf}

@@ -7,7 +7,7 @@ use mathlib.Core.Path.{_≡_, refl, sym, ap, _∙_}
 use mathlib.Core.List.{List, _++_}
 use lib.ListN.{length, getD, take, drop, set}
 use lib.Seq.{length-take-le, length-front}
-use Rattle.soc.specs.Places.{padded}
+use Rattle.units.specs.Places.{padded}
 use Rattle.wrapper.specs.Fit.{withCells}
 use Rattle.wrapper.specs.Answers.{gained}
 use Rattle.wrapper.proofs.FitLaws.{cells-length, cells-grow}

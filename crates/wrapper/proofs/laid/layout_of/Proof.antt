@@ -6,7 +6,7 @@ use Prim.Native.Nat.{_≤_}
 use mathlib.Core.Path.{_≡_, sym, ap, _∙_}
 use mathlib.Core.List.{map}
 use lib.ListN.{take}
-use Rattle.soc.specs.Places.{padded}
+use Rattle.units.specs.Places.{padded}
 use Rattle.soc.specs.Record.{flipFlops}
 use Rattle.wrapper.specs.Fit.{longest, withCells}
 use Rattle.wrapper.specs.Chains.{Threaded, thread, empty, threaded}

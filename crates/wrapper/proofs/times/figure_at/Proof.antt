@@ -1,7 +1,7 @@
 -- `wrapper::times::figure_at` meets its contract: a scan that is not computed is one that no planned test needs. Assumes nothing.
 use mathlib.Core.Path.{_≡_, ap, _∙_}
 use mathlib.Core.Bool.{true, false}
-use Rattle.soc.specs.Places.{anyOf}
+use Rattle.units.specs.Places.{anyOf}
 use Rattle.soc.specs.Record.{testsOf}
 use Rattle.wrapper.specs.Chains.{usedChains}
 use Rattle.wrapper.specs.Answers.{orderOf}

@@ -7,10 +7,10 @@ use mathlib.Core.Path.{_≡_, refl, sym, _∙_}
 use mathlib.Core.Logic.{inl, ⊎-elim}
 use mathlib.Core.Bool.{false}
 use lib.ListN.{length, length-map, getD, drop}
-use Rattle.soc.specs.Places.{anyOf}
+use Rattle.units.specs.Places.{anyOf}
 use Rattle.soc.specs.Record.{noTest, testsOf}
-use Rattle.soc.proofs.PlaceLaws.{any-front-step, any-front-found, any-front-end}
-use Rattle.soc.proofs.TestLaws.{and-stops, and-goes}
+use Rattle.units.proofs.PlaceLaws.{any-front-step, any-front-found, any-front-end}
+use Rattle.units.proofs.TestLaws.{and-stops, and-goes}
 use Rattle.wrapper.specs.Scans.{plannedWith}
 use Rattle.wrapper.proofs.times.is_planned_with.Statement.{statement}
 use Rattle.wrapper.proofs.times.is_planned_with.Tie as tie

@@ -9,7 +9,7 @@ use mathlib.Core.Logic.{⊎-elim}
 use lib.ListN.{set, replicate}
 use Rattle.units.specs.declared.Wires.{Wires}
 use Rattle.units.specs.declared.Cycles.{Cycles}
-use Rattle.soc.specs.Places.{padded}
+use Rattle.units.specs.Places.{padded}
 use Rattle.soc.specs.declared.record.Module.{Module}
 use Rattle.wrapper.specs.Times.{figure, moduleBest}
 use Rattle.wrapper.specs.Answers.{widthMax, wires, cycles, bestsFrom, cyclesIn, wiresIn, timesOf}

@@ -4,14 +4,14 @@ use mathlib.Core.Path.{_≡_, refl, sym, ap, _∙_}
 use mathlib.Core.Bool.{Bool, true, false, cond}
 use mathlib.Core.List.{List, [], _∷_, _++_, append-assoc, append-nil}
 use native.Mathlib.Nat.{add-assoc}
+use native.Mathlib.Numerals.{add-one}
 use native.Mathlib.Omega.{arith}
 use borrow.Author.Tests.{le-leb, lt-leb, leb-true}
 use borrow.Rule.Slice.PartMut.{putMid}
-use lib.ListN.{length, take, drop, length-append, length-take, length-drop, take-append-drop, drop-of-length-le}
-use lib.Seq.{take-all, take-at, take-append-seam, drop-append-add, drop-drop}
+use lib.ListN.{length, getD, set, take, drop, length-append, length-take, length-drop, take-append-drop, drop-of-length-le}
+use lib.Seq.{take-all, take-at, take-append-seam, drop-append-add, drop-drop, drop-cons, take-suc, length-take-le, set-append-seam, set-at}
 use lib.Dec.{leb}
-use Rattle.fields.specs.Written.{putFront, putCount}
-use Rattle.fields.specs.Puts.{putEnd, putIn, putAt, Put}
+use Rattle.buffer.specs.Puts.{putFront, putCount, putEnd, putIn, putAt, Put}
 
 -- the part from a place on
 abbrev pub partFrom : ℕ → List ℕ → List ℕ
@@ -142,3 +142,9 @@ module _ {w start buf : List ℕ} {r : ℕ} (p : Put w 0 start buf r) where
 
   pub front-text : take r buf ≡ w
   front-text = rw (front-whole, front-behind, take-append-seam)
+
+-- one byte more, where the front holds those before it
+pub put-step : (w o b : List ℕ) (i : ℕ) → i < length w → i < length o → b ≡ take i w ++ drop i o → set b i (getD w i 0) ≡ take (i + 1) w ++ drop (i + 1) o
+put-step w o b i h k e =
+    let n : length (take i w) ≡ i = length-take-le i w (omega arith) in
+    rw (e, add-one, drop-cons o i 0, set-at (take i w) (getD o i 0) (drop (suc i) o) (getD w i 0) i n, take-suc w i 0, append-assoc)

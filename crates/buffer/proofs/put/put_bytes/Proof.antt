@@ -1,11 +1,11 @@
--- `fields::put::put_bytes` meets its contract: what is written into the part from the place on is put there. Assumes nothing.
+-- `buffer::put::put_bytes` meets its contract: what is written into the part from the place on is put there. Assumes nothing.
 use borrow.Author.Needs.{needs}
 use native.Mathlib.Omega.{arith}
 use mathlib.Core.Path.{ap}
 use lib.ListN.{length, length-drop}
-use Rattle.fields.proofs.PutLaws.{partFrom, part-rest, count-most, end-none, in-none, part-end, part-in}
-use Rattle.fields.proofs.put.put_bytes.Statement.{statement}
-use Rattle.fields.proofs.put.put_bytes.Tie as tie
+use Rattle.buffer.proofs.PutLaws.{partFrom, part-rest, count-most, end-none, in-none, part-end, part-in}
+use Rattle.buffer.proofs.put.put_bytes.Statement.{statement}
+use Rattle.buffer.proofs.put.put_bytes.Tie as tie
 
 returns : tie.Need-returns
 returns c =

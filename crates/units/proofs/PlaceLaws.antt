@@ -9,7 +9,7 @@ use native.Mathlib.Omega.{arith}
 use native.Mathlib.Numerals.{add-one}
 use lib.ListN.{length, getD, take, drop, set, replicate, length-take, length-append, length-replicate, drop-of-length-le}
 use lib.Seq.{drop-cons, getD-take, take-append-seam, drop-append-seam, set-append-seam}
-use Rattle.soc.specs.Places.{allOf, anyOf, padded}
+use Rattle.units.specs.Places.{allOf, anyOf, padded}
 
 pub all-step : {A : Type 0} (p : A → Bool) (l : List A) (i : ℕ) (d : A) → i < length l → p (getD l i d) ≡ true → allOf p (drop i l) ≡ allOf p (drop (i + 1) l)
 unfolding allOf

@@ -1,18 +1,17 @@
 -- Laws of bytes that stand at a place of others: the first of two parts stands there and the second behind it, a number that stands there is
--- the one read there, and elements that stand one behind another are those read a step of bytes apart. Assumes nothing.
-use Prim.Native.Nat.{ℕ, zero, suc, _+_, _/_, _^_, _<_}
+-- the one read there, and elements that stand one behind another are those read a stride of bytes apart. Assumes nothing.
+use Prim.Native.Nat.{ℕ, zero, suc, _+_, _^_, _<_}
 use mathlib.Core.Path.{_≡_, refl, ap, sym, _∙_}
 use mathlib.Core.Bool.{Bool, true}
 use mathlib.Core.List.{List, [], _∷_, _++_, append-assoc, append-nil}
 use native.Mathlib.Omega.{arith}
 use lib.ListN.{length, getD, take, drop}
 use lib.Seq.{take-at, drop-at, drop-drop}
-use Rattle.soc.specs.Places.{allOf}
-use Rattle.soc.proofs.TestLaws.{and-goes}
-use Rattle.plan_file.specs.Bytes.{little, each}
-use Rattle.plan_file.specs.Files.{numberAt}
-use Rattle.plan_file.proofs.BackLaws.{number-little}
-use Rattle.c_forms.specs.Words.{places}
+use Rattle.units.specs.Places.{allOf}
+use Rattle.units.proofs.TestLaws.{and-goes}
+use Rattle.buffer.specs.Little.{little, numberAt}
+use Rattle.buffer.specs.Rows.{each, rows}
+use Rattle.buffer.proofs.LittleLaws.{number-little, little-length}
 
 -- w stands in b from a place on
 pub record Stands (w b : List ℕ) (at : ℕ) : Type 0 where
@@ -34,11 +33,6 @@ module _ (u w : List ℕ) {b : List ℕ} {at : ℕ} where
 pub part-stands : (w : List ℕ) {b : List ℕ} {at : ℕ} (n : ℕ) → length w ≡ n → Stands w b at → take n (drop at b) ≡ w
 part-stands w n l s = rw (s .is) (take-at w (s .rest) n l)
 
-little-length : (n v : ℕ) → length (little n v) ≡ n
-unfolding little
-little-length zero v = refl
-little-length (suc n) v = ap suc (little-length n (v / 256))
-
 -- the number that stands at a place is read there, and with more behind it so is it
 pub number-stands : (n v : ℕ) {b : List ℕ} {at : ℕ} → v < 256 ^ n → Stands (little n v) b at → numberAt n b at ≡ v
 number-stands n v h s = rw (part-stands (little n v) n (little-length n v) s) (number-little n v h)
@@ -52,21 +46,21 @@ number-behind n v w to e s = stands-behind (little n v) w n to (little-length n 
 -- elements of which each has as many bytes
 module _ {A : Type 0} (f : A → List ℕ) (step : ℕ) (P : A → Type 0) (long : (x : A) → P x → length (f x) ≡ step) (b : List ℕ) (z : A) where
   -- read back one by one
-  pub places-stand : (read : ℕ → A) → ((x : A) (at : ℕ) → P x → Stands (f x) b at → read at ≡ x)
-      → (xs : List A) (at : ℕ) → ((i : ℕ) → i < length xs → P (getD xs i z)) → Stands (each f xs) b at → places read step (length xs) at ≡ xs
-  unfolding each places
-  places-stand read back [] at p s = refl
-  places-stand read back (x ∷ xs) at p s =
+  pub rows-stand : (read : ℕ → A) → ((x : A) (at : ℕ) → P x → Stands (f x) b at → read at ≡ x)
+      → (xs : List A) (at : ℕ) → ((i : ℕ) → i < length xs → P (getD xs i z)) → Stands (each f xs) b at → rows read step (length xs) at ≡ xs
+  unfolding each rows
+  rows-stand read back [] at p s = refl
+  rows-stand read back (x ∷ xs) at p s =
       let h : P x = p 0 (omega arith) in
       let e : read at ≡ x = back x at h (stands-first (f x) (each f xs) s) in
-      let t : places read step (length xs) (at + step) ≡ xs =
-      places-stand read back xs (at + step) (λ i k. p (suc i) (omega arith)) (stands-behind (f x) (each f xs) step (at + step) (long x h) refl s) in
+      let t : rows read step (length xs) (at + step) ≡ xs =
+      rows-stand read back xs (at + step) (λ i k. p (suc i) (omega arith)) (stands-behind (f x) (each f xs) step (at + step) (long x h) refl s) in
       cc
 
   -- what holds at each of their places holds at all
   pub all-stand : (q : ℕ → Bool) → ((x : A) (at : ℕ) → P x → Stands (f x) b at → q at ≡ true)
-      → (xs : List A) (at : ℕ) → ((i : ℕ) → i < length xs → P (getD xs i z)) → Stands (each f xs) b at → allOf q (places (λ a. a) step (length xs) at) ≡ true
-  unfolding each places allOf
+      → (xs : List A) (at : ℕ) → ((i : ℕ) → i < length xs → P (getD xs i z)) → Stands (each f xs) b at → allOf q (rows (λ a. a) step (length xs) at) ≡ true
+  unfolding each rows allOf
   all-stand q holds [] at p s = refl
   all-stand q holds (x ∷ xs) at p s =
       let h : P x = p 0 (omega arith) in

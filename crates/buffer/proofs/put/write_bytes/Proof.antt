@@ -1,4 +1,4 @@
--- `fields::write::write_bytes` meets its contract. The loop's invariant: the buffer holds the first `i` bytes of `w`, and behind them its old
+-- `buffer::put::write_bytes` meets its contract. The loop's invariant: the buffer holds the first `i` bytes of `w`, and behind them its old
 -- bytes. Assumes nothing.
 use borrow.Author.Needs.{needs}
 use native.Mathlib.Omega.{arith}
@@ -10,9 +10,9 @@ use lib.ListN.{length, take, drop, length-set}
 use lib.Dec.{leb}
 use lib.Seq.{take-length}
 use borrow.Author.Tests.{le-leb, lt-leb}
-use Rattle.fields.proofs.WrittenLaws.{put-step}
-use Rattle.fields.proofs.write.write_bytes.Statement.{statement}
-use Rattle.fields.proofs.write.write_bytes.Tie as tie
+use Rattle.buffer.proofs.PutLaws.{put-step}
+use Rattle.buffer.proofs.put.write_bytes.Statement.{statement}
+use Rattle.buffer.proofs.put.write_bytes.Tie as tie
 
 abbrev Inv-loop : tie.InvT-loop
 Inv-loop buf₀ w i₀ buf i = (i ≤ length w) × (length w ≤ length buf₀) × (length buf ≡ length buf₀) × (buf ≡ take i w ++ drop i buf₀)

@@ -1,0 +1,4 @@
+pub mod PutLaws
+pub mod LittleLaws
+pub mod RowLaws
+pub mod StandLaws

@@ -1,0 +1,4 @@
+pub mod Puts
+pub mod Little
+pub mod Rows
+pub mod Written
