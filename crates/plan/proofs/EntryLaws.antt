@@ -33,7 +33,7 @@ use Rattle.plan_record.specs.declared.record.PlacedModule.{PlacedModule}
 use Rattle.plan.specs.declared.tables.Tables.{Tables}
 use Rattle.plan_search.specs.declared.widths.Found.{Found}
 use Rattle.plan_rules.proofs.BusyLaws.{length-busies}
-use Rattle.plan.proofs.TableLaws.{table-time, table-wires, busies-same, time-same, best-same}
+use Rattle.plan.proofs.TableLaws.{busies-same, time-same, best-same}
 
 -- an array is filled at the place behind those in use
 fill-step : {A : Type 0} (n : ℕ) (z v : A) (list xs : List A) (i : ℕ) → list ≡ padded n z xs → length xs ≡ i → i < n → set list i v ≡ padded n z (xs ++ v ∷ [])
@@ -133,12 +133,12 @@ module _ {W B n : ℕ} {p : Plan} (r : IsPlan W B n p) where
     placed = λ i l. rw (padded-at 12 0 (p .buses) i) (r .low i l, r .high i l);
   }
 
-  module _ {s : Soc} {t : Tables} (a : TablesAre s W n t) (narrow : W ≤ 64) where
+  module _ {s : Soc} {t : Tables} (a : TablesAre s W n t) where
     buses-are : busesIs (tableTime (t .cycles)) (foundOf (tableTime (t .cycles)) p) n ≡ padded busPlaces noBus (busRecords (p .widths) (busies (timeIn s) (p .buses) 1 (p .widths)))
     unfolding busesIs
     buses-are =
         let e : take n (padded 12 0 (p .buses)) ≡ p .buses = rw (← r .placed) (padded-take 12 0 (p .buses)) in
-        rw (padded-take 3 0 (p .widths), e, busies-same (λ i w h k l. table-time a i w h k l narrow) r)
+        rw (padded-take 3 0 (p .widths), e, busies-same (a .cycles-are) r)
 
     modules-from : (time : ℕ → ℕ → ℕ) (i : ℕ) (bs : List ℕ) → i + length bs ≤ n → ((j : ℕ) → j < length bs → (1 ≤ getD bs j 0) × (getD bs j 0 ≤ length (p .widths)))
         → placedFrom (plannedIs (plannedOf s)) t (foundOf time p) i bs ≡ moduleRecords (plannedOf s) (timeIn s) (wiresIn s) (p .widths) i bs
@@ -152,8 +152,8 @@ module _ {W B n : ℕ} {p : Plan} (r : IsPlan W B n p) where
         rw (
           padded-at modulesMax 0 (plannedOf s) i,
           padded-at 3 0 (p .widths) (b - 1),
-          table-time a i (getD (p .widths) (b - 1) 0) k (v .0) (v .1) narrow,
-          table-wires a i (getD (p .widths) (b - 1) 0) k (v .0) (v .1) narrow,
+          a .cycles-are i (getD (p .widths) (b - 1) 0) k (v .0) (v .1),
+          a .wires-are i (getD (p .widths) (b - 1) 0) k (v .0) (v .1),
           modules-from time (suc i) bs (omega arith) (λ j g. q (suc j) (omega arith)),
         )
 
@@ -171,16 +171,13 @@ module _ {s : Soc} {W B : ℕ} {t : Tables} {p : Planned} {f : Found}
   count-is : p .count ≡ length (plannedOf s)
   count-is = ap (λ x. x .count) numbers
 
-  same : (i w : ℕ) → i < length (plannedOf s) → 1 ≤ w → w ≤ W → tableTime (t .cycles) i w ≡ timeIn s i w
-  same i w h k l = table-time a i w h k l narrow
-
   best-plan : IsPlan W B (length (plannedOf s)) (bestFor s W B)
   unfolding bestFor
   best-plan = best-is (timeIn s) W B (length (plannedOf s)) some limit
 
   found-best : f ≡ foundOf (tableTime (t .cycles)) (bestFor s W B)
   unfolding bestFor
-  found-best = found ∙ rw (count-is, best-same same B)
+  found-best = found ∙ rw (count-is, best-same (a .cycles-are) B)
 
   pub found-fits : IsFound f (p .count)
   found-fits = rw (found-best, count-is) (found-is best-plan (tableTime (t .cycles)) narrow few)
@@ -191,4 +188,4 @@ module _ {s : Soc} {W B : ℕ} {t : Tables} {p : Planned} {f : Found}
       (recordOf s W B (bestFor s W B))
   unfolding planRecord
   record-is u v =
-      rw (u, v, found-best, numbers, buses-are best-plan a narrow, modules-are best-plan a narrow (tableTime (t .cycles)) refl, time-same same best-plan)
+      rw (u, v, found-best, numbers, buses-are best-plan a, modules-are best-plan a (tableTime (t .cycles)) refl, time-same (a .cycles-are) best-plan)

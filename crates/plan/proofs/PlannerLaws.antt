@@ -11,23 +11,22 @@ use lib.Seq.{getD-take}
 use lib.Dec.{leb}
 use Rattle.units.specs.Refusals.{accepted}
 use Rattle.units.proofs.TestLaws.{and-both}
-use Rattle.soc.specs.Limits.{modulesMax, levelMax}
+use Rattle.soc.specs.Limits.{modulesMax}
 use Rattle.soc.specs.Record.{noModule, modulesOf}
-use Rattle.soc.specs.Rules.{goodName, goodTerminals, goodChains, goodPosition, levelRule, goodTests, goodModule, goodModules, goodSoc}
+use Rattle.soc.specs.Rules.{goodSoc}
 use Rattle.soc.specs.Planned.{isPlanned, plannedFrom, plannedOf}
+use Rattle.soc.proofs.GoodSocLaws.{soc-figures}
 use Rattle.soc.specs.declared.record.Module.{Module}
 use Rattle.soc.specs.declared.record.Soc.{Soc}
 use Rattle.wrapper.specs.Maxima.{moduleTimeMax}
-use Rattle.wrapper.specs.Times.{moduleBest}
 use Rattle.wrapper.specs.Answers.{widthMax}
-use Rattle.wrapper.proofs.BestLaws.{time-at, time-wires, planned-least, good-patterns}
-use Rattle.wrapper.proofs.TimeLaws.{module-most}
-use Rattle.wrapper.proofs.KeptLaws.{good-count}
+use Rattle.wrapper.proofs.BestLaws.{time-wires}
+use Rattle.wrapper.proofs.PromisedTimes.{time-most, time-some}
 use Rattle.plan_record.specs.Good.{ascendingFrom, goodPlan}
 use Rattle.plan_record.proofs.RecordLaws.{Recordable, record-good}
 use Rattle.plan.specs.Answers.{limitMax, plannedMax, plannedModule, timeIn, wiresIn, bestFor, recordOf, refusedPlan, planAnswer}
 use Rattle.plan.specs.declared.answer.PlanAnswer.{PlanAnswer}
-use Rattle.plan.proofs.TableLaws.{planned-number, planned-kept}
+use Rattle.plan.proofs.TableLaws.{planned-number}
 use Rattle.plan.proofs.PlanDemand.{plan-is}
 
 -- the planned modules from number m on: their numbers are at least m, and each is planned
@@ -60,48 +59,13 @@ planned-planned s i h =
     let z : x - 0 ≡ x = omega arith in
     rw (getD-take (s .«module_count») (s .modules) x noModule (planned-number s i h .0)) at (rw z at (planned-at 0 (modulesOf s) i h .planned))
 
--- the tests of each module in use of a good record are good
-module-tests : (power xy : Bool) (m last : ℕ) (d : Module) → goodModule power xy m last d ≡ true → goodTests power d ≡ true
-unfolding goodModule
-module-tests power xy m last d h =
-    let a = and-both (leb (d .level) levelMax) _ h in
-    let b = and-both (levelRule m last (d .level)) _ (a .1) in
-    let f = and-both (goodTerminals d) _ (b .1) in
-    let g = and-both (goodChains d) _ (f .1) in
-    and-both (goodPosition xy (d .x) (d .y)) (goodTests power d) (g .1) .1
-
-modules-tests : (power xy : Bool) (m last : ℕ) (ds : List Module) → goodModules power xy m last ds ≡ true → (i : ℕ) → i < length ds → goodTests power (getD ds i noModule) ≡ true
-unfolding goodModules
-modules-tests power xy m last [] h i k = absurd (omega arith)
-modules-tests power xy m last (d ∷ ds) h zero k = module-tests power xy m last d (and-both (goodModule power xy m last d) (goodModules power xy (suc m) (d .level) ds) h .0)
-modules-tests power xy m last (d ∷ ds) h (suc i) k =
-    modules-tests power xy (suc m) (d .level) ds (and-both (goodModule power xy m last d) (goodModules power xy (suc m) (d .level) ds) h .1) i (omega arith)
-
-soc-modules : (s : Soc) → goodSoc s ≡ true → goodModules (s .power) (s .xy) 0 0 (modulesOf s) ≡ true
-unfolding goodSoc
-soc-modules s h =
-    let named = and-both (goodName s) _ h in
-    let some = and-both (leb 1 (s .«module_count»)) _ (named .1) in
-    let few = and-both (leb (s .«module_count») modulesMax) _ (some .1) in
-    and-both (goodModules (s .power) (s .xy) 0 0 (modulesOf s)) _ (few .1) .0
-
--- a planned module of a good SOC, on a bus of width w
-module _ (s : Soc) (good : goodSoc s ≡ true) (i : ℕ) (h : i < length (plannedOf s)) where
-  pub planned-tests : goodTests (s .power) (plannedModule s i) ≡ true
-  planned-tests =
-      let x = getD (plannedOf s) i 0 in
-      let n = planned-number s i h in
-      let k : x < length (modulesOf s) = omega (arith, length-take (s .«module_count») (s .modules)) in
-      rw (getD-take (s .«module_count») (s .modules) x noModule (n .0)) at (modules-tests (s .power) (s .xy) 0 0 (modulesOf s) (soc-modules s good) x k)
-
-  -- "cycles 1 to the module maximum"
-  pub time-within : (w : ℕ) → 1 ≤ w → (1 ≤ timeIn s i w) × (timeIn s i w ≤ moduleTimeMax)
-  unfolding timeIn
-  time-within w k =
-      let d = plannedModule s i in (
-        planned-least d w (planned-planned s i h) (good-patterns (s .power) d planned-tests) k,
-        rw (← time-at d w k) (module-most d (moduleBest d w .wires) (planned-kept s i good h)),
-      )
+-- "cycles 1 to the module maximum"
+pub time-within : (s : Soc) → goodSoc s ≡ true → (i : ℕ) → i < length (plannedOf s) → (w : ℕ) → 1 ≤ w → (1 ≤ timeIn s i w) × (timeIn s i w ≤ moduleTimeMax)
+unfolding timeIn
+time-within s good i h w k =
+    let x = getD (plannedOf s) i 0 in
+    let n = planned-number s i h .0 in
+    (time-some s x good n w k (planned-planned s i h), time-most s x good n w k)
 
 -- "wires 1 to the bus's width"
 pub wires-within : (s : Soc) (i w : ℕ) → 1 ≤ w → (1 ≤ wiresIn s i w) × (wiresIn s i w ≤ w)
@@ -121,7 +85,7 @@ ascending-planned low m (d ∷ ds) h k =
     go false f g = g
 
 pub planned-ascends : (s : Soc) → goodSoc s ≡ true → ascendingFrom 0 (plannedOf s) ≡ true
-planned-ascends s good = ascending-planned 0 0 (modulesOf s) (omega arith) (omega (arith, good-count s good, length-take (s .«module_count») (s .modules)))
+planned-ascends s good = ascending-planned 0 0 (modulesOf s) (omega arith) (omega (arith, soc-figures s good .module-count, length-take (s .«module_count») (s .modules)))
 
 -- the planned modules of a good SOC make a record
 recordable : (s : Soc) → goodSoc s ≡ true → 1 ≤ length (plannedOf s) → length (plannedOf s) ≤ plannedMax → Recordable (plannedOf s) (timeIn s) (wiresIn s)

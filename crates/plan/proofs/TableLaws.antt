@@ -1,5 +1,5 @@
--- Laws of the tables of times: a module's times by width, the table that they make, the plan that is best by two times that agree, and the numbers of
--- the planned modules. Assumes nothing.
+-- Laws of the tables of times: the numbers of the planned modules, what the wrapper layer promises of their times makes a table to search
+-- over, and the plan that is best by two times that agree. Assumes nothing.
 use Prim.Native.Nat.{ℕ, zero, suc, _+_, _-_, _*_, _/_, _%_, _≤_, _<_}
 use mathlib.Core.Path.{_≡_, refl, ap, _∙_}
 use mathlib.Core.Bool.{Bool, true, false, cond}
@@ -7,29 +7,22 @@ use mathlib.Core.Logic.{_⊎_, inl, inr, ⊎-elim}
 use mathlib.Core.List.{List, [], _∷_, _++_, map, List·Memᴰ, List·Memᴰ·head, List·Memᴰ·tail}
 use native.Mathlib.Omega.{arith}
 use borrow.Author.Count.{below-more}
-use borrow.Author.Tests.{le-leb, lt-ltb}
 use lib.ListN.{length, getD, replicate, length-take}
-use Rattle.units.specs.Places.{padded}
 use Rattle.soc.specs.Record.{modulesOf}
 use Rattle.soc.specs.Planned.{isPlanned, plannedFrom, plannedOf}
 use Rattle.soc.specs.Rules.{goodSoc}
 use Rattle.soc.specs.declared.record.Module.{Module}
 use Rattle.soc.specs.declared.record.Soc.{Soc}
-use Rattle.wrapper.specs.Scans.{Kept}
-use Rattle.wrapper.specs.Times.{Best, moduleBest}
-use Rattle.wrapper.specs.Answers.{widthMax, wires, cycles, bestsFrom, cyclesIn, timesOf, askedModule, moduleTimesAnswer}
-use Rattle.wrapper.specs.Answers as answers
-use Rattle.wrapper.proofs.BestLaws.{time-at, time-falls}
-use Rattle.wrapper.proofs.TimeLaws.{module-most}
-use Rattle.wrapper.proofs.KeptLaws.{good-kept}
+use Rattle.wrapper.specs.Answers.{moduleTimesAnswer}
+use Rattle.wrapper.proofs.BestLaws.{time-falls}
+use Rattle.wrapper.proofs.PromisedTimes.{time-most, times-at, wires-at, times-past}
 use Rattle.plan_rules.specs.Plans.{Plan, IsPlan, sum, busyFrom, busies, largest, timeOf}
 use Rattle.plan_rules.specs.Listed.{plans, firstLeast, firstOf, bestPlan}
 use Rattle.plan_rules.proofs.ListedLaws.{sound}
-use Rattle.units.proofs.PlaceLaws.{padded-at}
 use Rattle.plan.specs.Answers.{plannedModule, timeIn, wiresIn}
 use Rattle.wrapper.specs.Maxima.{moduleTimeMax}
-use Rattle.plan_search.specs.Search.{tableTime, timeBound, IsTable}
-use Rattle.plan.specs.Tables.{TimesStand, timesAt, TablesAre}
+use Rattle.plan_search.specs.Search.{tableTime, IsTable}
+use Rattle.plan.specs.Tables.{TimesStand, TablesAre}
 use Rattle.plan.specs.declared.tables.Tables.{Tables}
 
 below-or : (a b : ℕ) → (a < b) ⊎ (b ≤ a)
@@ -42,54 +35,6 @@ replicate-at : {A : Type 0} (n : ℕ) (z : A) (i : ℕ) → getD (replicate n z)
 replicate-at zero z i = refl
 replicate-at (suc n) z zero = refl
 replicate-at (suc n) z (suc i) = replicate-at n z i
-
--- a module's times and wires at the widths from u on
-module _ {A : Type 0} (f : Best → A) (z : A) (d : Module) where
-  bests-at : (n u j : ℕ) → j < n → getD (map f (bestsFrom d n u)) j z ≡ f (moduleBest d (u + j))
-  unfolding bestsFrom
-  bests-at zero u j h = absurd (omega arith)
-  bests-at (suc n) u zero h = let e : u + 0 ≡ u = omega arith in rw e
-  bests-at (suc n) u (suc j) h = let e : u + suc j ≡ suc u + j = omega arith in rw e (bests-at n (suc u) j (omega arith))
-
-  bests-past : (n u j : ℕ) → n ≤ j → getD (map f (bestsFrom d n u)) j z ≡ z
-  unfolding bestsFrom
-  bests-past zero u j h = refl
-  bests-past (suc n) u zero h = absurd (omega arith)
-  bests-past (suc n) u (suc j) h = bests-past n (suc u) j (omega arith)
-
-  bests-place : (W w : ℕ) → 1 ≤ w → w ≤ W → getD (padded widthMax z (map f (bestsFrom d W 1))) (w - 1) z ≡ f (moduleBest d w)
-  bests-place W w h k =
-      let e : 1 + (w - 1) ≡ w = omega arith in
-      padded-at widthMax z (map f (bestsFrom d W 1)) (w - 1) ∙ bests-at W 1 (w - 1) (omega arith) ∙ rw e
-
-module _ (d : Module) (W : ℕ) where
-  pub times-at : (w : ℕ) → 1 ≤ w → w ≤ W → getD (timesOf d W .cycles) (w - 1) (cycles 0) ≡ cycles (moduleBest d w .cycles)
-  unfolding timesOf
-  times-at = bests-place cyclesIn (cycles 0) d W
-
-  pub wires-at : (w : ℕ) → 1 ≤ w → w ≤ W → getD (timesOf d W .wires) (w - 1) (wires 0) ≡ wires (moduleBest d w .wires)
-  unfolding timesOf
-  wires-at = bests-place answers.wiresIn (wires 0) d W
-
-  pub times-past : (j : ℕ) → W ≤ j → getD (timesOf d W .cycles) j (cycles 0) ≡ cycles 0
-  unfolding timesOf
-  times-past j h = padded-at widthMax (cycles 0) (map cyclesIn (bestsFrom d W 1)) j ∙ bests-past cyclesIn (cycles 0) d W 1 j h
-
-  -- no time is above the limit
-  times-most : Kept d → (j : ℕ) → getD (timesOf d W .cycles) j (cycles 0) .0 ≤ moduleTimeMax
-  times-most k j = ⊎-elim
-      (λ h.
-      let e : suc j - 1 ≡ j = omega arith in
-      let t = rw e at (times-at (suc j) (omega arith) (omega arith)) in
-      rw (t, ← time-at d (suc j) (omega arith)) (module-most d (moduleBest d (suc j) .wires) k))
-      (λ h. rw (times-past j h) (omega arith))
-      (below-or j W)
-
-  times-fall : (v w : ℕ) → 1 ≤ v → v ≤ w → getD (timesOf d W .cycles) (w - 1) (cycles 0) .0 ≤ getD (timesOf d W .cycles) (v - 1) (cycles 0) .0
-  times-fall v w h k = ⊎-elim
-      (λ l. rw (times-past (w - 1) (omega arith)) (omega arith))
-      (λ l. rw (times-at w (omega arith) l, times-at v h (omega arith)) (time-falls d v w h k))
-      (below-or W w)
 
 -- the numbers of the planned modules are those of modules
 planned-below : (m : ℕ) (ds : List Module) (i : ℕ) → i < length (plannedFrom m ds) → getD (plannedFrom m ds) i 0 < m + length ds
@@ -109,66 +54,84 @@ planned-number s i h =
     let l = length-take (s .«module_count») (s .modules) in
     (omega arith, omega arith)
 
-pub planned-kept : (s : Soc) (i : ℕ) → goodSoc s ≡ true → i < length (plannedOf s) → Kept (plannedModule s i)
-planned-kept s i g h = good-kept s (getD (plannedOf s) i 0) g (planned-number s i h .0)
+-- a planned module's time is at most the limit, and does not rise with the width
+pub time-limit : (s : Soc) (i w : ℕ) → goodSoc s ≡ true → i < length (plannedOf s) → 1 ≤ w → timeIn s i w ≤ moduleTimeMax
+unfolding timeIn
+time-limit s i w good h k = time-most s (getD (plannedOf s) i 0) good (planned-number s i h .0) w k
 
--- the tables hold the times of the planned modules
-module _ {s : Soc} {W n : ℕ} {t : Tables} (a : TablesAre s W n t) where
-  pub table-time : (i w : ℕ) → i < n → 1 ≤ w → w ≤ W → W ≤ 64 → tableTime (t .cycles) i w ≡ timeIn s i w
-  unfolding timeIn
-  table-time i w h l k m = a .cycles-are i (w - 1) h (omega arith) ∙ ap (λ c. c .0) (times-at (plannedModule s i) W w l k)
+time-fall : (s : Soc) (i v w : ℕ) → 1 ≤ v → v ≤ w → timeIn s i w ≤ timeIn s i v
+unfolding timeIn
+time-fall s i v w h k = time-falls (plannedModule s i) v w h k
 
-  pub table-wires : (i w : ℕ) → i < n → 1 ≤ w → w ≤ W → W ≤ 64 → getD (t .wires) (i * 64 + (w - 1)) 0 ≡ wiresIn s i w
-  unfolding wiresIn
-  table-wires i w h l k m = a .wires-are i (w - 1) h (omega arith) ∙ ap (λ c. c .0) (wires-at (plannedModule s i) W w l k)
+-- the tables hold the times of the planned modules: a table to search over
+module _ {s : Soc} {W n : ℕ} {t : Tables} (a : TablesAre s W n t) (good : goodSoc s ≡ true) (count : n ≡ length (plannedOf s)) where
+  row-most : (i j : ℕ) → i < n → j < 64 → getD (t .cycles) (i * 64 + j) 0 ≤ moduleTimeMax
+  row-most i j h k = ⊎-elim
+      (λ l.
+      let e : suc j - 1 ≡ j = omega arith in
+      rw (rw e at (a .cycles-are i (suc j) h (omega arith) (omega arith))) (time-limit s i (suc j) good (omega arith) (omega arith)))
+      (λ l. rw (a .past i j h l k) (omega arith))
+      (below-or j W)
 
-  table-most : goodSoc s ≡ true → n ≡ length (plannedOf s) → (j : ℕ) → getD (t .cycles) j 0 ≤ moduleTimeMax
-  table-most g e j = ⊎-elim
+  table-most : (j : ℕ) → getD (t .cycles) j 0 ≤ moduleTimeMax
+  table-most j = ⊎-elim
       (λ h.
       let p : j / 64 * 64 + j % 64 ≡ j = omega arith in
-      let q : j / 64 < n = omega arith in
-      rw (rw p at (a .cycles-are (j / 64) (j % 64) q (omega arith))) (times-most (plannedModule s (j / 64)) W (planned-kept s (j / 64) g (omega arith)) (j % 64)))
+      rw p at (row-most (j / 64) (j % 64) (omega arith) (omega arith)))
       (λ h. rw (a .spare j h) (omega arith))
       (below-or j (n * 64))
 
-  pub table-is : goodSoc s ≡ true → n ≡ length (plannedOf s) → length (t .cycles) ≡ 768 → n ≤ 12 → IsTable (t .cycles) n
-  table-is g e l m =
-      record {
-        long = omega arith;
-        times = λ i w. omega (arith, table-most g e (i * 64 + (w - 1)));
-        falls = λ i v w h k o p.
-            rw (a .cycles-are i (v - 1) h (omega arith), a .cycles-are i (w - 1) h (omega arith)) (times-fall (plannedModule s i) W v w k o);
-      }
+  row-falls : (i v w : ℕ) → i < n → 1 ≤ v → v ≤ w → w ≤ 64 → tableTime (t .cycles) i w ≤ tableTime (t .cycles) i v
+  row-falls i v w h k o p = ⊎-elim
+      (λ l. rw (a .past i (w - 1) h (omega arith) (omega arith)) (omega arith))
+      (λ l. rw (a .cycles-are i w h (omega arith) l, a .cycles-are i v h k (omega arith)) (time-fall s i v w k o))
+      (below-or W w)
 
--- no times stand in the tables yet, and those of one planned module more do
+  pub table-is : length (t .cycles) ≡ 768 → n ≤ 12 → IsTable (t .cycles) n
+  table-is l m = record { long = omega arith; times = λ i w. omega (arith, table-most (i * 64 + (w - 1))); falls = row-falls }
+
+-- no times stand in the tables yet, and what the wrapper layer answers for one planned module more does
 pub tables-none : (s : Soc) (W : ℕ) → TablesAre s W 0 (record { cycles = replicate 768 0; wires = replicate 768 0 })
 tables-none s W =
     record {
-      cycles-are = λ i w h k. absurd (omega arith);
-      wires-are = λ i w h k. absurd (omega arith);
+      cycles-are = λ i w h k l. absurd (omega arith);
+      wires-are = λ i w h k l. absurd (omega arith);
+      past = λ i j h k l. absurd (omega arith);
       spare = λ j h. replicate-at 768 0 j;
     }
 
-pub tables-more : {s : Soc} {W k : ℕ} {t r : Tables} → TablesAre s W k t → TimesStand t k (timesAt s W k) r → TablesAre s W (k + 1) r
-tables-more {s} {W} {k} {t} {r} a b =
-    record {
-      cycles-are = λ i w h m.
-          below-more (λ j. getD (r .cycles) (j * 64 + w) 0 ≡ getD (timesAt s W j .cycles) w (cycles 0) .0) k
-          (λ j l. b .cycles-else (j * 64 + w) .0 (omega arith) ∙ a .cycles-are j w l m)
-          (b .cycles-here w m) i h;
-      wires-are = λ i w h m.
-          below-more (λ j. getD (r .wires) (j * 64 + w) 0 ≡ getD (timesAt s W j .wires) w (wires 0) .0) k
-          (λ j l. b .wires-else (j * 64 + w) .0 (omega arith) ∙ a .wires-are j w l m)
-          (b .wires-here w m) i h;
-      spare = λ j h. b .cycles-else j .1 (omega arith) ∙ a .spare j (omega arith);
-    }
+module _ (s : Soc) (W k : ℕ) {t r : Tables} (good : goodSoc s ≡ true) (h : k < length (plannedOf s)) (low : 1 ≤ W) (high : W ≤ 64)
+    (b : TimesStand t k (moduleTimesAnswer s (getD (plannedOf s) k 0) W .times) r) where
+  there : getD (plannedOf s) k 0 < s .«module_count»
+  there = planned-number s k h .0
 
--- what the wrapper layer answers for a planned module
-pub times-asked : (s : Soc) (W i : ℕ) → goodSoc s ≡ true → i < length (plannedOf s) → 1 ≤ W → W ≤ 64
-    → moduleTimesAnswer s (getD (plannedOf s) i 0) W .times ≡ timesAt s W i
-unfolding moduleTimesAnswer askedModule
-times-asked s W i g h l m =
-    rw (g, le-leb 1 W l, le-leb W widthMax m, lt-ltb (getD (plannedOf s) i 0) (s .«module_count») (planned-number s i h .0))
+  cycles-here : (w : ℕ) → 1 ≤ w → w ≤ W → getD (r .cycles) (k * 64 + (w - 1)) 0 ≡ timeIn s k w
+  unfolding timeIn
+  cycles-here w l m =
+      b .cycles-here (w - 1) (omega arith) ∙ ap (λ c. c .0) (times-at s (getD (plannedOf s) k 0) good there W low high w l m)
+
+  wires-here : (w : ℕ) → 1 ≤ w → w ≤ W → getD (r .wires) (k * 64 + (w - 1)) 0 ≡ wiresIn s k w
+  unfolding wiresIn
+  wires-here w l m =
+      b .wires-here (w - 1) (omega arith) ∙ ap (λ c. c .0) (wires-at s (getD (plannedOf s) k 0) good there W low high w l m)
+
+  past-here : (j : ℕ) → W ≤ j → j < 64 → getD (r .cycles) (k * 64 + j) 0 ≡ 0
+  past-here j l m = b .cycles-here j m ∙ ap (λ c. c .0) (times-past s (getD (plannedOf s) k 0) good there W low high j l)
+
+  pub tables-more : TablesAre s W k t → TablesAre s W (k + 1) r
+  tables-more a =
+      record {
+        cycles-are = λ i w l.
+            below-more (λ j. 1 ≤ w → w ≤ W → getD (r .cycles) (j * 64 + (w - 1)) 0 ≡ timeIn s j w) k
+            (λ j l m n. b .cycles-else (j * 64 + (w - 1)) .0 (omega arith) ∙ a .cycles-are j w l m n) (cycles-here w) i l;
+        wires-are = λ i w l.
+            below-more (λ j. 1 ≤ w → w ≤ W → getD (r .wires) (j * 64 + (w - 1)) 0 ≡ wiresIn s j w) k
+            (λ j l m n. b .wires-else (j * 64 + (w - 1)) .0 (omega arith) ∙ a .wires-are j w l m n) (wires-here w) i l;
+        past = λ i x l.
+            below-more (λ j. W ≤ x → x < 64 → getD (r .cycles) (j * 64 + x) 0 ≡ 0) k
+            (λ j l m n. b .cycles-else (j * 64 + x) .0 (omega arith) ∙ a .past j x l m n) (past-here x) i l;
+        spare = λ j l. b .cycles-else j .1 (omega arith) ∙ a .spare j (omega arith);
+      }
 
 -- two times that agree on the plans of a list
 least-same : (u v : Plan → ℕ) (p : Plan) (ps : List Plan) → u p ≡ v p → ((q : Plan) → List·Memᴰ q ps → u q ≡ v q) → firstLeast u p ps ≡ firstLeast v p ps

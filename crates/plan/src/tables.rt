@@ -9,7 +9,7 @@ ghost use Prim.Native.Nat.{_≤_, _<_};
 ghost use lib.ListN.{length};
 ghost use Rattle.soc.specs.Rules.{goodSoc};
 ghost use Rattle.soc.specs.Planned.{plannedOf, plannedIs};
-ghost use Rattle.plan.specs.Tables.{TablesAre, TimesStand, timesAt};
+ghost use Rattle.plan.specs.Tables.{TablesAre, TimesStand};
 
 // 64 places for each planned module, one for each width.
 pub struct Tables {

@@ -13,8 +13,7 @@ use lib.Seq.{drop-cons}
 use borrow.Author.Tests.{ltb-true, ltb-false, eq-eqb, ne-eqb}
 use Rattle.units.specs.declared.FlipFlops.{FlipFlops}
 use Rattle.soc.specs.Record.{flipFlops}
-use Rattle.wrapper.specs.Chains.{numberedFrom, insert, ordered}
-use Rattle.wrapper.specs.Answers.{noChain}
+use Rattle.wrapper.specs.Chains.{noChain, numberedFrom, insert, ordered, sumOver, one, howMany}
 use Rattle.wrapper.specs.declared.chains.Chain.{Chain}
 use Rattle.wrapper.proofs.ChainLaws.{Each, each-at, ordered-each, ordered-length, numbered-length}
 
@@ -119,10 +118,6 @@ module _ (n : ℕ) (fs : List FlipFlops) where
       ordered-behind (λ c d. c .number < d .number) (λ a b c p q. omega arith) (numberedFrom n fs) (numbered-pairs n fs) i j h k .same
 
 -- the sum of a figure over the chains does not depend on the order
-unfoldable pub sumOver : (Chain → ℕ) → List Chain → ℕ
-sumOver g [] = 0
-sumOver g (c ∷ cs) = g c + sumOver g cs
-
 insert-sum : (g : Chain → ℕ) (c : Chain) (cs : List Chain) → sumOver g (insert c cs) ≡ g c + sumOver g cs
 unfolding insert sumOver
 insert-sum g c [] = refl
@@ -138,67 +133,61 @@ ordered-sum g [] = refl
 ordered-sum g (c ∷ cs) = insert-sum g c (ordered cs) ∙ ap (λ n. g c + n) (ordered-sum g cs)
 
 -- how many chains have number n
-abbrev pub one : ℕ → Chain → ℕ
-one n c = cond (eqb (c .number) n) 1 0
-
-unfoldable pub times : ℕ → List Chain → ℕ
-times n cs = sumOver (one n) cs
-
-pub ordered-same : (n : ℕ) (cs : List Chain) → times n (ordered cs) ≡ times n cs
-unfolding times
+pub ordered-same : (n : ℕ) (cs : List Chain) → howMany n (ordered cs) ≡ howMany n cs
+unfolding howMany
 ordered-same n cs = ordered-sum (one n) cs
 
-times-none : (n : ℕ) → times n [] ≡ 0
-unfolding times sumOver
-times-none n = refl
+many-none : (n : ℕ) → howMany n [] ≡ 0
+unfolding howMany sumOver
+many-none n = refl
 
-pub times-here : (n : ℕ) (c : Chain) (cs : List Chain) → c .number ≡ n → times n (c ∷ cs) ≡ suc (times n cs)
-unfolding times sumOver
-times-here n c cs e = rw (eq-eqb (c .number) n e) (omega arith)
+pub many-here : (n : ℕ) (c : Chain) (cs : List Chain) → c .number ≡ n → howMany n (c ∷ cs) ≡ suc (howMany n cs)
+unfolding howMany sumOver
+many-here n c cs e = rw (eq-eqb (c .number) n e) (omega arith)
 
-pub times-other : (n : ℕ) (c : Chain) (cs : List Chain) → (c .number ≡ n → ⊥) → times n (c ∷ cs) ≡ times n cs
-unfolding times sumOver
-times-other n c cs e = rw (ne-eqb (c .number) n e) (omega arith)
+pub many-other : (n : ℕ) (c : Chain) (cs : List Chain) → (c .number ≡ n → ⊥) → howMany n (c ∷ cs) ≡ howMany n cs
+unfolding howMany sumOver
+many-other n c cs e = rw (ne-eqb (c .number) n e) (omega arith)
 
-pub times-behind : (n : ℕ) (c : Chain) (cs : List Chain) → times n cs ≤ times n (c ∷ cs)
-unfolding times sumOver
-times-behind n c cs = omega arith
+pub many-behind : (n : ℕ) (c : Chain) (cs : List Chain) → howMany n cs ≤ howMany n (c ∷ cs)
+unfolding howMany sumOver
+many-behind n c cs = omega arith
 
 -- each number from i on stands once
-pub numbered-before : (n i : ℕ) (fs : List FlipFlops) → n < i → times n (numberedFrom i fs) ≡ 0
+pub numbered-before : (n i : ℕ) (fs : List FlipFlops) → n < i → howMany n (numberedFrom i fs) ≡ 0
 unfolding numberedFrom
-numbered-before n i [] h = times-none n
+numbered-before n i [] h = many-none n
 numbered-before n i (f ∷ fs) h =
-    times-other n (record { number = i; length = f .0 }) (numberedFrom (suc i) fs) (λ e. omega arith) ∙ numbered-before n (suc i) fs (omega arith)
+    many-other n (record { number = i; length = f .0 }) (numberedFrom (suc i) fs) (λ e. omega arith) ∙ numbered-before n (suc i) fs (omega arith)
 
-pub numbered-past : (n i : ℕ) (fs : List FlipFlops) → i + length fs ≤ n → times n (numberedFrom i fs) ≡ 0
+pub numbered-past : (n i : ℕ) (fs : List FlipFlops) → i + length fs ≤ n → howMany n (numberedFrom i fs) ≡ 0
 unfolding numberedFrom
-numbered-past n i [] h = times-none n
+numbered-past n i [] h = many-none n
 numbered-past n i (f ∷ fs) h =
-    times-other n (record { number = i; length = f .0 }) (numberedFrom (suc i) fs) (λ e. omega arith) ∙ numbered-past n (suc i) fs (omega arith)
+    many-other n (record { number = i; length = f .0 }) (numberedFrom (suc i) fs) (λ e. omega arith) ∙ numbered-past n (suc i) fs (omega arith)
 
-pub numbered-once : (n i : ℕ) (fs : List FlipFlops) → i ≤ n → n < i + length fs → times n (numberedFrom i fs) ≡ 1
+pub numbered-once : (n i : ℕ) (fs : List FlipFlops) → i ≤ n → n < i + length fs → howMany n (numberedFrom i fs) ≡ 1
 unfolding numberedFrom
 numbered-once n i [] h k = absurd (omega arith)
 numbered-once n i (f ∷ fs) h k =
     ⊎-elim
-    (λ e. times-here n c (numberedFrom (suc i) fs) e ∙ ap suc (numbered-before n (suc i) fs (omega arith)))
-    (λ l. times-other n c (numberedFrom (suc i) fs) (λ e. omega arith) ∙ numbered-once n (suc i) fs l (omega arith))
+    (λ e. many-here n c (numberedFrom (suc i) fs) e ∙ ap suc (numbered-before n (suc i) fs (omega arith)))
+    (λ l. many-other n c (numberedFrom (suc i) fs) (λ e. omega arith) ∙ numbered-once n (suc i) fs l (omega arith))
     (eq-or-lt-of-le h)
   where
     c : Chain
     c = record { number = i; length = f .0 }
 
-pub ordered-once : (n : ℕ) (fs : List FlipFlops) → n < length fs → times n (ordered (numberedFrom 0 fs)) ≡ 1
+pub ordered-once : (n : ℕ) (fs : List FlipFlops) → n < length fs → howMany n (ordered (numberedFrom 0 fs)) ≡ 1
 ordered-once n fs h = ordered-same n (numberedFrom 0 fs) ∙ numbered-once n 0 fs (omega arith) (omega arith)
 
-pub ordered-none : (n : ℕ) (fs : List FlipFlops) → length fs ≤ n → times n (ordered (numberedFrom 0 fs)) ≡ 0
+pub ordered-none : (n : ℕ) (fs : List FlipFlops) → length fs ≤ n → howMany n (ordered (numberedFrom 0 fs)) ≡ 0
 ordered-none n fs h = ordered-same n (numberedFrom 0 fs) ∙ numbered-past n 0 fs (omega arith)
 
-pub ordered-few : (n : ℕ) (fs : List FlipFlops) → times n (ordered (numberedFrom 0 fs)) ≤ 1
+pub ordered-few : (n : ℕ) (fs : List FlipFlops) → howMany n (ordered (numberedFrom 0 fs)) ≤ 1
 ordered-few n fs = go (ltb n (length fs)) refl
   where
-    go : (t : Bool) → ltb n (length fs) ≡ t → times n (ordered (numberedFrom 0 fs)) ≤ 1
+    go : (t : Bool) → ltb n (length fs) ≡ t → howMany n (ordered (numberedFrom 0 fs)) ≤ 1
     go true e = omega (arith, ordered-once n fs (ltb-true n (length fs) e))
     go false e = omega (arith, ordered-none n fs (ltb-false n (length fs) e))
 

@@ -11,7 +11,7 @@ use lib.ListN.{length, getD, drop, set, replicate, length-set, drop-of-length-le
 use lib.Seq.{drop-cons}
 use borrow.Author.Count.{below-more}
 use borrow.Author.Tests.{ltb-true, ltb-false, leb-true, lt-ltb, le-ltb, le-leb, lt-leb}
-use Rattle.wrapper.specs.Fit.{longest, better, bestFrom, goes, placed, withCells}
+use Rattle.wrapper.specs.Fit.{longest, total, better, bestFrom, goes, placed, withCells}
 
 -- what both ways have, the answer has
 either : {A : Type 0} (P : A → Type 0) (t : Bool) (a b : A) → (t ≡ true → P a) → (t ≡ false → P b) → P (cond t a b)
@@ -94,10 +94,6 @@ cells-longest zero l = omega arith
 cells-longest (suc n) l = omega (arith, cells-longest n (placed 1 l), placed-longest 1 l)
 
 -- the sum of the lengths
-unfoldable pub total : List ℕ → ℕ
-total [] = 0
-total (x ∷ l) = x + total l
-
 total-set : (l : List ℕ) (i v : ℕ) → i < length l → total (set l i v) + getD l i 0 ≡ total l + v
 unfolding total
 total-set [] i v h = omega arith

@@ -21,8 +21,9 @@ use Rattle.soc.specs.declared.record.Module.{Module}
 use Rattle.soc.specs.declared.record.Soc.{Soc}
 use Rattle.units.proofs.PlaceLaws.{padded-at}
 use Rattle.wrapper.specs.Fit.{longest, longestAfter}
-use Rattle.wrapper.specs.Chains.{numberedFrom, usedChains, thread, empty, threaded}
-use Rattle.wrapper.specs.Answers.{widthMax, noChain, front, orderOf, Threadable}
+use Rattle.wrapper.specs.Chains.{noChain, numberedFrom, usedChains, thread, empty, threaded}
+use Rattle.wrapper.specs.Answers.{widthMax}
+use Rattle.wrapper.specs.Held.{front, orderOf, Threadable}
 use Rattle.wrapper.specs.Scans.{scanOf, scanIf, Short, Kept}
 use Rattle.wrapper.specs.declared.chains.Chain.{Chain}
 use Rattle.wrapper.specs.Times.{inputCells, outputCells}
@@ -120,7 +121,7 @@ modules-kept power xy m last (d ∷ ds) h (suc i) =
     modules-kept power xy (suc m) (d .level) ds (and-both (goodModule power xy m last d) (goodModules power xy (suc m) (d .level) ds) h .1) i
 
 -- each module in use of a good record is within the limits, and the record has at most 40
-good-parts : (s : Soc) → goodSoc s ≡ true → (leb (s .«module_count») modulesMax ≡ true) × (goodModules (s .power) (s .xy) 0 0 (modulesOf s) ≡ true)
+pub good-parts : (s : Soc) → goodSoc s ≡ true → (leb (s .«module_count») modulesMax ≡ true) × (goodModules (s .power) (s .xy) 0 0 (modulesOf s) ≡ true)
 unfolding goodSoc
 good-parts s h =
     let named = and-both (goodName s) _ h in

@@ -16,14 +16,15 @@ use Rattle.units.specs.Places.{padded}
 use Rattle.soc.specs.Record.{chainsOf, flipFlops}
 use Rattle.soc.specs.declared.record.Module.{Module}
 use Rattle.units.proofs.PlaceLaws.{padded-at}
-use Rattle.wrapper.specs.Fit.{longest, goes, placed, withCells, longestAfter}
-use Rattle.wrapper.specs.Chains.{numberedFrom, ordered, usedChains, Threaded, thread, empty, threaded}
+use Rattle.wrapper.specs.Fit.{longest, total, goes, placed, withCells, longestAfter}
+use Rattle.wrapper.specs.Chains.{numberedFrom, ordered, sumOver, howMany, usedChains, Threaded, thread, empty, threaded}
 use Rattle.wrapper.specs.Times.{inputCells, outputCells, scanIn, scanOut}
 use Rattle.wrapper.specs.Answers.{widthMax, gained, layoutOf}
+use Rattle.wrapper.specs.Laid.{lengthsIn, added}
 use Rattle.wrapper.specs.declared.chains.Chain.{Chain}
-use Rattle.wrapper.proofs.FitLaws.{goes-below, placed-length, cells-length, cells-grow, total, total-cells}
+use Rattle.wrapper.proofs.FitLaws.{goes-below, placed-length, cells-length, cells-grow, total-cells}
 use Rattle.wrapper.proofs.ChainLaws.{Each, withOne, thread-length, thread-places-length}
-use Rattle.wrapper.proofs.ChainOrder.{sumOver, ordered-sum, times, times-here, times-other, times-behind, ordered-once, ordered-none, ordered-few, IsChain, ordered-each-is}
+use Rattle.wrapper.proofs.ChainOrder.{ordered-sum, many-here, many-other, many-behind, ordered-once, ordered-none, ordered-few, IsChain, ordered-each-is}
 
 -- where one chain goes
 module _ (c : Chain) (t : Threaded) (j : ℕ) where
@@ -38,12 +39,12 @@ abbrev Within : ℕ → ℕ → Type 0
 Within k p = (1 ≤ p) × (p ≤ k)
 
 -- an internal chain that is not taken stays where it is
-thread-keeps : (j : ℕ) (cs : List Chain) (t : Threaded) → times j cs ≡ 0 → getD (thread cs t .places) j 0 ≡ getD (t .places) j 0
+thread-keeps : (j : ℕ) (cs : List Chain) (t : Threaded) → howMany j cs ≡ 0 → getD (thread cs t .places) j 0 ≡ getD (t .places) j 0
 unfolding thread
 thread-keeps j [] t e = refl
 thread-keeps j (c ∷ cs) t e =
-    let n : (c .number ≡ j → ⊥) = λ q. omega (arith, times-here j c cs q) in
-    thread-keeps j cs (withOne c t) (sym (times-other j c cs n) ∙ e) ∙ one-other c t j n
+    let n : (c .number ≡ j → ⊥) = λ q. omega (arith, many-here j c cs q) in
+    thread-keeps j cs (withOne c t) (sym (many-other j c cs n) ∙ e) ∙ one-other c t j n
 
 module _ (k : ℕ) (pos : 1 ≤ k) (j : ℕ) where
   one-within : (c : Chain) (t : Threaded) → length (t .lengths) ≡ k → j < length (t .places) → c .number ≡ j → Within k (getD (withOne c t .places) j 0)
@@ -63,8 +64,8 @@ module _ (k : ℕ) (pos : 1 ≤ k) (j : ℕ) where
       go false q = rw (one-other c t j (eqb-false (c .number) j q)) w
 
   -- one that is taken gets a place
-  thread-gets : (cs : List Chain) (t : Threaded) → length (t .lengths) ≡ k → j < length (t .places) → 1 ≤ times j cs → Within k (getD (thread cs t .places) j 0)
-  unfolding thread times sumOver
+  thread-gets : (cs : List Chain) (t : Threaded) → length (t .lengths) ≡ k → j < length (t .places) → 1 ≤ howMany j cs → Within k (getD (thread cs t .places) j 0)
+  unfolding thread howMany sumOver
   thread-gets [] t e h w = absurd (omega arith)
   thread-gets (c ∷ cs) t e h w =
       go (eqb (c .number) j) refl (thread-gets cs (withOne c t) l p)
@@ -75,9 +76,9 @@ module _ (k : ℕ) (pos : 1 ≤ k) (j : ℕ) where
       p : j < length (withOne c t .places)
       p = rw (length-set (t .places) (c .number) (suc (goes (c .length) (t .lengths)))) h
 
-      go : (b : Bool) → eqb (c .number) j ≡ b → (1 ≤ times j cs → Within k (getD (thread cs (withOne c t) .places) j 0)) → Within k (getD (thread cs (withOne c t) .places) j 0)
+      go : (b : Bool) → eqb (c .number) j ≡ b → (1 ≤ howMany j cs → Within k (getD (thread cs (withOne c t) .places) j 0)) → Within k (getD (thread cs (withOne c t) .places) j 0)
       go true q f = thread-stays cs (withOne c t) l p (one-within c t e h (eqb-true (c .number) j q))
-      go false q f = f (omega (arith, times-other j c cs (eqb-false (c .number) j q)))
+      go false q f = f (omega (arith, many-other j c cs (eqb-false (c .number) j q)))
 
 zeros-at : (n j : ℕ) → getD {A = ℕ} (replicate n 0) j 0 ≡ 0
 zeros-at zero j = refl
@@ -107,12 +108,6 @@ pub unused : (d : Module) (k j : ℕ) → getD (threaded d false k .places) j 0 
 unfolding threaded usedChains thread
 unused d k j = zeros-at chainsMax j
 
--- the lengths of the internal chains that lie in wrapper chain i
-unfoldable pub lengthsIn : ℕ → List ℕ → List FlipFlops → ℕ
-lengthsIn i ps [] = 0
-lengthsIn i [] (f ∷ fs) = 0
-lengthsIn i (p ∷ ps) (f ∷ fs) = cond (eqb p i) (f .0 + lengthsIn i ps fs) (lengthsIn i ps fs)
-
 -- the length of chain c, where it lies in wrapper chain i
 abbrev lengthIn : ℕ → List ℕ → Chain → ℕ
 lengthIn i ps c = cond (eqb (getD ps (c .number) 0) i) (c .length) 0
@@ -130,15 +125,15 @@ placed-at n l i h = go (eqb (suc (goes n l)) (suc i)) refl
         omega (arith, getD-set-other l (goes n l) i (getD l (goes n l) 0 + n) 0 e)
 
 -- a wrapper chain grows by the chains that lie in it at the end
-thread-sum : (n i : ℕ) (cs : List Chain) (t : Threaded) → 0 < length (t .lengths) → length (t .places) ≡ n → Each (λ c. c .number < n) cs → ((m : ℕ) → times m cs ≤ 1) → getD (thread cs t .lengths) i 0 ≡ getD (t .lengths) i 0 + sumOver (lengthIn (suc i) (thread cs t .places)) cs
+thread-sum : (n i : ℕ) (cs : List Chain) (t : Threaded) → 0 < length (t .lengths) → length (t .places) ≡ n → Each (λ c. c .number < n) cs → ((m : ℕ) → howMany m cs ≤ 1) → getD (thread cs t .lengths) i 0 ≡ getD (t .lengths) i 0 + sumOver (lengthIn (suc i) (thread cs t .places)) cs
 unfolding thread sumOver
 thread-sum n i [] t h e w o = omega arith
 thread-sum n i (c ∷ cs) t h e w o =
-    let u : times (c .number) cs ≡ 0 = omega (arith, o (c .number), times-here (c .number) c cs refl) in
+    let u : howMany (c .number) cs ≡ 0 = omega (arith, o (c .number), many-here (c .number) c cs refl) in
     let at = thread-keeps (c .number) cs (withOne c t) u ∙ one-here c t (c .number) refl (omega (arith, w .0)) in
     let l : 0 < length (placed (c .length) (t .lengths)) = rw (placed-length (c .length) (t .lengths)) h in
     let p = length-set (t .places) (c .number) (suc (goes (c .length) (t .lengths))) ∙ e in
-    let r = thread-sum n i cs (withOne c t) l p (w .1) (λ m. omega (arith, o m, times-behind m c cs)) in
+    let r = thread-sum n i cs (withOne c t) l p (w .1) (λ m. omega (arith, o m, many-behind m c cs)) in
     rw at (omega (arith, r, placed-at (c .length) (t .lengths) i h))
 
 -- the same sum over the chains in file order
@@ -272,12 +267,6 @@ module _ (d : Module) (scan : Bool) (k i : ℕ) (past : k ≤ i) where
   pub past-output-cells : getD (layoutOf d (threaded d scan k) .«output_cells») i 0 ≡ 0
   unfolding layoutOf
   past-output-cells = past-cells (outputCells d)
-
--- flip-flops and cells of each wrapper chain together
-unfoldable pub added : List FlipFlops → List ℕ → List ℕ
-added [] ys = []
-added (f ∷ fs) [] = []
-added (f ∷ fs) (y ∷ ys) = (f .0 + y) ∷ added fs ys
 
 longest-added : (xs ys : List ℕ) (m : ℕ) → length xs ≡ length ys → ((i : ℕ) → getD xs i 0 ≤ getD ys i 0) → longest (added (map flipFlops xs ++ replicate m (flipFlops 0)) (gained xs ys ++ replicate m 0)) ≡ longest ys
 unfolding added longest gained

@@ -5,4 +5,5 @@ pub mod FitLaws
 pub mod KeptLaws
 pub mod LaidLaws
 pub mod LayoutLaws
+pub mod PromisedTimes
 pub mod TimeLaws

@@ -22,7 +22,9 @@ use Rattle.soc.specs.declared.record.Soc.{Soc}
 use Rattle.units.proofs.PlaceLaws.{padded-set}
 use Rattle.wrapper.specs.Chains.{usedChains}
 use Rattle.wrapper.specs.Times.{scanIn, scanOut, testCycles, testTime, sumTimes, figure, Best, bestTo, moduleBest}
-use Rattle.wrapper.specs.Answers.{widthMax, orderOf, askedModule, askedTest, noAsked, isAsked, foundModule, foundTest, bestsFrom}
+use Rattle.wrapper.specs.Maxima.{testTimeMax, moduleTimeMax}
+use Rattle.wrapper.specs.Answers.{widthMax, askedModule, askedTest, bestsFrom}
+use Rattle.wrapper.specs.Held.{orderOf, noAsked, isAsked, foundModule, foundTest}
 use Rattle.wrapper.specs.Scans.{scanOf, scanIf, Short, Kept, plannedWith, plannedCycles, sumScans}
 use Rattle.wrapper.specs.declared.times.Scan.{Scan}
 use Rattle.wrapper.specs.declared.asked.AskedModule.{AskedModule}
@@ -33,15 +35,15 @@ use Rattle.wrapper.proofs.KeptLaws.{good-kept, held-threaded, short-sca
 pub product-most : (s p : ℕ) → s ≤ 278526 → p ≤ 16777215 → (1 + s) * p ≤ 4672907362305
 product-most s p h m = mul-le-mul {n₁ = 1 + s} {n₂ = 278527} {m₂ = 16777215} (omega arith) m
 
-pub cycles-most : (si so p : ℕ) → si ≤ 278526 → so ≤ 278526 → p ≤ 16777215 → testCycles si so p ≤ 4672907640831
+pub cycles-most : (si so p : ℕ) → si ≤ 278526 → so ≤ 278526 → p ≤ 16777215 → testCycles si so p ≤ testTimeMax
 unfolding testCycles
 cycles-most si so p h k m = omega (arith, product-most (max si so) p (omega arith) m)
 
-pub planned-most : (a b : Scan) (t : Test) → Short a → Short b → t .patterns ≤ 16777215 → plannedCycles a b t ≤ 4672907640831
+pub planned-most : (a b : Scan) (t : Test) → Short a → Short b → t .patterns ≤ 16777215 → plannedCycles a b t ≤ testTimeMax
 unfolding plannedCycles
 planned-most a b t h k m = go (t .«tam_use») (t .«scan_use»)
   where
-    go : (x y : Bool) → cond x (cond y (testCycles (a .si) (a .so) (t .patterns)) (testCycles (b .si) (b .so) (t .patterns))) 0 ≤ 4672907640831
+    go : (x y : Bool) → cond x (cond y (testCycles (a .si) (a .so) (t .patterns)) (testCycles (b .si) (b .so) (t .patterns))) 0 ≤ testTimeMax
     go true true = cycles-most (a .si) (a .so) (t .patterns) (h .si) (h .so) m
     go true false = cycles-most (b .si) (b .so) (t .patterns) (k .si) (k .so) m
     go false y = omega arith
@@ -57,22 +59,22 @@ unfolding testTime
 scan-time d w t = ap (λ s. testCycles (s .si) (s .so) (t .patterns)) (scan-is d (t .«scan_use») w)
 
 -- the longest that a test can take, and a module
-pub test-most : (d : Module) (w : ℕ) (t : Test) → Kept d → t .patterns ≤ patternsMax → testTime d w t ≤ 4672907640831
+pub test-most : (d : Module) (w : ℕ) (t : Test) → Kept d → t .patterns ≤ patternsMax → testTime d w t ≤ testTimeMax
 test-most d w t k h =
     let s = short-scan d (t .«scan_use») w k in
     rw (← scan-time d w t)
     (cycles-most (scanOf d (orderOf (usedChains d (t .«scan_use»))) w .si) (scanOf d (orderOf (usedChains d (t .«scan_use»))) w .so) (t .patterns) (s .si) (s .so) h)
 
-sum-most : (d : Module) (w : ℕ) (ts : List Test) → Kept d → ((i : ℕ) → i < length ts → getD ts i noTest .patterns ≤ patternsMax) → sumTimes d w ts ≤ length ts * 4672907640831
+sum-most : (d : Module) (w : ℕ) (ts : List Test) → Kept d → ((i : ℕ) → i < length ts → getD ts i noTest .patterns ≤ patternsMax) → sumTimes d w ts ≤ length ts * testTimeMax
 unfolding sumTimes
 sum-most d w [] k h = omega arith
 sum-most d w (t ∷ ts) k h = go (t .«tam_use») (sum-most d w ts k (λ i m. h (suc i) (omega arith))) (test-most d w t k (h 0 (omega arith)))
   where
-    go : (x : Bool) → sumTimes d w ts ≤ length ts * 4672907640831 → testTime d w t ≤ 4672907640831 → cond x (testTime d w t + sumTimes d w ts) (sumTimes d w ts) ≤ suc (length ts) * 4672907640831
+    go : (x : Bool) → sumTimes d w ts ≤ length ts * testTimeMax → testTime d w t ≤ testTimeMax → cond x (testTime d w t + sumTimes d w ts) (sumTimes d w ts) ≤ suc (length ts) * testTimeMax
     go true a b = omega arith
     go false a b = omega arith
 
-pub module-most : (d : Module) (w : ℕ) → Kept d → figure d w ≤ 37383261126648
+pub module-most : (d : Module) (w : ℕ) → Kept d → figure d w ≤ moduleTimeMax
 unfolding figure
 module-most d w k = omega (arith, sum-most d w (testsOf d) k few, length-take (d .«test_count») (d .tests), k .tests)
   where

@@ -11,6 +11,11 @@ unfoldable pub longest : List ℕ → ℕ
 longest [] = 0
 longest (x ∷ xs) = max x (longest xs)
 
+-- the sum of the lengths
+unfoldable pub total : List ℕ → ℕ
+total [] = 0
+total (x ∷ l) = x + total l
+
 -- for an element of length n, is a wrapper chain of length y a better place than one of length x, where the longest has length m?
 -- One that takes it without passing m is better than one that does not; of two that do, the fuller; of two that do not, the shorter.
 unfoldable pub better : ℕ → ℕ → ℕ → ℕ → Bool

@@ -11,7 +11,7 @@ use Rattle.soc.specs.declared.record.Module.{Module}
 use Rattle.wrapper.specs.Fit.{longestAfter}
 use Rattle.wrapper.specs.Chains.{usedChains, thread, empty}
 use Rattle.wrapper.specs.Times.{inputCells, outputCells, testCycles}
-use Rattle.wrapper.specs.Answers.{front, orderOf}
+use Rattle.wrapper.specs.Held.{front, orderOf}
 use Rattle.wrapper.specs.declared.chains.Order.{Order}
 use Rattle.wrapper.specs.declared.times.Scan.{Scan}
 use Rattle.wrapper.specs.declared.times.Plain.{Plain}

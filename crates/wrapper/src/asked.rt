@@ -10,7 +10,8 @@ use units::Refusal;
 use units::Wires;
 ghost use mathlib.Core.Path.{_≡_};
 ghost use Prim.Native.Nat.{_≤_};
-ghost use Rattle.wrapper.specs.Answers.{noAsked, foundModule, foundTest, noTestTime, testTimeAnswer, noModuleTime, moduleTimeAnswer, noModuleTimes, moduleTimesAnswer};
+ghost use Rattle.wrapper.specs.Answers.{noTestTime, testTimeAnswer, noModuleTime, moduleTimeAnswer, noModuleTimes, moduleTimesAnswer};
+ghost use Rattle.wrapper.specs.Held.{noAsked, foundModule, foundTest};
 
 // The module that is asked for, where number is 0; else the refusal's number, and a module that says nothing.
 pub struct AskedModule {

@@ -14,7 +14,8 @@ ghost use Rattle.units.specs.Places.{anyOf};
 ghost use Rattle.soc.specs.Record.{testsOf};
 ghost use Rattle.wrapper.specs.Chains.{usedChains};
 ghost use Rattle.wrapper.specs.Times.{testCycles, testTime, figure};
-ghost use Rattle.wrapper.specs.Answers.{orderOf, Threadable, timesOf};
+ghost use Rattle.wrapper.specs.Answers.{timesOf};
+ghost use Rattle.wrapper.specs.Held.{orderOf, Threadable};
 ghost use Rattle.wrapper.specs.Scans.{scanOf, Short, Kept, plannedWith, sumScans, plannedCycles, scanIf, plainOf};
 
 // A module's times and wires at the widths from 1 on: place i is for width i + 1.

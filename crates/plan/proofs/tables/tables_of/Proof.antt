@@ -8,8 +8,9 @@ use lib.ListN.{length, getD}
 use Rattle.soc.specs.Planned.{plannedOf}
 use Rattle.wrapper.proofs.KeptLaws.{good-count}
 use Rattle.units.proofs.PlaceLaws.{padded-at}
-use Rattle.plan.specs.Tables.{timesAt, TablesAre}
-use Rattle.plan.proofs.TableLaws.{planned-number, tables-none, tables-more, times-asked}
+use Rattle.wrapper.specs.Answers.{moduleTimesAnswer}
+use Rattle.plan.specs.Tables.{TablesAre}
+use Rattle.plan.proofs.TableLaws.{planned-number, tables-none, tables-more}
 use Rattle.plan.proofs.tables.tables_of.Statement.{statement}
 use Rattle.plan.proofs.tables.tables_of.Tie as tie
 
@@ -66,11 +67,11 @@ loop-again c =
     let i = m .before .before in
     let a = i .before .before in
     let k = i .before .loop .k in
-    let e : m .module-times .result .times ≡ timesAt (a .args .s) (a .args .w .0) k =
-    ap (λ r. r .times) (m .module-times .ensures)
-    ∙ rw (number-is i) (times-asked (a .args .s) (a .args .w .0) k (a .pre .0) (below i) (a .pre .3) (a .pre .4))
+    let e : m .module-times .result .times ≡ moduleTimesAnswer (a .args .s) (getD (plannedOf (a .args .s)) k 0) (a .args .w .0) .times =
+    ap (λ r. r .times) (m .module-times .ensures) ∙ rw (number-is i)
     in
-    (omega arith, tables-more (i .before .loop .inv .1) (rw e at (c .with-times .ensures)))
+    let r = rw e at (c .with-times .ensures) in
+    (omega arith, tables-more (a .args .s) (a .args .w .0) k (a .pre .0) (below i) (a .pre .3) (a .pre .4) r (i .before .loop .inv .1))
 
 returns : tie.Need-returns Inv-loop μ-loop
 returns c =

@@ -4,7 +4,7 @@ use mathlib.Core.Bool.{true, false}
 use Rattle.units.specs.Places.{anyOf}
 use Rattle.soc.specs.Record.{testsOf}
 use Rattle.wrapper.specs.Chains.{usedChains}
-use Rattle.wrapper.specs.Answers.{orderOf}
+use Rattle.wrapper.specs.Held.{orderOf}
 use Rattle.wrapper.specs.Scans.{scanIf, plannedWith}
 use Rattle.wrapper.proofs.KeptLaws.{kept-threadable, short-scan-if}
 use Rattle.wrapper.proofs.TimeLaws.{figure-scans}

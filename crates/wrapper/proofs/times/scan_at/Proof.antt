@@ -7,7 +7,7 @@ use lib.ListN.{take}
 use Rattle.wrapper.specs.Fit.{longestAfter}
 use Rattle.wrapper.specs.Chains.{thread, empty}
 use Rattle.wrapper.specs.Times.{inputCells, outputCells}
-use Rattle.wrapper.specs.Answers.{front}
+use Rattle.wrapper.specs.Held.{front}
 use Rattle.wrapper.specs.Scans.{scanOf}
 use Rattle.wrapper.proofs.ChainLaws.{thread-held, order-longest}
 use Rattle.wrapper.proofs.times.scan_at.Statement.{statement}

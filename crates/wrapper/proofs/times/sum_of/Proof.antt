@@ -7,6 +7,7 @@ use mathlib.Core.Path.{_≡_, sym, ap, _∙_}
 use lib.ListN.{length, length-map, length-take, getD, drop}
 use lib.Seq.{getD-take}
 use Rattle.soc.specs.Record.{noTest, testsOf}
+use Rattle.wrapper.specs.Maxima.{testTimeMax}
 use Rattle.wrapper.specs.Scans.{sumScans, plannedCycles}
 use Rattle.wrapper.proofs.TimeLaws.{planned-most, sum-step, sum-end}
 use Rattle.wrapper.proofs.times.sum_of.Statement.{statement}
@@ -14,7 +15,7 @@ use Rattle.wrapper.proofs.times.sum_of.Tie as tie
 
 abbrev Inv-loop : tie.InvT-loop
 Inv-loop with without d n sum₀ i₀ sum i =
-    (i ≤ n) × (sum ≤ i * 4672907640831) × (sumScans with without (testsOf d) ≡ sum + sumScans with without (drop i (testsOf d)))
+    (i ≤ n) × (sum ≤ i * testTimeMax) × (sumScans with without (testsOf d) ≡ sum + sumScans with without (drop i (testsOf d)))
 
 abbrev μ-loop : tie.MeasureT-loop
 μ-loop with without d n sum₀ i₀ sum i = n - i
@@ -23,7 +24,7 @@ len : (c : tie.Start Inv-loop μ-loop) → length (c .args .t1 .tests) ≡ 8
 len c = simp length-map at (c .good .0 .1 .1 .1 .1 .1 .1 .1 .1 .1 .1 .1 .0 .1 .0 .1)
 
 -- what the test of this turn adds
-most : (c : tie.After-planned-cycles Inv-loop μ-loop) → c .planned-cycles .result ≤ 4672907640831
+most : (c : tie.After-planned-cycles Inv-loop μ-loop) → c .planned-cycles .result ≤ testTimeMax
 most c =
     let l = c .before .before .before in
     let s = l .before in

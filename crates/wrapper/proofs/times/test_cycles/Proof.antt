@@ -3,7 +3,7 @@ use borrow.Author.Needs.{needs}
 use mathlib.Core.Path.{_≡_, ap, _∙_}
 use Rattle.wrapper.specs.Chains.{usedChains}
 use Rattle.wrapper.specs.Times.{testCycles}
-use Rattle.wrapper.specs.Answers.{orderOf}
+use Rattle.wrapper.specs.Held.{orderOf}
 use Rattle.wrapper.specs.Scans.{scanOf}
 use Rattle.wrapper.proofs.KeptLaws.{kept-threadable, short-scan}
 use Rattle.wrapper.proofs.TimeLaws.{scan-time}
