@@ -2,3 +2,4 @@ pub mod Puts
 pub mod Little
 pub mod Rows
 pub mod Written
+pub mod Room

@@ -8,16 +8,19 @@ use lib.ListN.{length, getD, take, length-append, length-take}
 use lib.Seq.{length-take-le}
 use Rattle.units.specs.declared.Refusal.{Refusal}
 use Rattle.fields.specs.Bytes.{bytes, lf}
+use Rattle.fields.specs.Names.{nameMax}
 use Rattle.fields.specs.Written.{decimal, joined, writtenLines}
 use Rattle.fields.proofs.SizeLaws.{decimal-size}
 use Rattle.soc.specs.Record.{nameOf}
 use Rattle.soc.specs.declared.record.Soc.{Soc}
-use Rattle.plan.specs.declared.record.Bus.{Bus}
-use Rattle.plan.specs.declared.record.PlacedModule.{PlacedModule}
-use Rattle.plan.specs.declared.record.BusPlan.{BusPlan}
-use Rattle.plan_file.specs.Good.{busesOf, modulesOf}
+use Rattle.plan_record.specs.declared.record.Bus.{Bus}
+use Rattle.plan_record.specs.declared.record.PlacedModule.{PlacedModule}
+use Rattle.plan_record.specs.declared.record.BusPlan.{BusPlan}
+use Rattle.plan_record.specs.Record.{busesOf, modulesOf}
 use Rattle.fields.proofs.LinesWritten.{written-append, front-more}
-use Rattle.listing.specs.Listing.{refusalFields, socFields, busFields, busLines, moduleFields, moduleLines, planLines}
+use Rattle.listing.specs.Listing.{refusalFields, countFields, socFields, busFields, busLines, moduleFields, moduleLines, linesBehind}
+use Rattle.listing.specs.Room.{refusalRoom, countRoom, busRoom, moduleRoom}
+use Rattle.listing.specs.Rest.{restText}
 
 -- figures are below 2⁶⁴, which has 20 digits
 abbrev pub figureEnd : ℕ
@@ -26,7 +29,7 @@ figureEnd = 18446744073709551616
 figure-size : (v : ℕ) → v < figureEnd → length (decimal v) ≤ 20
 figure-size v h = decimal-size 19 v (omega arith)
 
-name-size : (s : Soc) → s .«name_len» ≤ 32 → length (nameOf s) ≤ 32
+pub name-size : (s : Soc) → s .«name_len» ≤ nameMax → length (nameOf s) ≤ nameMax
 name-size s h = simp length-take (omega arith)
 
 module _ (r : Refusal) where
@@ -34,26 +37,34 @@ module _ (r : Refusal) where
   unfolding refusalFields writtenLines joined
   refusal-text = simp append-assoc
 
-  pub refusal-size : r .number < figureEnd → r .line < figureEnd → length (writtenLines (refusalFields r ∷ [])) ≤ 55
+  pub refusal-size : r .number < figureEnd → r .line < figureEnd → length (writtenLines (refusalFields r ∷ [])) ≤ refusalRoom
   refusal-size n l = rw refusal-text (simp length-append (omega (arith, figure-size (r .number) n, figure-size (r .line) l)))
 
-module _ (s : Soc) (p : BusPlan) where
-  pub soc-text : writtenLines (socFields s p ∷ [])
-      ≡ bytes "soc " ++ (nameOf s ++ (bytes " wires " ++ decimal (p .wires .0) ++ (bytes " limit " ++ decimal (p .limit) ++ (bytes " time " ++ decimal (p .time .0) ++ lf ∷ []))))
-  unfolding socFields writtenLines joined
-  soc-text = simp append-assoc
+module _ (p : BusPlan) where
+  pub count-text : writtenLines (countFields p ∷ []) ≡ bytes "wires " ++ decimal (p .wires .0) ++ (bytes " limit " ++ decimal (p .limit) ++ (bytes " time " ++ decimal (p .time .0) ++ lf ∷ []))
+  unfolding countFields writtenLines joined
+  count-text = simp append-assoc
 
-  pub soc-size : s .«name_len» ≤ 32 → p .wires .0 < figureEnd → p .limit < figureEnd → p .time .0 < figureEnd → length (writtenLines (socFields s p ∷ [])) ≤ 117
-  soc-size n w b t =
-      rw soc-text
-      (simp length-append (omega (arith, name-size s n, figure-size (p .wires .0) w, figure-size (p .limit) b, figure-size (p .time .0) t)))
+  pub count-size : p .wires .0 < figureEnd → p .limit < figureEnd → p .time .0 < figureEnd → length (writtenLines (countFields p ∷ [])) ≤ countRoom
+  count-size w b t = rw count-text (simp length-append (omega (arith, figure-size (p .wires .0) w, figure-size (p .limit) b, figure-size (p .time .0) t)))
+
+  pub soc-text : (s : Soc) → writtenLines (socFields s p ∷ []) ≡ bytes "soc " ++ (nameOf s ++ (bytes " " ++ writtenLines (countFields p ∷ [])))
+  unfolding socFields countFields writtenLines joined
+  soc-text s = simp append-assoc
+
+  -- the text of a plan, part by part
+  pub lines-text : (first : List (List ℕ)) → writtenLines (linesBehind first p) ≡ writtenLines (first ∷ []) ++ restText p
+  unfolding linesBehind
+  lines-text first =
+      written-append (first ∷ []) (busLines 1 (busesOf p) ++ moduleLines (modulesOf p))
+      ∙ ap (λ t. writtenLines (first ∷ []) ++ t) (written-append (busLines 1 (busesOf p)) (moduleLines (modulesOf p)))
 
 module _ (i : ℕ) (b : Bus) where
   pub bus-text : writtenLines (busFields i b ∷ []) ≡ bytes "bus " ++ decimal i ++ (bytes " width " ++ decimal (b .width .0) ++ (bytes " busy " ++ decimal (b .busy .0) ++ lf ∷ []))
   unfolding busFields writtenLines joined
   bus-text = simp append-assoc
 
-  pub bus-size : i < figureEnd → b .width .0 < figureEnd → b .busy .0 < figureEnd → length (writtenLines (busFields i b ∷ [])) ≤ 78
+  pub bus-size : i < figureEnd → b .width .0 < figureEnd → b .busy .0 < figureEnd → length (writtenLines (busFields i b ∷ [])) ≤ busRoom
   bus-size n w t = rw bus-text (simp length-append (omega (arith, figure-size i n, figure-size (b .width .0) w, figure-size (b .busy .0) t)))
 
 module _ (m : PlacedModule) where
@@ -62,7 +73,7 @@ module _ (m : PlacedModule) where
   unfolding moduleFields writtenLines joined
   module-text = simp append-assoc
 
-  pub module-size : m .number < figureEnd → m .bus < figureEnd → m .wires .0 < figureEnd → m .cycles .0 < figureEnd → length (writtenLines (moduleFields m ∷ [])) ≤ 108
+  pub module-size : m .number < figureEnd → m .bus < figureEnd → m .wires .0 < figureEnd → m .cycles .0 < figureEnd → length (writtenLines (moduleFields m ∷ [])) ≤ moduleRoom
   module-size n b w t =
       rw module-text
       (simp length-append (omega (arith, figure-size (m .number) n, figure-size (m .bus) b, figure-size (m .wires .0) w, figure-size (m .cycles .0) t)))
@@ -103,10 +114,3 @@ modules-adds xs ys = ap writtenLines (modules-append xs ys) ∙ written-append (
 pub modules-more : (k : ℕ) (l : List PlacedModule) (z : PlacedModule) → k < length l → modulesText (take (k + 1) l) ≡ modulesText (take k l) ++ writtenLines (moduleFields (getD l k z) ∷ [])
 unfolding moduleLines
 modules-more k l z h = front-more modulesText (λ xs ys. modulesText ys) modules-adds k l z h
-
--- the text of a plan, part by part
-pub plan-text : (s : Soc) (p : BusPlan) → writtenLines (planLines s p) ≡ writtenLines (socFields s p ∷ []) ++ (busesText (busesOf p) ++ modulesText (modulesOf p))
-unfolding planLines
-plan-text s p =
-    written-append (socFields s p ∷ []) (busLines 1 (busesOf p) ++ moduleLines (modulesOf p))
-    ∙ ap (λ t. writtenLines (socFields s p ∷ []) ++ t) (written-append (busLines 1 (busesOf p)) (moduleLines (modulesOf p)))

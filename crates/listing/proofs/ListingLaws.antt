@@ -1,5 +1,4 @@
--- Laws of what is printed: the lines for a refusal and for a plan, what the first line decides, and that a record that was read and a plan that was
--- found are good. Assumes nothing.
+-- Laws of what is printed: the lines for a refusal and for a plan, what the first line decides. Assumes nothing.
 use Prim.Native.Nat.{ℕ, _≤_, _<_}
 use mathlib.Core.Path.{_≡_, refl, sym, ap, _∙_}
 use mathlib.Core.Bool.{Bool, true, false}
@@ -19,15 +18,15 @@ use Rattle.buffer.specs.Puts.{Put}
 use Rattle.soc.specs.Rules.{goodSoc}
 use Rattle.soc.specs.declared.record.Soc.{Soc}
 use Rattle.text_lines.specs.Parts.{Whole, refuses, says}
-use Rattle.text_reader.specs.Reading.{textMax, refusedSoc, acceptedSoc, readSoc}
+use Rattle.soc.specs.Limits.{textMax}
+use Rattle.text_reader.specs.Reading.{refusedSoc, acceptedSoc, readSoc}
 use Rattle.text_reader.specs.declared.read.SocRead.{SocRead}
-use Rattle.text.proofs.Acceptance.{accepts-or-refuses, accepted-good}
 use Rattle.fields.specs.Written.{writtenLines}
 use Rattle.plan.specs.Answers.{planAnswer}
-use Rattle.plan.specs.declared.record.PlanAnswer.{PlanAnswer}
+use Rattle.plan.specs.declared.answer.PlanAnswer.{PlanAnswer}
 use Rattle.listing.specs.Asked.{planLineMax, Wanted, textBehind, asked, askedAnswer}
 use Rattle.listing.specs.Listing.{refusalFields, planLines, planPrinted, textPrinted, printed, listed, listingMax, listingAnswer, listingLeaves}
-use Rattle.listing.specs.declared.entry.Listed.{Listed}
+use Rattle.buffer.specs.declared.written.Written.{Written}
 use Rattle.listing.specs.declared.asked.Asked.the-variants.{No, For}
 use Rattle.listing.proofs.AskedLaws.{first-line, asked-long, asked-short}
 use Rattle.listing.proofs.FrontLaws.{next-high, until-front, line-front}
@@ -55,17 +54,6 @@ module _ (k : Wanted) (t : List ℕ) (a : SocRead) (e : a ≡ readSoc t) where
   pub text-read : a .refusal .number ≡ 0 → textPrinted k (readSoc t) ≡ planPrinted (a .soc) (planAnswer (a .soc) (k .wires) (k .limit))
   unfolding textPrinted
   text-read h = ap (textPrinted k) (sym e) ∙ simp (eq-eqb (a .refusal .number) 0 h)
-
--- the record of a text that was not refused is good
-pub read-good : (t : List ℕ) (a : SocRead) → a ≡ readSoc t → a .refusal .number ≡ 0 → goodSoc (a .soc) ≡ true
-read-good t a e h = go (accepts-or-refuses t)
-  where
-    go : ((s : Soc) × (readSoc t ≡ acceptedSoc s)) ⊎ ((r : Refusal) × (readSoc t ≡ refusedSoc r) × (1 ≤ r .number) × (r .number ≤ 6)) → goodSoc (a .soc) ≡ true
-    go (inl (s, q)) = ap (λ (x : SocRead). goodSoc (x .soc)) (e ∙ q) ∙ accepted-good t s q
-    go (inr (r, q, l, m)) =
-        let i : a .refusal .number ≡ r .number = ap (λ (x : SocRead). x .refusal .number) (e ∙ q) in
-        let z : ⊥ = omega arith in
-        absurd z
 
 -- what the first line's answer says of it
 pub answer-no : (w : Whole Wanted) (c : ℕ) → No c ≡ askedAnswer w → w ≡ refuses c
@@ -142,5 +130,5 @@ listed-enough n input h = go (leb (length input) n) refl (ltb (untilLf input) n)
         listed-long (take n input) (omega (arith, next-high (take n input), until-front n input)) ∙ sym (listed-long input (omega (arith, next-high input)))
 
 -- two answers that meet the promise of `listing` are equal, and so are the bytes
-pub listing-unique : (input start : List ℕ) (a b : Listed) (x y : List ℕ) → (a ≡ listingAnswer input start) × (x ≡ listingLeaves input start) → (b ≡ listingAnswer input start) × (y ≡ listingLeaves input start) → (a ≡ b) × (x ≡ y)
+pub listing-unique : (input start : List ℕ) (a b : Written) (x y : List ℕ) → (a ≡ listingAnswer input start) × (x ≡ listingLeaves input start) → (b ≡ listingAnswer input start) × (y ≡ listingLeaves input start) → (a ≡ b) × (x ≡ y)
 listing-unique input start a b x y p q = answer-and-bytes-unique p q

@@ -1,2 +1,4 @@
 pub mod Asked
 pub mod Listing
+pub mod Room
+pub mod Rest

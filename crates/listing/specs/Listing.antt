@@ -2,12 +2,13 @@
 use Prim.Native.Nat.{ℕ, suc}
 use mathlib.Core.Bool.{cond}
 use mathlib.Core.List.{List, [], _∷_, _++_}
-use lib.ListN.{length}
-use lib.Dec.{leb, eqb}
-use Rattle.units.specs.Refusals.{accepted, refused}
+use lib.Dec.{eqb}
+use Rattle.units.specs.Refusals.{refused}
 use Rattle.units.specs.declared.Refusal.{Refusal}
 use Rattle.fields.specs.Bytes.{bytes}
 use Rattle.buffer.specs.Puts.{putFront}
+use Rattle.buffer.specs.Written.{refusedWrite, written}
+use Rattle.buffer.specs.declared.written.Written.{Written}
 use Rattle.fields.specs.Written.{decimal, writtenLines}
 use Rattle.soc.specs.Record.{nameOf}
 use Rattle.soc.specs.declared.record.Soc.{Soc}
@@ -15,30 +16,24 @@ use Rattle.text_lines.specs.Parts.{Whole, refuses, says}
 use Rattle.text_reader.specs.Reading.{readSoc}
 use Rattle.text_reader.specs.declared.read.SocRead.{SocRead}
 use Rattle.plan.specs.Answers.{planAnswer}
-use Rattle.plan.specs.declared.record.Bus.{Bus}
-use Rattle.plan.specs.declared.record.PlacedModule.{PlacedModule}
-use Rattle.plan.specs.declared.record.BusPlan.{BusPlan}
-use Rattle.plan.specs.declared.record.PlanAnswer.{PlanAnswer}
-use Rattle.plan_file.specs.Good.{busesOf, modulesOf}
+use Rattle.plan_record.specs.declared.record.Bus.{Bus}
+use Rattle.plan_record.specs.declared.record.PlacedModule.{PlacedModule}
+use Rattle.plan_record.specs.declared.record.BusPlan.{BusPlan}
+use Rattle.plan.specs.declared.answer.PlanAnswer.{PlanAnswer}
+use Rattle.plan_record.specs.Record.{busesOf, modulesOf}
+use Rattle.plan_record.specs.Good.{goodPlan}
 use Rattle.listing.specs.Asked.{Wanted, asked, textBehind}
-use Rattle.listing.specs.declared.entry.Listed.{Listed}
 
 -- the fields of a line: "`refused N line L`"
 unfoldable pub refusalFields : Refusal → List (List ℕ)
 refusalFields r = bytes "refused" ∷ decimal (r .number) ∷ bytes "line" ∷ decimal (r .line) ∷ []
 
 -- "W, B, time"
+unfoldable pub countFields : BusPlan → List (List ℕ)
+countFields p = bytes "wires" ∷ decimal (p .wires .0) ∷ bytes "limit" ∷ decimal (p .limit) ∷ bytes "time" ∷ decimal (p .time .0) ∷ []
+
 unfoldable pub socFields : Soc → BusPlan → List (List ℕ)
-socFields s p =
-    bytes "soc"
-    ∷ nameOf s
-    ∷ bytes "wires"
-    ∷ decimal (p .wires .0)
-    ∷ bytes "limit"
-    ∷ decimal (p .limit)
-    ∷ bytes "time"
-    ∷ decimal (p .time .0)
-    ∷ []
+socFields s p = bytes "soc" ∷ nameOf s ∷ countFields p
 
 -- "each bus", with number i
 unfoldable pub busFields : ℕ → Bus → List (List ℕ)
@@ -65,8 +60,12 @@ unfoldable pub moduleLines : List PlacedModule → List (List (List ℕ))
 moduleLines [] = []
 moduleLines (m ∷ ms) = moduleFields m ∷ moduleLines ms
 
-unfoldable pub planLines : Soc → BusPlan → List (List (List ℕ))
-planLines s p = socFields s p ∷ busLines 1 (busesOf p) ++ moduleLines (modulesOf p)
+-- the lines of a plan, of which the first tells the SOC's name or not
+unfoldable pub linesBehind : List (List ℕ) → BusPlan → List (List (List ℕ))
+linesBehind first p = first ∷ busLines 1 (busesOf p) ++ moduleLines (modulesOf p)
+
+abbrev pub planLines : Soc → BusPlan → List (List (List ℕ))
+planLines s p = linesBehind (socFields s p) p
 
 -- "A refusal prints `refused N line L`.": that of the planner, that of the text, that of the first line, "before all else"
 unfoldable pub planPrinted : Soc → PlanAnswer → List (List (List ℕ))
@@ -87,12 +86,18 @@ listed input = writtenLines (printed (asked input) (textBehind input))
 abbrev pub listingMax : ℕ
 listingMax = 2048
 
--- "lent buffer shorter than what is to be written" is 11
-unfoldable pub listingAnswer : List ℕ → List ℕ → Listed
-listingAnswer input buf =
-    cond (leb (length (listed input)) (length buf))
-    (record { refusal = accepted; len = length (listed input) })
-    (record { refusal = refused 11 0; len = 0 })
+unfoldable pub listingAnswer : List ℕ → List ℕ → Written
+listingAnswer input buf = written (listed input) buf
 
 unfoldable pub listingLeaves : List ℕ → List ℕ → List ℕ
 listingLeaves input buf = putFront (listed input) buf
+
+-- a plan record as it is shown: its lines without the name, which it does not hold. "plan record .. not good" is 12
+unfoldable pub shown : BusPlan → List ℕ
+shown p = writtenLines (linesBehind (countFields p) p)
+
+unfoldable pub showAnswer : BusPlan → List ℕ → Written
+showAnswer p buf = cond (goodPlan p) (written (shown p) buf) (refusedWrite 12)
+
+unfoldable pub showLeaves : BusPlan → List ℕ → List ℕ
+showLeaves p buf = cond (goodPlan p) (putFront (shown p) buf) buf

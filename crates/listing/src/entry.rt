@@ -3,32 +3,27 @@ use super::asked::Asked;
 use super::asked::asked_of;
 use super::put_lines::put_plan;
 use super::put_lines::put_refusal;
+use super::put_lines::put_shown;
+use buffer::Written;
+use plan_record::BusPlan;
 use soc::Soc;
 use units::Refusal;
 use units::Wires;
 ghost use mathlib.Core.Path.{_≡_};
-ghost use mathlib.Core.Bool.{true};
 ghost use Prim.Native.Nat.{_≤_};
 ghost use lib.ListN.{length};
 ghost use Rattle.buffer.specs.Puts.{Put};
-ghost use Rattle.soc.specs.Rules.{goodSoc};
 ghost use Rattle.text_reader.specs.Reading.{readSoc};
 ghost use Rattle.fields.specs.Written.{writtenLines};
 ghost use Rattle.plan.specs.Answers.{planAnswer};
-ghost use Rattle.listing.specs.Listing.{planPrinted, textPrinted, listed, listingMax, listingAnswer, listingLeaves};
+ghost use Rattle.listing.specs.Listing.{planPrinted, textPrinted, listed, listingMax, listingAnswer, listingLeaves, showAnswer, showLeaves};
 
 // A buffer of this length is always enough.
 pub const LISTING_MAX: usize = 2048;
 
-// How many bytes were written; or the refusal.
-pub struct Listed {
-    pub refusal: Refusal,
-    pub len: usize,
-}
-
-// What is printed for a good record.
+// What is printed for a record.
 fn put_answer(buf: &mut [u8], s: Soc, wires: u32, limit: u32) -> usize
-    requires { ⌜ (goodSoc s ≡ true) × (listingMax ≤ length (now buf)) ⌝ }
+    requires { ⌜ listingMax ≤ length (now buf) ⌝ }
     ensures { λ r. ⌜ Put (writtenLines (planPrinted s (planAnswer s wires limit))) 0 (now (buf .entry)) (now (buf .exit)) r × (length (writtenLines (planPrinted s (planAnswer s wires limit))) ≤ listingMax) ⌝ }
 {
     let answer = plan::plan(s, Wires(wires), limit);
@@ -43,7 +38,7 @@ fn put_text(buf: &mut [u8], text: &[u8], wires: u32, limit: u32) -> usize
     requires { ⌜ listingMax ≤ length (now buf) ⌝ }
     ensures { λ r. ⌜ Put (writtenLines (textPrinted (record { wires = wires; limit = limit }) (readSoc (now (text .entry))))) 0 (now (buf .entry)) (now (buf .exit)) r × (length (writtenLines (textPrinted (record { wires = wires; limit = limit }) (readSoc (now (text .entry))))) ≤ listingMax) ⌝ }
 {
-    let read = text::read_soc(text);
+    let read = text_reader::read_soc(text);
     if read.refusal.number != 0 {
         return put_refusal(&mut *buf, 0, read.refusal);
     }
@@ -62,20 +57,22 @@ fn put_listed(buf: &mut [u8], input: &[u8]) -> usize
     }
 }
 
-pub fn listing(input: &[u8], buf: &mut [u8]) -> Listed
+pub fn listing(input: &[u8], buf: &mut [u8]) -> Written
     ensures { λ r. ⌜ (r ≡ listingAnswer (now (input .entry)) (now (buf .entry))) × (now (buf .exit) ≡ listingLeaves (now (input .entry)) (now (buf .entry))) × (length (listed (now (input .entry))) ≤ listingMax) ⌝ }
 {
     let mut form = [0u8; LISTING_MAX];
     let n = put_listed(&mut form, input);
-    if buf.len() < n {
-        return Listed {
-            refusal: Refusal::at(11, 0),
-            len: 0,
-        };
+    buffer::write(&mut *buf, &form[..n])
+}
+
+// A plan record's lines, without the name that it does not hold.
+pub fn show(p: BusPlan, buf: &mut [u8]) -> Written
+    ensures { λ r. ⌜ (r ≡ showAnswer p (now (buf .entry))) × (now (buf .exit) ≡ showLeaves p (now (buf .entry))) ⌝ }
+{
+    if !plan_record::is_good_plan(p) {
+        return buffer::refused_write(12);
     }
-    buffer::write_bytes(&mut *buf, &form[..n]);
-    Listed {
-        refusal: Refusal::none(),
-        len: n,
-    }
+    let mut form = [0u8; LISTING_MAX];
+    let n = put_shown(&mut form, p);
+    buffer::write(&mut *buf, &form[..n])
 }

@@ -1,9 +1,9 @@
 // The printing program's work (document 01, "The printing program") on slices: the line `Plan W B`, the SOC text behind it, the planner, and
-// the printed lines, or the line of the refusal.
+// the printed lines, or the line of the refusal. And the lines of a plan record.
 mod asked;
 mod entry;
 mod put_lines;
 
 pub use entry::LISTING_MAX;
-pub use entry::Listed;
 pub use entry::listing;
+pub use entry::show;

@@ -1,47 +1,59 @@
 // The printed lines put into a buffer at a place, each with its figures, single spaces and LF. The answer is the place behind them. A figure has at
 // most 20 digits and a name at most 32 bytes, which bounds each line.
-use plan::Bus;
-use plan::BusPlan;
-use plan::PlacedModule;
+use plan_record::Bus;
+use plan_record::BusPlan;
+use plan_record::PlacedModule;
 use soc::Soc;
 use units::Refusal;
-ghost use Prim.Native.Nat.{_+_, _≤_};
+ghost use Prim.Native.Nat.{_+_, _*_, _≤_};
 ghost use mathlib.Core.List.{[], _∷_};
 ghost use lib.ListN.{length, take};
 ghost use Rattle.buffer.specs.Puts.{Put};
+ghost use Rattle.fields.specs.Names.{nameMax};
 ghost use Rattle.fields.specs.Written.{writtenLines};
-ghost use Rattle.plan_file.specs.Good.{busesOf, modulesOf};
-ghost use Rattle.listing.specs.Listing.{refusalFields, socFields, busFields, busLines, moduleFields, moduleLines, planLines};
+ghost use Rattle.plan_record.specs.Record.{busPlaces, modulePlaces, busesOf, modulesOf};
+ghost use Rattle.listing.specs.Listing.{refusalFields, countFields, socFields, busFields, busLines, moduleFields, moduleLines, planLines, shown};
+ghost use Rattle.listing.specs.Room.{refusalRoom, countRoom, nameRoom, busRoom, moduleRoom, restRoom, planRoom};
+ghost use Rattle.listing.specs.Rest.{restText};
 
 // `refused N line L`.
 pub(crate) fn put_refusal(buf: &mut [u8], at: usize, r: Refusal) -> usize
-    requires { ⌜ at + 55 ≤ length (now buf) ⌝ }
-    ensures { λ e. ⌜ Put (writtenLines (refusalFields r ∷ [])) at (now (buf .entry)) (now (buf .exit)) e × (length (writtenLines (refusalFields r ∷ [])) ≤ 55) ⌝ }
+    requires { ⌜ at + refusalRoom ≤ length (now buf) ⌝ }
+    ensures { λ e. ⌜ Put (writtenLines (refusalFields r ∷ [])) at (now (buf .entry)) (now (buf .exit)) e × (length (writtenLines (refusalFields r ∷ [])) ≤ refusalRoom) ⌝ }
 {
     let a = fields::put_key(&mut *buf, at, b"refused ", r.number as u64);
     let b = fields::put_key(&mut *buf, a, b" line ", r.line as u64);
     buffer::put_bytes(&mut *buf, b, b"\n")
 }
 
-// `soc` name `wires` W `limit` B `time` T.
+// `wires` W `limit` B `time` T.
+pub(crate) fn put_counts(buf: &mut [u8], at: usize, p: BusPlan) -> usize
+    requires { ⌜ at + countRoom ≤ length (now buf) ⌝ }
+    ensures { λ e. ⌜ Put (writtenLines (countFields p ∷ [])) at (now (buf .entry)) (now (buf .exit)) e × (length (writtenLines (countFields p ∷ [])) ≤ countRoom) ⌝ }
+{
+    let a = fields::put_key(&mut *buf, at, b"wires ", p.wires.0 as u64);
+    let b = fields::put_key(&mut *buf, a, b" limit ", p.limit as u64);
+    let c = fields::put_key(&mut *buf, b, b" time ", p.time.0);
+    buffer::put_bytes(&mut *buf, c, b"\n")
+}
+
+// `soc` name, and the same behind it.
 fn put_soc_line(buf: &mut [u8], at: usize, s: Soc, p: BusPlan) -> usize
-    requires { ⌜ (s .«name_len» ≤ 32) × (at + 117 ≤ length (now buf)) ⌝ }
-    ensures { λ e. ⌜ Put (writtenLines (socFields s p ∷ [])) at (now (buf .entry)) (now (buf .exit)) e × (length (writtenLines (socFields s p ∷ [])) ≤ 117) ⌝ }
+    requires { ⌜ (s .«name_len» ≤ nameMax) × (at + nameRoom + countRoom ≤ length (now buf)) ⌝ }
+    ensures { λ e. ⌜ Put (writtenLines (socFields s p ∷ [])) at (now (buf .entry)) (now (buf .exit)) e × (length (writtenLines (socFields s p ∷ [])) ≤ nameRoom + countRoom) ⌝ }
 {
     let n = s.name_len;
     let name = s.name;
     let a = buffer::put_bytes(&mut *buf, at, b"soc ");
     let b = buffer::put_bytes(&mut *buf, a, &name[..n]);
-    let c = fields::put_key(&mut *buf, b, b" wires ", p.wires.0 as u64);
-    let d = fields::put_key(&mut *buf, c, b" limit ", p.limit as u64);
-    let e = fields::put_key(&mut *buf, d, b" time ", p.time.0);
-    buffer::put_bytes(&mut *buf, e, b"\n")
+    let c = buffer::put_bytes(&mut *buf, b, b" ");
+    put_counts(&mut *buf, c, p)
 }
 
 // `bus` i `width` w `busy` b.
 fn put_bus_line(buf: &mut [u8], at: usize, i: u64, b: Bus) -> usize
-    requires { ⌜ at + 78 ≤ length (now buf) ⌝ }
-    ensures { λ e. ⌜ Put (writtenLines (busFields i b ∷ [])) at (now (buf .entry)) (now (buf .exit)) e × (length (writtenLines (busFields i b ∷ [])) ≤ 78) ⌝ }
+    requires { ⌜ at + busRoom ≤ length (now buf) ⌝ }
+    ensures { λ e. ⌜ Put (writtenLines (busFields i b ∷ [])) at (now (buf .entry)) (now (buf .exit)) e × (length (writtenLines (busFields i b ∷ [])) ≤ busRoom) ⌝ }
 {
     let a = fields::put_key(&mut *buf, at, b"bus ", i);
     let c = fields::put_key(&mut *buf, a, b" width ", b.width.0 as u64);
@@ -51,8 +63,8 @@ fn put_bus_line(buf: &mut [u8], at: usize, i: u64, b: Bus) -> usize
 
 // `module` m `bus` i `wires` k `cycles` x.
 fn put_module_line(buf: &mut [u8], at: usize, m: PlacedModule) -> usize
-    requires { ⌜ at + 108 ≤ length (now buf) ⌝ }
-    ensures { λ e. ⌜ Put (writtenLines (moduleFields m ∷ [])) at (now (buf .entry)) (now (buf .exit)) e × (length (writtenLines (moduleFields m ∷ [])) ≤ 108) ⌝ }
+    requires { ⌜ at + moduleRoom ≤ length (now buf) ⌝ }
+    ensures { λ e. ⌜ Put (writtenLines (moduleFields m ∷ [])) at (now (buf .entry)) (now (buf .exit)) e × (length (writtenLines (moduleFields m ∷ [])) ≤ moduleRoom) ⌝ }
 {
     let a = fields::put_key(&mut *buf, at, b"module ", m.number as u64);
     let b = fields::put_key(&mut *buf, a, b" bus ", m.bus as u64);
@@ -62,8 +74,8 @@ fn put_module_line(buf: &mut [u8], at: usize, m: PlacedModule) -> usize
 }
 
 fn put_buses(buf: &mut [u8], at: usize, p: BusPlan) -> usize
-    requires { ⌜ (p .«bus_count» ≤ 3) × (at + 234 ≤ length (now buf)) ⌝ }
-    ensures { λ e. ⌜ Put (writtenLines (busLines 1 (busesOf p))) at (now (buf .entry)) (now (buf .exit)) e × (length (writtenLines (busLines 1 (busesOf p))) ≤ 234) ⌝ }
+    requires { ⌜ (p .«bus_count» ≤ busPlaces) × (at + busPlaces * busRoom ≤ length (now buf)) ⌝ }
+    ensures { λ e. ⌜ Put (writtenLines (busLines 1 (busesOf p))) at (now (buf .entry)) (now (buf .exit)) e × (length (writtenLines (busLines 1 (busesOf p))) ≤ busPlaces * busRoom) ⌝ }
 {
     let n = p.bus_count;
     let mut e = at;
@@ -77,8 +89,8 @@ fn put_buses(buf: &mut [u8], at: usize, p: BusPlan) -> usize
 }
 
 fn put_modules(buf: &mut [u8], at: usize, p: BusPlan) -> usize
-    requires { ⌜ (p .«module_count» ≤ 12) × (at + 1296 ≤ length (now buf)) ⌝ }
-    ensures { λ e. ⌜ Put (writtenLines (moduleLines (modulesOf p))) at (now (buf .entry)) (now (buf .exit)) e × (length (writtenLines (moduleLines (modulesOf p))) ≤ 1296) ⌝ }
+    requires { ⌜ (p .«module_count» ≤ modulePlaces) × (at + modulePlaces * moduleRoom ≤ length (now buf)) ⌝ }
+    ensures { λ e. ⌜ Put (writtenLines (moduleLines (modulesOf p))) at (now (buf .entry)) (now (buf .exit)) e × (length (writtenLines (moduleLines (modulesOf p))) ≤ modulePlaces * moduleRoom) ⌝ }
 {
     let n = p.module_count;
     let mut e = at;
@@ -91,12 +103,29 @@ fn put_modules(buf: &mut [u8], at: usize, p: BusPlan) -> usize
     e
 }
 
+// The lines behind the first.
+pub(crate) fn put_rest(buf: &mut [u8], at: usize, p: BusPlan) -> usize
+    requires { ⌜ (p .«bus_count» ≤ busPlaces) × (p .«module_count» ≤ modulePlaces) × (at + restRoom ≤ length (now buf)) ⌝ }
+    ensures { λ e. ⌜ Put (restText p) at (now (buf .entry)) (now (buf .exit)) e × (length (restText p) ≤ restRoom) ⌝ }
+{
+    let a = put_buses(&mut *buf, at, p);
+    put_modules(&mut *buf, a, p)
+}
+
 // The lines of a plan.
 pub(crate) fn put_plan(buf: &mut [u8], at: usize, s: Soc, p: BusPlan) -> usize
-    requires { ⌜ (s .«name_len» ≤ 32) × (p .«bus_count» ≤ 3) × (p .«module_count» ≤ 12) × (at + 1647 ≤ length (now buf)) ⌝ }
-    ensures { λ e. ⌜ Put (writtenLines (planLines s p)) at (now (buf .entry)) (now (buf .exit)) e × (length (writtenLines (planLines s p)) ≤ 1647) ⌝ }
+    requires { ⌜ (s .«name_len» ≤ nameMax) × (p .«bus_count» ≤ busPlaces) × (p .«module_count» ≤ modulePlaces) × (at + planRoom ≤ length (now buf)) ⌝ }
+    ensures { λ e. ⌜ Put (writtenLines (planLines s p)) at (now (buf .entry)) (now (buf .exit)) e × (length (writtenLines (planLines s p)) ≤ planRoom) ⌝ }
 {
     let a = put_soc_line(&mut *buf, at, s, p);
-    let b = put_buses(&mut *buf, a, p);
-    put_modules(&mut *buf, b, p)
+    put_rest(&mut *buf, a, p)
+}
+
+// The lines of a plan record, without the name.
+pub(crate) fn put_shown(buf: &mut [u8], p: BusPlan) -> usize
+    requires { ⌜ (p .«bus_count» ≤ busPlaces) × (p .«module_count» ≤ modulePlaces) × (planRoom ≤ length (now buf)) ⌝ }
+    ensures { λ e. ⌜ Put (shown p) 0 (now (buf .entry)) (now (buf .exit)) e × (length (shown p) ≤ planRoom) ⌝ }
+{
+    let a = put_counts(&mut *buf, 0, p);
+    put_rest(&mut *buf, a, p)
 }

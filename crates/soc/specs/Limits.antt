@@ -1,6 +1,10 @@
 -- The limits of document 01's section "The SOC text", each once.
 use Prim.Native.Nat.{ℕ}
 
+-- "SOC text over 61,440 bytes" is 1
+abbrev pub textMax : ℕ
+textMax = 61440
+
 -- "`TotalModules` n, 1 to 40"
 abbrev pub modulesMax : ℕ
 modulesMax = 40

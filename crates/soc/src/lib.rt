@@ -22,6 +22,7 @@ pub use record::POWER_MAX;
 pub use record::Soc;
 pub use record::TERMINALS_MAX;
 pub use record::TESTS_MAX;
+pub use record::TEXT_MAX;
 pub use record::Test;
 pub use record::no_module;
 pub use record::no_soc;

@@ -5,6 +5,8 @@ use units::FlipFlops;
 ghost use mathlib.Core.Path.{_≡_};
 ghost use Rattle.soc.specs.Record.{noTest, noModule, noSoc};
 
+pub const TEXT_MAX: usize = 61440;
+
 pub const MODULES_MAX: usize = 40;
 
 pub const LEVEL_MAX: u32 = 40;

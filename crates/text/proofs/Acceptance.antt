@@ -21,7 +21,8 @@ use Rattle.soc.specs.Rules.{goodName, goodSoc}
 use Rattle.soc.specs.Sized.{Sized}
 use Rattle.soc.specs.declared.record.Soc.{Soc}
 use Rattle.text_reader.specs.Lines.{LinesRead}
-use Rattle.text_reader.specs.Reading.{textMax, soc, refusedSoc, acceptedSoc, answer, unlessBad, readSoc}
+use Rattle.soc.specs.Limits.{textMax}
+use Rattle.text_reader.specs.Reading.{soc, refusedSoc, acceptedSoc, answer, unlessBad, readSoc}
 use Rattle.text.specs.Describes.{Describes, fieldLines}
 use Rattle.text_reader.specs.declared.read.SocRead.{SocRead}
 use Rattle.text.proofs.Accepted.{Read, soc-only}

@@ -14,7 +14,8 @@ use Rattle.soc.specs.Sized.{Sized}
 use Rattle.soc.specs.declared.record.Soc.{Soc}
 use Rattle.text_reader.specs.declared.read.SocRead.{SocRead}
 use Rattle.text.specs.Describes.{Describes, fieldLines}
-use Rattle.text_reader.specs.Reading.{textMax, acceptedSoc, soc, answer, unlessBad, readSoc}
+use Rattle.soc.specs.Limits.{textMax}
+use Rattle.text_reader.specs.Reading.{acceptedSoc, soc, answer, unlessBad, readSoc}
 use Rattle.text_writer.specs.Written.{writtenSoc}
 use Rattle.text.proofs.Described.{reads-described}
 use Rattle.text.proofs.Once.{described-once}

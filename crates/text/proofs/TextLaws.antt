@@ -10,7 +10,8 @@ use Rattle.fields.specs.declared.byte.BadByte.the-variants.{Nowhere}
 use Rattle.soc.specs.Rules.{goodSoc}
 use Rattle.soc.specs.Sized.{Sized}
 use Rattle.soc.specs.declared.record.Soc.{Soc}
-use Rattle.text_reader.specs.Reading.{textMax, readSoc, acceptedSoc}
+use Rattle.soc.specs.Limits.{textMax}
+use Rattle.text_reader.specs.Reading.{readSoc, acceptedSoc}
 use Rattle.text_writer.specs.Written.{writtenSoc}
 use Rattle.text_writer.proofs.SizeLaws.{written-short}
 use Rattle.text.specs.Describes.{Describes, fieldLines}

@@ -12,7 +12,7 @@ use Rattle.fields.specs.declared.byte.BadByte.{BadByte}
 use Rattle.fields.specs.declared.byte.BadByte.the-variants.{OnLine, Nowhere}
 use Rattle.fields.specs.Lines.{Line, linesFrom}
 use Rattle.fields.specs.Readers.{Got, no, got, _>>=_, _>>_, give, each}
-use Rattle.soc.specs.Limits.{modulesMax, testsMax}
+use Rattle.soc.specs.Limits.{textMax, modulesMax, testsMax}
 use Rattle.units.specs.Places.{padded}
 use Rattle.soc.specs.Record.{notGiven, noTest, noModule, noSoc}
 use Rattle.soc.specs.declared.record.Test.{Test}
@@ -21,10 +21,6 @@ use Rattle.soc.specs.declared.record.Soc.{Soc}
 use Rattle.text_lines.specs.Kinds.{Name, Options, Shape, Second, nameLine, totalLine, optionsLine, levelLine, secondLine, testsLine, testLine}
 use Rattle.text_reader.specs.Lines.{LinesRead, LinesReader, line, noMore}
 use Rattle.text_reader.specs.declared.read.SocRead.{SocRead}
-
--- "SOC text over 61,440 bytes" is 1
-abbrev pub textMax : ℕ
-textMax = 61440
 
 -- a module's position, where it is given, and its number of tests
 pub record Body : Type 0 where

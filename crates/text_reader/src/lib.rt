@@ -5,5 +5,4 @@ mod read;
 mod step;
 
 pub use read::SocRead;
-pub use read::TEXT_MAX;
 pub use read::read_soc;

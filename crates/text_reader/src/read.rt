@@ -9,6 +9,7 @@ use super::step::Step;
 use fields::BadByte;
 use soc::Module;
 use soc::Soc;
+use soc::TEXT_MAX;
 use text_line_reader::Due;
 use text_line_reader::Place;
 use text_line_reader::due_line;
@@ -24,8 +25,6 @@ ghost use Rattle.fields.specs.Lines.{linesFrom};
 ghost use Rattle.text_reader.specs.Reading.{modules, rest, behindName, soc, refusedSoc, acceptedSoc, answer, readSoc};
 ghost use Rattle.text_line_reader.specs.Due.{Inside, linesAt};
 ghost use Rattle.text_reader.specs.Steps.{StepMeans, nameIn};
-
-pub const TEXT_MAX: usize = 61440;
 
 // The record of a text; or its refusal, with a record that says nothing.
 pub struct SocRead {

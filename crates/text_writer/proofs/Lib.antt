@@ -1,6 +1,5 @@
 pub mod FigureLaws
 pub mod GoodLaws
 pub mod LineLaws
-pub mod RoomLaws
 pub mod RunLaws
 pub mod SizeLaws

@@ -11,7 +11,7 @@ use lib.ListN.{length, take, length-append, length-take}
 use Rattle.units.specs.declared.FlipFlops.{FlipFlops}
 use Rattle.units.proofs.TestLaws.{and-both}
 use Rattle.fields.proofs.SizeLaws.{size, decimal-size, joined-size, name-size}
-use Rattle.soc.specs.Limits.{lengthMax, positionMax, powerMax}
+use Rattle.soc.specs.Limits.{textMax, lengthMax, positionMax, powerMax}
 use Rattle.units.specs.Places.{allOf}
 use Rattle.soc.specs.Record.{nameOf, modulesOf, chainsOf, testsOf}
 use Rattle.soc.specs.Rules.{isNotGiven, upTo, goodLength, goodPower, goodPosition, goodTest, goodModule, goodModules, goodSoc}
@@ -167,7 +167,7 @@ head-size s f =
       flag-length (s .xy),
     )
 
-pub written-short : (s : Soc) → goodSoc s ≡ true → length (writtenSoc s) ≤ 61440
+pub written-short : (s : Soc) → goodSoc s ≡ true → length (writtenSoc s) ≤ textMax
 unfolding writtenSoc socLines linesSize
 written-short s h =
     let f = soc-figures s h in

@@ -4,9 +4,10 @@ use Prim.Native.Nat.{ℕ, suc, _≤_, _<_}
 use mathlib.Core.Path.{_≡_}
 use mathlib.Core.Bool.{Bool, true, false, cond}
 use mathlib.Core.List.{List, [], _∷_, _++_}
-use lib.ListN.{length, getD, drop}
-use lib.Dec.{leb}
-use Rattle.units.specs.Refusals.{accepted, refused}
+use lib.ListN.{getD}
+use Rattle.buffer.specs.Puts.{putFront}
+use Rattle.buffer.specs.Written.{refusedWrite, written}
+use Rattle.buffer.specs.declared.written.Written.{Written}
 use Rattle.fields.specs.Bytes.{bytes, lf, space}
 use Rattle.fields.specs.Written.{writtenLines}
 use Rattle.units.specs.declared.FlipFlops.{FlipFlops}
@@ -17,7 +18,6 @@ use Rattle.soc.specs.declared.record.Test.{Test}
 use Rattle.soc.specs.declared.record.Module.{Module}
 use Rattle.soc.specs.declared.record.Soc.{Soc}
 use Rattle.text_lines.specs.Written.{givenField, lengthField, nameFields, totalFields, optionsFields, levelFields, positionFields, testsFields, powerFields, testFields}
-use Rattle.text_writer.specs.declared.write.SocWritten.{SocWritten}
 
 -- the fields of a module's lines: of its tests from number i on, and of all
 unfoldable pub testLines : Bool → ℕ → ℕ → List Test → List (List (List ℕ))
@@ -57,17 +57,8 @@ abbrev pub Countable : Soc → Type 0
 Countable s = (i : ℕ) → i < s .«module_count» → (getD (s .modules) i noModule .«chain_count» ≤ chainsMax) × (getD (s .modules) i noModule .«test_count» ≤ testsMax)
 
 -- "SOC writer: 14, 11": what is answered, and what the lent buffer then holds
-abbrev pub refusedWrite : ℕ → SocWritten
-refusedWrite n = record { refusal = refused n 0; len = 0 }
-
-unfoldable pub writeAnswer : Soc → List ℕ → SocWritten
-writeAnswer s buf =
-    cond (goodSoc s)
-    (cond (leb (length (writtenSoc s)) (length buf)) (record { refusal = accepted; len = length (writtenSoc s) }) (refusedWrite 11))
-    (refusedWrite 14)
+unfoldable pub writeAnswer : Soc → List ℕ → Written
+writeAnswer s buf = cond (goodSoc s) (written (writtenSoc s) buf) (refusedWrite 14)
 
 unfoldable pub writeLeaves : Soc → List ℕ → List ℕ
-writeLeaves s buf =
-    cond (goodSoc s)
-    (cond (leb (length (writtenSoc s)) (length buf)) (writtenSoc s ++ drop (length (writtenSoc s)) buf) buf)
-    buf
+writeLeaves s buf = cond (goodSoc s) (putFront (writtenSoc s) buf) buf

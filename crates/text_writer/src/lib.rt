@@ -3,5 +3,4 @@ mod put;
 mod write;
 mod write_lines;
 
-pub use write::SocWritten;
 pub use write::write_soc;

@@ -4,37 +4,23 @@ use super::write_lines::put_level_line;
 use super::write_lines::put_position_line;
 use super::write_lines::put_test_line;
 use super::write_lines::put_tests_line;
+use buffer::Written;
 use soc::Module;
 use soc::Soc;
-use units::Refusal;
+use soc::TEXT_MAX;
 ghost use mathlib.Core.Path.{_≡_};
 ghost use mathlib.Core.Bool.{true};
 ghost use Prim.Native.Nat.{_+_, _≤_};
 ghost use lib.ListN.{length, take};
+ghost use Rattle.soc.specs.Limits.{modulesMax, chainsMax, testsMax};
 ghost use Rattle.soc.specs.Rules.{goodSoc};
 ghost use Rattle.fields.specs.Written.{writtenLines};
-ghost use Rattle.text_writer.specs.Written.{testLines, moduleLinesOf, moduleLinesFrom, writtenSoc, refusedWrite, writeAnswer, writeLeaves, Countable};
-ghost use Rattle.text_writer.specs.Room.{allOrNone};
+ghost use Rattle.text_writer.specs.Written.{testLines, moduleLinesOf, moduleLinesFrom, writtenSoc, writeAnswer, writeLeaves, Countable};
 ghost use Rattle.buffer.specs.Puts.{Put};
-
-// How many bytes were written; or the refusal.
-pub struct SocWritten {
-    pub refusal: Refusal,
-    pub len: usize,
-}
-
-fn refused_write(n: u8) -> SocWritten
-    ensures { λ r. ⌜ r ≡ refusedWrite n ⌝ }
-{
-    SocWritten {
-        refusal: Refusal::at(n, 0),
-        len: 0,
-    }
-}
 
 // The lines of the first n tests of module m.
 fn put_tests(buf: &mut [u8], at: usize, m: u64, d: Module, n: usize, power: bool) -> usize
-    requires { ⌜ (n ≤ 8) × (at + length (writtenLines (testLines power m 1 (take n (d .tests)))) ≤ length (now buf)) ⌝ }
+    requires { ⌜ (n ≤ testsMax) × (at + length (writtenLines (testLines power m 1 (take n (d .tests)))) ≤ length (now buf)) ⌝ }
     ensures { λ r. ⌜ Put (writtenLines (testLines power m 1 (take n (d .tests)))) at (now (buf .entry)) (now (buf .exit)) r ⌝ }
 {
     let mut e = at;
@@ -48,7 +34,7 @@ fn put_tests(buf: &mut [u8], at: usize, m: u64, d: Module, n: usize, power: bool
 }
 
 fn put_module(buf: &mut [u8], at: usize, m: u64, d: Module, power: bool, xy: bool) -> usize
-    requires { ⌜ (d .«chain_count» ≤ 64) × (d .«test_count» ≤ 8) × (at + length (writtenLines (moduleLinesOf power xy m d)) ≤ length (now buf)) ⌝ }
+    requires { ⌜ (d .«chain_count» ≤ chainsMax) × (d .«test_count» ≤ testsMax) × (at + length (writtenLines (moduleLinesOf power xy m d)) ≤ length (now buf)) ⌝ }
     ensures { λ r. ⌜ Put (writtenLines (moduleLinesOf power xy m d)) at (now (buf .entry)) (now (buf .exit)) r ⌝ }
 {
     let n = d.test_count;
@@ -60,7 +46,7 @@ fn put_module(buf: &mut [u8], at: usize, m: u64, d: Module, power: bool, xy: boo
 
 // The lines of the first n modules.
 fn put_modules(buf: &mut [u8], at: usize, s: Soc, n: usize) -> usize
-    requires { ⌜ (n ≤ 40) × (n ≤ s .«module_count») × Countable s × (at + length (writtenLines (moduleLinesFrom (s .power) (s .xy) 0 (take n (s .modules)))) ≤ length (now buf)) ⌝ }
+    requires { ⌜ (n ≤ modulesMax) × (n ≤ s .«module_count») × Countable s × (at + length (writtenLines (moduleLinesFrom (s .power) (s .xy) 0 (take n (s .modules)))) ≤ length (now buf)) ⌝ }
     ensures { λ r. ⌜ Put (writtenLines (moduleLinesFrom (s .power) (s .xy) 0 (take n (s .modules)))) at (now (buf .entry)) (now (buf .exit)) r ⌝ }
 {
     let power = s.power;
@@ -85,28 +71,13 @@ fn put_soc(buf: &mut [u8], s: Soc) -> usize
     put_modules(&mut *buf, a, s, n)
 }
 
-// How many of n bytes are written into a room: all of them, or none.
-fn all_or_none(n: usize, room: usize) -> usize
-    ensures { λ r. ⌜ r ≡ allOrNone n room ⌝ }
-{
-    if n <= room { n } else { 0 }
-}
-
-pub fn write_soc(s: Soc, buf: &mut [u8]) -> SocWritten
+pub fn write_soc(s: Soc, buf: &mut [u8]) -> Written
     ensures { λ r. ⌜ (r ≡ writeAnswer s (now (buf .entry))) × (now (buf .exit) ≡ writeLeaves s (now (buf .entry))) ⌝ }
 {
     if !soc::is_good(s) {
-        return refused_write(14);
+        return buffer::refused_write(14);
     }
-    let mut form = [0u8; 61440];
+    let mut form = [0u8; TEXT_MAX];
     let n = put_soc(&mut form, s);
-    let k = all_or_none(n, buf.len());
-    buffer::write_bytes(&mut *buf, &form[..k]);
-    if k < n {
-        return refused_write(11);
-    }
-    SocWritten {
-        refusal: Refusal::none(),
-        len: n,
-    }
+    buffer::write(&mut *buf, &form[..n])
 }

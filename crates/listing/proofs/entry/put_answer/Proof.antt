@@ -5,8 +5,8 @@ use native.Mathlib.Omega.{arith}
 use mathlib.Core.Path.{ap}
 use Rattle.fields.specs.Written.{writtenLines}
 use Rattle.soc.proofs.GoodSocLaws.{soc-figures}
-use Rattle.plan_file.proofs.GoodLaws.{GoodFigures, good-figures}
-use Rattle.plan_file.proofs.PlannerLaws.{planner-answers-good}
+use Rattle.plan_record.proofs.GoodPlanLaws.{GoodFigures, good-figures}
+use Rattle.plan.proofs.PlannerLaws.{planner-answers-good}
 use Rattle.listing.proofs.ListingLaws.{put-as, plan-refused, plan-found}
 use Rattle.listing.proofs.entry.put_answer.Statement.{statement}
 use Rattle.listing.proofs.entry.put_answer.Tie as tie

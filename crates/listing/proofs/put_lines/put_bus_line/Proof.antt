@@ -9,12 +9,13 @@ use Rattle.fields.specs.Bytes.{bytes}
 use Rattle.fields.specs.Written.{decimal, writtenLines}
 use Rattle.buffer.proofs.PutLaws.{due-all, due-key, put-is}
 use Rattle.listing.specs.Listing.{busFields}
+use Rattle.listing.specs.Room.{busRoom}
 use Rattle.listing.proofs.LineLaws.{bus-text, bus-size}
 use Rattle.listing.proofs.put_lines.put_bus_line.Statement.{statement}
 use Rattle.listing.proofs.put_lines.put_bus_line.Tie as tie
 
 -- how long the line is, and that there is room for it
-short : (s : tie.Start) → length (writtenLines (busFields (s .args .i) (s .args .b) ∷ [])) ≤ 78
+short : (s : tie.Start) → length (writtenLines (busFields (s .args .i) (s .args .b) ∷ [])) ≤ busRoom
 short s = let g = s .good .1 .1 .1 .0 .1 .1 in bus-size (s .args .i) (s .args .b) (omega (arith, s .fits .i)) (omega (arith, g .0 .1 .1 .0 .1)) (omega (arith, g .1 .0 .1 .1 .0 .1))
 
 room : (s : tie.Start) → s .args .at + length (writtenLines (busFields (s .args .i) (s .args .b) ∷ [])) ≤ length (s .args .buf .now)

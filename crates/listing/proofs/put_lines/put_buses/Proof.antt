@@ -8,15 +8,16 @@ use mathlib.Core.List.{[], _∷_, _++_}
 use lib.ListN.{length, getD, take, length-map, length-append}
 use Rattle.buffer.specs.Puts.{Put}
 use Rattle.buffer.proofs.PutLaws.{put-none, put-then}
-use Rattle.plan.specs.Answers.{noBus}
+use Rattle.plan_record.specs.Record.{noBus}
 use Rattle.fields.specs.Written.{writtenLines}
 use Rattle.listing.specs.Listing.{busFields, busLines}
+use Rattle.listing.specs.Room.{busRoom}
 use Rattle.listing.proofs.LineLaws.{busesText, buses-more}
 use Rattle.listing.proofs.put_lines.put_buses.Statement.{statement}
 use Rattle.listing.proofs.put_lines.put_buses.Tie as tie
 
 abbrev Inv-loop : tie.InvT-loop
-Inv-loop buf₀ at p n e₀ i₀ buf e i = (i ≤ n) × (length buf ≡ length buf₀) × Put (busesText (take i (p .buses))) at buf₀ buf e × (length (busesText (take i (p .buses))) ≤ i * 78)
+Inv-loop buf₀ at p n e₀ i₀ buf e i = (i ≤ n) × (length buf ≡ length buf₀) × Put (busesText (take i (p .buses))) at buf₀ buf e × (length (busesText (take i (p .buses))) ≤ i * busRoom)
 
 abbrev μ-loop : tie.MeasureT-loop
 μ-loop buf₀ at p n e₀ i₀ buf e i = n - i

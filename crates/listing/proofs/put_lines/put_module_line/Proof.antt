@@ -9,12 +9,13 @@ use Rattle.fields.specs.Bytes.{bytes}
 use Rattle.fields.specs.Written.{decimal, writtenLines}
 use Rattle.buffer.proofs.PutLaws.{due-all, due-key, put-is}
 use Rattle.listing.specs.Listing.{moduleFields}
+use Rattle.listing.specs.Room.{moduleRoom}
 use Rattle.listing.proofs.LineLaws.{module-text, module-size}
 use Rattle.listing.proofs.put_lines.put_module_line.Statement.{statement}
 use Rattle.listing.proofs.put_lines.put_module_line.Tie as tie
 
 -- how long the line is, and that there is room for it
-short : (s : tie.Start) → length (writtenLines (moduleFields (s .args .m) ∷ [])) ≤ 108
+short : (s : tie.Start) → length (writtenLines (moduleFields (s .args .m) ∷ [])) ≤ moduleRoom
 short s = let g = s .good .1 .1 .0 .1 .1 in module-size (s .args .m) (omega (arith, g .0 .1)) (omega (arith, g .1 .0 .1)) (omega (arith, g .1 .1 .0 .1 .1 .0 .1)) (omega (arith, g .1 .1 .1 .0 .1 .1 .0 .1))
 
 room : (s : tie.Start) → s .args .at + length (writtenLines (moduleFields (s .args .m) ∷ [])) ≤ length (s .args .buf .now)

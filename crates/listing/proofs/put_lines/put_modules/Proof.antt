@@ -8,15 +8,16 @@ use mathlib.Core.List.{[], _∷_, _++_}
 use lib.ListN.{length, getD, take, length-map, length-append}
 use Rattle.buffer.specs.Puts.{Put}
 use Rattle.buffer.proofs.PutLaws.{put-none, put-then}
-use Rattle.plan.specs.Answers.{noPlaced}
+use Rattle.plan_record.specs.Record.{noPlaced}
 use Rattle.fields.specs.Written.{writtenLines}
 use Rattle.listing.specs.Listing.{moduleFields, moduleLines}
+use Rattle.listing.specs.Room.{moduleRoom}
 use Rattle.listing.proofs.LineLaws.{modulesText, modules-more}
 use Rattle.listing.proofs.put_lines.put_modules.Statement.{statement}
 use Rattle.listing.proofs.put_lines.put_modules.Tie as tie
 
 abbrev Inv-loop : tie.InvT-loop
-Inv-loop buf₀ at p n e₀ i₀ buf e i = (i ≤ n) × (length buf ≡ length buf₀) × Put (modulesText (take i (p .modules))) at buf₀ buf e × (length (modulesText (take i (p .modules))) ≤ i * 108)
+Inv-loop buf₀ at p n e₀ i₀ buf e i = (i ≤ n) × (length buf ≡ length buf₀) × Put (modulesText (take i (p .modules))) at buf₀ buf e × (length (modulesText (take i (p .modules))) ≤ i * moduleRoom)
 
 abbrev μ-loop : tie.MeasureT-loop
 μ-loop buf₀ at p n e₀ i₀ buf e i = n - i

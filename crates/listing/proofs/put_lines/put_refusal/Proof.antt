@@ -9,12 +9,13 @@ use Rattle.fields.specs.Bytes.{bytes}
 use Rattle.fields.specs.Written.{decimal, writtenLines}
 use Rattle.buffer.proofs.PutLaws.{due-all, due-key, put-is}
 use Rattle.listing.specs.Listing.{refusalFields}
+use Rattle.listing.specs.Room.{refusalRoom}
 use Rattle.listing.proofs.LineLaws.{refusal-text, refusal-size}
 use Rattle.listing.proofs.put_lines.put_refusal.Statement.{statement}
 use Rattle.listing.proofs.put_lines.put_refusal.Tie as tie
 
 -- how long the line is, and that there is room for it
-short : (s : tie.Start) → length (writtenLines (refusalFields (s .args .r) ∷ [])) ≤ 55
+short : (s : tie.Start) → length (writtenLines (refusalFields (s .args .r) ∷ [])) ≤ refusalRoom
 short s = refusal-size (s .args .r) (omega (arith, s .good .1 .1 .0 .1 .1 .0 .1)) (omega (arith, s .good .1 .1 .0 .1 .1 .1 .0 .1))
 
 room : (s : tie.Start) → s .args .at + length (writtenLines (refusalFields (s .args .r) ∷ [])) ≤ length (s .args .buf .now)

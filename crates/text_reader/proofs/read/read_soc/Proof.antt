@@ -3,7 +3,8 @@ use borrow.Author.Needs.{needs}
 use borrow.Author.Tests.{le-leb, lt-leb}
 use mathlib.Core.Path.{sym, ap, _∙_}
 use lib.ListN.{length}
-use Rattle.text_reader.specs.Reading.{textMax, refusedSoc, unlessBad, readSoc}
+use Rattle.soc.specs.Limits.{textMax}
+use Rattle.text_reader.specs.Reading.{refusedSoc, unlessBad, readSoc}
 use Rattle.text_reader.proofs.read.read_soc.Statement.{statement}
 use Rattle.text_reader.proofs.read.read_soc.Tie as tie
 

@@ -9,10 +9,10 @@ use mathlib.Core.Bool.{true, false}
 use mathlib.Core.List.{List}
 use lib.ListN.{length, replicate, length-replicate}
 use lib.Seq.{length-take-le}
+use Rattle.soc.specs.Limits.{textMax}
 use Rattle.soc.specs.Rules.{goodSoc}
 use Rattle.text_writer.specs.Written.{writtenSoc, writeAnswer, writeLeaves}
-use Rattle.buffer.proofs.PutLaws.{front-behind, front-within, front-text}
-use Rattle.text_writer.proofs.RoomLaws.{room-most, room-none, room-all}
+use Rattle.buffer.proofs.PutLaws.{front-within, front-text}
 use Rattle.text_writer.proofs.SizeLaws.{written-short}
 use Rattle.text_writer.proofs.write.write_soc.Statement.{statement}
 use Rattle.text_writer.proofs.write.write_soc.Tie as tie
@@ -22,10 +22,6 @@ fits k z w h = rw length-replicate h
 
 good : (c : tie.Else1) → goodSoc (c .before .before .before .args .s) ≡ true
 good c = sym (c .before .is-good .ensures) ∙ not-false _ (c .if1 .left)
-
--- no more than the form is taken of it
-prefix : (c : tie.After-all-or-none) → c .all-or-none .result ≤ length (c .before .before .put-soc .last .0)
-prefix c = omega (arith, c .all-or-none .ensures, room-most (c .before .before .put-soc .result) (length (c .before .before .before .before .before .before .before .args .buf .now)), front-within (c .before .before .put-soc .ensures))
 
 is-good-requires : tie.Need-is-good-requires
 is-good-requires c κs = search needs
@@ -45,22 +41,16 @@ slice-aggregate-put-soc : tie.Need-slice-aggregate-put-soc
 slice-aggregate-put-soc c = search needs
 
 put-soc-requires : tie.Need-put-soc-requires
-put-soc-requires c κs = let s = c .before .before .before .before in (good (c .before), fits 61440 0 (writtenSoc (s .args .s)) (written-short (s .args .s) (good (c .before))))
-
-all-or-none-requires : tie.Need-all-or-none-requires
-all-or-none-requires c κs = search needs
+put-soc-requires c κs = let s = c .before .before .before .before in (good (c .before), fits textMax 0 (writtenSoc (s .args .s)) (written-short (s .args .s) (good (c .before))))
 
 array-share-prefix-form : tie.Need-array-share-prefix-form
-array-share-prefix-form c = prefix (c .before)
+array-share-prefix-form c = front-within (c .before .before .put-soc .ensures)
 
-slice-aggregate-write-bytes : tie.Need-slice-aggregate-write-bytes
-slice-aggregate-write-bytes c = sym (length-take-le _ _ (prefix (c .before .before)))
+slice-aggregate-write : tie.Need-slice-aggregate-write
+slice-aggregate-write c = sym (length-take-le _ _ (front-within (c .before .before .before .put-soc .ensures)))
 
-write-bytes-requires : tie.Need-write-bytes-requires
-write-bytes-requires c κs = search needs
-
-refused-write-requires-2 : tie.Need-refused-write-requires-2
-refused-write-requires-2 c κs = search needs
+write-requires : tie.Need-write-requires
+write-requires c κs = search needs
 
 same-length : tie.Need-same-length
 same-length c = search needs
@@ -68,32 +58,11 @@ same-length c = search needs
 returns-2 : tie.Need-returns-2
 unfolding writeAnswer writeLeaves
 returns-2 c =
-    let b = c .before .before .before .before in
-    let a = b .before .before .before in
-    let k = a .before .before in
-    let i = k .before .before in
-    let s = i .before .before .before in
+    let w = c .before .before in
+    let k = w .before .before .before .before in
     let p = k .put-soc .ensures in
-    let r = room-none (writtenSoc (s .args .s)) (k .put-soc .last .0) (s .args .buf .now) _ _ _ (front-behind p) (front-text p) (a .all-or-none .ensures) (b .write-bytes .ensures .1) (c .before .if2 .taken) in
-    (c .refused-write2 .ensures ∙ simp (good i, r .0), r .1 ∙ simp (good i, r .0))
-
-none-requires : tie.Need-none-requires
-none-requires c κs = search needs
-
-same-length-2 : tie.Need-same-length-2
-same-length-2 c = search needs
-
-returns-3 : tie.Need-returns-3
-unfolding writeAnswer writeLeaves
-returns-3 c =
-    let b = c .before .before .before .before in
-    let a = b .before .before .before in
-    let k = a .before .before in
-    let i = k .before .before in
-    let s = i .before .before .before in
-    let p = k .put-soc .ensures in
-    let r = room-all (writtenSoc (s .args .s)) (k .put-soc .last .0) (s .args .buf .now) _ _ _ (front-behind p) (front-text p) (a .all-or-none .ensures) (b .write-bytes .ensures .1) (c .before .if2 .left) in
-    (rw (c .none .ensures, front-behind p) (simp (good i, r .0)), r .1 ∙ simp (good i, r .0))
+    let e = good (k .before .before) in
+    ((rw (front-text p) at (w .write .ensures .0)) ∙ simp e, (rw (front-text p) at (w .write .ensures .1)) ∙ simp e)
 
 pub write-soc-spec : {M : Type 1} → statement M
 write-soc-spec =
@@ -104,13 +73,8 @@ write-soc-spec =
     returns
     slice-aggregate-put-soc
     put-soc-requires
-    all-or-none-requires
     array-share-prefix-form
-    slice-aggregate-write-bytes
-    write-bytes-requires
-    refused-write-requires-2
+    slice-aggregate-write
+    write-requires
     same-length
-    returns-2
-    none-requires
-    same-length-2
-    returns-3)
+    returns-2)

@@ -1,9 +1,9 @@
--- `text_writer::write::all_or_none` meets its contract: its test is that of the definition. Assumes nothing.
+-- `buffer::written::all_or_none` meets its contract: its test is that of the definition. Assumes nothing.
 use borrow.Author.Tests.{le-leb, lt-leb}
 use mathlib.Core.Path.{sym}
-use Rattle.text_writer.specs.Room.{allOrNone}
-use Rattle.text_writer.proofs.write.all_or_none.Statement.{statement}
-use Rattle.text_writer.proofs.write.all_or_none.Tie as tie
+use Rattle.buffer.specs.Room.{allOrNone}
+use Rattle.buffer.proofs.written.all_or_none.Statement.{statement}
+use Rattle.buffer.proofs.written.all_or_none.Tie as tie
 
 returns : tie.Need-returns
 unfolding allOrNone

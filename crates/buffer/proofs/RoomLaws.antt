@@ -7,8 +7,8 @@ use native.Mathlib.Omega.{arith}
 use borrow.Author.Tests.{leb-false, le-leb}
 use lib.ListN.{length, take, drop}
 use lib.Dec.{leb}
 use Rattle.buffer.specs.Puts.{putFront}
-use Rattle.text_writer.specs.Room.{allOrNone}
+use Rattle.buffer.specs.Room.{allOrNone}
 
 -- no more than there is
 pub room-most : (n room : ℕ) → allOrNone n room ≤ n
