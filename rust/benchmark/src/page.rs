@@ -85,7 +85,8 @@ fn reading(text: &str) -> Pair {
 /// Every module's time at every width, one call each.
 fn times(text: &str) -> Pair {
     let record = record(text);
-    let asked: Vec<(u32, u32)> = (0..u32::from(record[44])).flat_map(|module| (1..=64).map(move |width| (module, width))).collect();
+    let asked: Vec<(u32, u32)> =
+        (0..u32::from(record[library::places::soc::MODULE_COUNT])).flat_map(|module| (1..=64).map(move |width| (module, width))).collect();
     pair(
         || {
             for &(module, width) in &asked {

@@ -51,6 +51,11 @@ pub fn read_plan(file: &[u8], plan: &mut [u8]) -> Answer {
     Answer::from_number(unsafe { tallowwing_read_plan(file.as_ptr(), file.len(), plan.as_mut_ptr(), plan.len()) })
 }
 
+/// Lists a plan record: the line `wires W limit B time T`, then its buses and modules as in a listing.
+pub fn show(plan: &[u8], listing: &mut [u8]) -> Answer {
+    Answer::from_number(unsafe { tallowwing_show(plan.as_ptr(), plan.len(), listing.as_mut_ptr(), listing.len()) })
+}
+
 /// Lists the plan for a line `Plan W B` and the SOC text behind it, or the line `refused N line L`.
 pub fn listing(input: &[u8], listing: &mut [u8]) -> Answer {
     Answer::from_number(unsafe { tallowwing_listing(input.as_ptr(), input.len(), listing.as_mut_ptr(), listing.len()) })

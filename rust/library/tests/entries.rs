@@ -42,6 +42,16 @@ fn plan_goes_to_the_file_and_back() {
 }
 
 #[test]
+fn a_plan_record_is_shown_as_it_is_listed() {
+    let (mut planned, mut shown, mut listed) = ([0; PLAN_BYTES], [0; LISTING_MAX], [0; LISTING_MAX]);
+    assert_eq!(plan(&record(), 4, 2, &mut planned), Answer::Figure(PLAN_BYTES as u64));
+    let length = show(&planned, &mut shown).figure().expect("a good record") as usize;
+    assert!(listing(&[b"Plan 4 2\n", T1].concat(), &mut listed).figure().is_some());
+    assert_eq!([b"soc t1 ", &shown[..length]].concat(), listed[..length + 7]);
+    assert_eq!(show(&planned, &mut shown[..length - 1]), refused(11));
+}
+
+#[test]
 fn empty_slices_are_refused_and_no_more() {
     assert_eq!(read_soc(&[], &mut []), refused(6));
     assert_eq!(read_soc(T1, &mut []), refused(11));
@@ -53,6 +63,7 @@ fn empty_slices_are_refused_and_no_more() {
     assert_eq!(plan(&[], 0, 0, &mut []), refused(14));
     assert_eq!(write_plan(&[], &mut []), refused(12));
     assert_eq!(read_plan(&[], &mut []), refused(12));
+    assert_eq!(show(&[], &mut []), refused(12));
     assert_eq!(listing(&[], &mut []), refused(11));
 }
 
