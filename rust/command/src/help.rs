@@ -1,5 +1,7 @@
 //! The texts of the help.
 
+use crate::refusals::{Words, REFUSALS};
+
 pub const ABOUT: &str = "Plans the test buses of a chip";
 
 pub const LONG_ABOUT: &str = "\
@@ -10,21 +12,18 @@ standard input.";
 
 pub const AFTER: &str = "See `tallowwing --help` for exit statuses and refusals.";
 
-pub const AFTER_LONG: &str = "\
-A refusal prints `refused N line L` on standard output and what is wrong on standard error. N is one of:
-   1  the text is longer than 61,440 bytes
-   2  a byte that a SOC text cannot hold
-   3  a wrong keyword, flag, name or form, too few or too many fields, or a line too many
-   4  a number is not decimal or is outside its limit
-   5  a module or test number, a level or an X/Y pair breaks its rule
-   6  the text ends while lines are still due
-   7  the number of wires is not from 1 to 64
-   8  the limit of buses is not from 1 to 3
-   9  no module is planned
-  10  more than 12 modules are planned
-  12  not a good plan file
-  13  no such module, or no such test in the module
+/// The refusals from their table, then what the statuses mean.
+pub fn after_long() -> String {
+    let line = |refusal: &Words| format!("  {:>2}  {}\n", refusal.number, refusal.words);
+    let refusals: String = REFUSALS.iter().map(line).collect();
+    format!("{BEFORE_REFUSALS}{refusals}{BEHIND_REFUSALS}")
+}
 
+const BEFORE_REFUSALS: &str = "\
+A refusal prints `refused N line L` on standard output and what is wrong on standard error. L is 0 where no line is meant. N is one of:
+";
+
+const BEHIND_REFUSALS: &str = "
 Exit status:
   0  done
   1  refused
@@ -65,3 +64,13 @@ pub const SHOW: &str = "\
 Shows what a plan file holds.
 
 Prints `wires W limit B time T`, then the lines of the buses and modules as `tallowwing plan` has them.";
+
+pub const COMPLETIONS: &str = "\
+Prints the completions for a shell.
+
+For bash: `source <(tallowwing completions bash)`.";
+
+pub const MANUAL: &str = "\
+Prints the manual page.
+
+To read it: `tallowwing manual | man -l -`.";
