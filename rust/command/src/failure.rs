@@ -3,6 +3,9 @@
 use std::io;
 use std::path::{Path, PathBuf};
 
+use crate::excerpt::line_of;
+use crate::spot::spot;
+
 pub enum Failure {
     /// The library refused what a file holds, or a number asked of it.
     Refused(Refusal),
@@ -27,8 +30,8 @@ pub struct Refusal {
     pub place: Place,
     /// What is known beyond the words: a count, or what would have been right.
     pub known: Option<String>,
-    /// The text that the line stands in.
-    pub text: Vec<u8>,
+    /// The line as it is shown beneath the message, and the byte of it that is meant.
+    pub shown: Option<(Vec<u8>, Option<usize>)>,
 }
 
 /// What a refusal belongs to.
@@ -41,15 +44,15 @@ pub enum Place {
 impl Refusal {
     /// A refusal of a text, with its line or without.
     pub fn of_text(file: &Path, text: &[u8], number: u8, line: u64) -> Self {
-        Refusal { text: text.to_vec(), ..Refusal::without_line(Place::File(file.to_path_buf()), number, None).at(line) }
+        let shown = line_of(text, line);
+        let spot = shown.and_then(|bytes| spot(bytes, number));
+        let known = spot.as_ref().and_then(|spot| spot.known.clone());
+        let shown = shown.map(|bytes| (bytes.to_vec(), spot.map(|spot| spot.at)));
+        Refusal { number, line, place: Place::File(file.to_path_buf()), known, shown }
     }
 
     pub fn without_line(place: Place, number: u8, known: Option<String>) -> Self {
-        Refusal { number, line: 0, place, known, text: Vec::new() }
-    }
-
-    fn at(self, line: u64) -> Self {
-        Refusal { line, ..self }
+        Refusal { number, line: 0, place, known, shown: None }
     }
 }
 

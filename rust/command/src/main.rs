@@ -19,6 +19,7 @@ mod report;
 mod show;
 mod soc;
 mod soc_file;
+mod spot;
 mod tell;
 mod time;
 mod write;

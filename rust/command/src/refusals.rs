@@ -9,7 +9,7 @@ pub struct Words {
 
 pub const REFUSALS: [Words; 14] = [
     of_file(1, "the text is longer than 61,440 bytes"),
-    of_file(2, "a byte is none of tab, LF, CR before LF, or 32 to 126"),
+    of_file(FORBIDDEN_BYTE, "a byte is none of tab, LF, CR before LF, or 32 to 126"),
     of_file(3, "a wrong keyword, 0/1 flag, name or form, too few or too many fields, or a line after the last one due"),
     Words { number: NOT_DECIMAL, words: "a number is not decimal or is outside its limit", arguments: &["W", "B"] },
     of_file(5, "a module or test number, a level or an X/Y pair breaks its rule"),
@@ -25,6 +25,7 @@ pub const REFUSALS: [Words; 14] = [
 ];
 
 /// Refusals that are told with more than their words.
+pub const FORBIDDEN_BYTE: u8 = 2;
 pub const NOT_DECIMAL: u8 = 4;
 pub const MANY_PLANNED: u8 = 10;
 pub const NOT_THERE: u8 = 13;

@@ -40,7 +40,7 @@ fn tell_refusal(refusal: &Refusal, form: Form) -> ExitCode {
 
 /// `FILE:LINE: what is wrong (refusal N)` with the line beneath, or `ARGUMENT VALUE: what is wrong (refusal N)`.
 fn message(refusal: &Refusal, columns: usize) -> String {
-    let Refusal { number, line, place, known, text } = refusal;
+    let Refusal { number, line, place, known, shown } = refusal;
     let place = match place {
         Place::File(file) if *line > 0 => format!("{}:{line}", file.display()),
         Place::File(file) => file.display().to_string(),
@@ -48,8 +48,8 @@ fn message(refusal: &Refusal, columns: usize) -> String {
     };
     let known = known.as_ref().map_or(String::new(), |known| format!(": {known}"));
     let told = format!("{place}: {}{known} (refusal {number})", refusals::of(*number).words);
-    match excerpt(text, *line, columns) {
-        Some(lines) => format!("{told}\n{lines}"),
+    match shown {
+        Some((bytes, mark)) => format!("{told}\n{}", excerpt(bytes, *line, *mark, columns)),
         None => told,
     }
 }
@@ -93,7 +93,9 @@ mod tests {
     #[test]
     fn a_line_is_shown_beneath_the_message() {
         let refusal = Refusal::of_text(Path::new("x.soc"), b"SocName t1\nTotalModules 0\n", 4, 2);
-        let told = "x.soc:2: a number is not decimal or is outside its limit (refusal 4)\n 2 | TotalModules 0";
+        let told = "x.soc:2: a number is not decimal or is outside its limit: 0 is not from 1 to 40 (refusal 4)
+ 2 | TotalModules 0
+   |              ^";
         assert_eq!(message(&refusal, 80), told);
     }
 

@@ -71,3 +71,27 @@ fn a_refusal() {
     assert_eq!(object(&folder, &["show", "--json", "x.soc"], 1), json!({"refused": 12, "line": 0}));
     assert_eq!(object(&folder, &["plan", "--json", "t1.soc", "x", "2"], 1), json!({"refused": 4, "line": 0}));
 }
+
+/// Every key of an object, those of the objects in its arrays included.
+fn keys(value: &Value) -> Vec<String> {
+    match value {
+        Value::Object(members) => members.iter().flat_map(|(key, value)| [vec![key.clone()], keys(value)].concat()).collect(),
+        Value::Array(values) => values.iter().flat_map(keys).collect(),
+        _ => Vec::new(),
+    }
+}
+
+#[test]
+fn the_manual_names_every_key() {
+    let folder = Folder::holding("t1.soc", T1);
+    let page = folder.run(&["manual"]).out;
+    let output = page.split_once(".SH OUTPUT").expect("the section").1.split_once("\n.SH").expect("its end").0;
+    let words: Vec<&str> = output.split(|byte: char| !byte.is_ascii_alphanumeric()).collect();
+    let mut calls = vec![object(&folder, &["plan", "--json", "t1.soc", "0", "2"], 1)];
+    calls.push(object(&folder, &["plan", "--json", "t1.soc", "4", "2"], 0));
+    calls.push(object(&folder, &["layout", "--json", "t1.soc", "1", "1", "4"], 0));
+    calls.push(object(&folder, &["time", "--json", "t1.soc", "1", "4"], 0));
+    for key in calls.iter().flat_map(keys) {
+        assert!(words.contains(&key.as_str()), "{key}");
+    }
+}

@@ -56,18 +56,20 @@ fn refusal_3() {
 
 #[test]
 fn refusal_4() {
-    let words = "a number is not decimal or is outside its limit";
+    let words = |known: &str| format!("a number is not decimal or is outside its limit: {known}");
     let line = " 6 | Module 1 Level 1 Inputs 0 Outputs 0 Bidirs 0 ScanChains 1 : 4097\n";
-    text_is_refused(&T1.replace(": 10", ": 4097"), 4, 6, words, line);
-    text_is_refused(&T1.replace("TotalModules 3", "TotalModules 03"), 4, 2, words, " 2 | TotalModules 03\n");
+    let mark = format!("   | {}^\n", " ".repeat(line.find("4097").unwrap() - 5));
+    text_is_refused(&T1.replace(": 10", ": 4097"), 4, 6, &words("4097 is not from 1 to 4,096"), &format!("{line}{mark}"));
+    let beneath = " 2 | TotalModules 03\n   |              ^\n";
+    text_is_refused(&T1.replace("TotalModules 3", "TotalModules 03"), 4, 2, &words("03 is not from 1 to 40"), beneath);
 }
 
 #[test]
 fn a_long_line_is_cut_where_no_terminal_is() {
-    let words = "a number is not decimal or is outside its limit";
-    let long = format!("TotalModules {}", "9".repeat(500));
-    let shown = format!(" 2 | TotalModules {}..\n", "9".repeat(120 - 5 - 2 - "TotalModules ".len()));
-    text_is_refused(&T1.replace("TotalModules 3", &long), 4, 2, words, &shown);
+    let words = "a wrong keyword, 0/1 flag, name or form, too few or too many fields, or a line after the last one due";
+    let long = format!("TotalModules 3 {}", "9".repeat(500));
+    let shown = format!(" 2 | TotalModules 3 {}..\n", "9".repeat(120 - 5 - 2 - "TotalModules 3 ".len()));
+    text_is_refused(&T1.replace("TotalModules 3", &long), 3, 2, words, &shown);
 }
 
 #[test]

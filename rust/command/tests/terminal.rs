@@ -45,7 +45,11 @@ fn a_time_is_one_line_and_json_one_object() {
 #[test]
 fn a_line_is_cut_to_the_terminal() {
     let folder = Folder::holding("x.soc", T1.replace(": 10", ": 4097"));
+    folder.put("y.soc", T1.replace(": 10", ": 10 x"));
     let shown = on_a_terminal(&folder, "soc x.soc");
+    let line = "\n 6 | ..l 1 Inputs 0 Outputs 0 Bidirs 0 ScanChains 1 : 4097\n";
+    assert!(shown.contains(line), "{shown}");
+    let shown = on_a_terminal(&folder, "soc y.soc");
     let line = "\n 6 | Module 1 Level 1 Inputs 0 Outputs 0 Bidirs 0 ScanChai..\n";
     assert!(shown.contains(line), "{shown}");
 }
