@@ -1,17 +1,18 @@
 /*
  * Tallowwing for C: every entry of the library, on numbers and bytes.
  *
- * Each function is proved to answer its definition for all inputs. None has to be asked first whether an input is good: a bad one ends in a
- * refusal. A pointer with its length lends that many bytes for the call and no longer; a length of 0 lends nothing, and the pointer may then be
- * anything but null. Bytes that are only read are never written. Two lent parts of one call must not overlap where one of them is written.
+ * Each function is proved to answer its definition for all inputs. None has to be asked first whether an input is good: a bad one ends in
+ * a refusal. A pointer with its length lends that many bytes for the call and no longer; a length of 0 lends nothing, and the pointer may
+ * then be anything but null. Bytes that are only read are never written. Two lent parts of one call must not overlap where one of them is
+ * written.
  *
  * An answer is one number:
  *
  *   answer % 256   0, or the number of the refusal (1 to 14)
  *   answer / 256   of a refusal its line, counted from 1, or 0 where it has none; else the figure that the function gives
  *
- * A refused call leaves every lent byte as it was. One that is not refused writes its result at the front of the bytes lent for it and leaves the
- * bytes behind it as they were. Numbers in lent bytes are little-endian.
+ * A refused call leaves every lent byte as it was. One that is not refused writes its result at the front of the bytes lent for it and
+ * leaves the bytes behind it as they were. Numbers in lent bytes are little-endian.
  *
  * The refusals:
  *
@@ -50,8 +51,8 @@ extern "C" {
 #define TALLOWWING_SOC_BYTES 16688
 
 /*
- * A layout, 1,024 bytes, each number 4 bytes, 64 places each: 0 flip-flops of wrapper chain i + 1; 256 its input cells; 512 its output cells;
- * 768 the wrapper chain, from 1, of internal chain j + 1. Places past the width or the chains, and of chains not used, are 0.
+ * A layout, 1,024 bytes, each number 4 bytes, 64 places each: 0 flip-flops of wrapper chain i + 1; 256 its input cells; 512 its output
+ * cells; 768 the wrapper chain, from 1, of internal chain j + 1. Places past the width or the chains, and of chains not used, are 0.
  */
 #define TALLOWWING_LAYOUT_BYTES 1024
 

@@ -13,8 +13,8 @@ pub fn print() {
     println!("# The library beside the independent implementation\n");
     println!("Machine: {}, {} cores.\n", machine::processor(), machine::cores());
     println!(
-        "Both are called on the same bytes in one run, in turn; a time is the median of up to nine repetitions. The ratio is the library's time over \
-         the independent implementation's. Bytes lent for results are not cleared between calls.\n"
+        "Both are called on the same bytes in one run, in turn; a time is the median of up to nine repetitions. The ratio is the \
+         library's time over the independent implementation's. Bytes lent for results are not cleared between calls.\n"
     );
     head("Measured");
     row("reading a text of 60,000 bytes", &reading(&inputs::long()));

@@ -7,8 +7,8 @@ pub const ABOUT: &str = "Plans the test buses of a chip";
 pub const LONG_ABOUT: &str = "\
 Plans the test buses of a chip.
 
-Reads a SOC text, lays out wrappers, tells the times of modules, and finds the bus plan of least time for a number of wires. FILE may be - for \
-standard input.";
+Reads a SOC text, lays out wrappers, tells the times of modules, and finds the bus plan of least time for a number of wires. FILE may \
+be - for standard input.";
 
 pub const AFTER: &str = "See `tallowwing --help` for exit statuses and refusals.";
 
@@ -36,8 +36,8 @@ Example:
 pub const PLAN: &str = "\
 Lists the plan of least time for W wires and at most B buses.
 
-Prints `soc NAME wires W limit B time T`, then `bus I width W busy CYCLES` for each bus and `module M bus I wires K cycles CYCLES` for each planned \
-module.";
+Prints `soc NAME wires W limit B time T`, then `bus I width W busy CYCLES` for each bus and `module M bus I wires K cycles CYCLES` for \
+each planned module.";
 
 pub const SOC: &str = "\
 Writes a SOC text in its written form.
@@ -47,8 +47,8 @@ Single spaces, no blank lines, and where an option is 1 every figure, as -1 when
 pub const LAYOUT: &str = "\
 Lays out the wrapper of a module for one of its tests.
 
-Prints `si A so B cycles C` (longest scan-in and scan-out, and the cycles of the test), then `chain I ff F in N out M` for each wrapper chain and \
-`internal J chain I` for each internal chain of the module; chain 0 means that the test does not use it.";
+Prints `si A so B cycles C` (longest scan-in and scan-out, and the cycles of the test), then `chain I ff F in N out M` for each wrapper \
+chain and `internal J chain I` for each internal chain of the module; chain 0 means that the test does not use it.";
 
 pub const TIME: &str = "\
 Tells a module's time on a bus, and its wires.

@@ -1,4 +1,5 @@
-//! The refusals in words, said once: messages, the help and the manual are made of this table, and tests hold the README and the header to it.
+//! The refusals in words, said once: messages, the help and the manual are made of this table, and tests hold the README and the header
+//! to it.
 
 /// A refusal's number, what is wrong, and the arguments that it may belong to; one without arguments belongs to the file.
 pub struct Words {

@@ -1,5 +1,5 @@
-//! Where on its line a refusal of a text lies, as far as the line alone tells it. The library has decided; this is for the message, and judges
-//! nothing.
+//! Where on its line a refusal of a text lies, as far as the line alone tells it. The library has decided; this is for the message, and
+//! judges nothing.
 
 use crate::refusals::{FORBIDDEN_BYTE, NOT_DECIMAL};
 

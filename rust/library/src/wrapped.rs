@@ -1,7 +1,7 @@
 //! Every entry of the library on slices.
 //!
-//! The calls are sound for all slices: the library is proved to stay within the lengths it is given, a slice's pointer is never null even when
-//! it is empty, and a slice that is written cannot overlap one that is read.
+//! The calls are sound for all slices: the library is proved to stay within the lengths it is given, a slice's pointer is never null even
+//! when it is empty, and a slice that is written cannot overlap one that is read.
 
 use crate::answer::Answer;
 use crate::declared::*;
