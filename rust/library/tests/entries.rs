@@ -1,5 +1,6 @@
 //! Every entry answers through the wrappers, empty slices included. What the answers have to be is held against `independent` elsewhere.
 
+use tallowwing_library::views::{Bus, Chain, LayoutView, PlanView, Planned, SocView};
 use tallowwing_library::*;
 
 /// Document 01's text t1.
@@ -49,6 +50,29 @@ fn a_plan_record_is_shown_as_it_is_listed() {
     assert!(listing(&[b"Plan 4 2\n", T1].concat(), &mut listed).figure().is_some());
     assert_eq!([b"soc t1 ", &shown[..length]].concat(), listed[..length + 7]);
     assert_eq!(show(&planned, &mut shown[..length - 1]), refused(11));
+}
+
+#[test]
+fn views_read_figures_by_name() {
+    let record: [u8; SOC_BYTES] = record().try_into().expect("a record's length");
+    let soc = SocView::new(&record);
+    assert_eq!((soc.name(), soc.module_count(), soc.planned_count()), (&b"t1"[..], 3, 2));
+    let counts = |number| soc.module(number).map(|module| (module.chain_count(), module.test_count(), module.is_planned()));
+    assert_eq!([0, 1, 2, 3].map(counts), [Some((0, 0, false)), Some((1, 1, true)), Some((0, 1, true)), None]);
+
+    let mut bytes = [0; LAYOUT_BYTES];
+    assert!(layout(&record, 2, 1, 2, &mut bytes).figure().is_some());
+    assert_eq!(LayoutView::new(&bytes).chain(1), Chain { flip_flops: 0, input_cells: 2, output_cells: 1 });
+    assert!(layout(&record, 1, 1, 2, &mut bytes).figure().is_some());
+    assert_eq!(LayoutView::new(&bytes).wrapper_chain(1), 1);
+
+    let mut bytes = [0; PLAN_BYTES];
+    assert!(plan(&record, 4, 2, &mut bytes).figure().is_some());
+    let view = PlanView::new(&bytes);
+    assert_eq!((view.wires(), view.limit(), view.time()), (4, 2, 65));
+    assert_eq!(view.buses().collect::<Vec<_>>(), [Bus { width: 1, busy: 65 }, Bus { width: 3, busy: 9 }]);
+    let modules = [Planned { number: 1, bus: 1, wires: 1, cycles: 65 }, Planned { number: 2, bus: 2, wires: 3, cycles: 9 }];
+    assert_eq!(view.modules().collect::<Vec<_>>(), modules);
 }
 
 #[test]
