@@ -1,22 +1,35 @@
 /*
  * Tallowwing for C: every entry of the library, on numbers and bytes.
  *
- * Each function is proved to answer its definition for all inputs. None has to be asked first whether an input is good: a bad one ends in a
- * refusal. A pointer with its length lends that many bytes for the call and no longer; a length of 0 lends nothing, and the pointer may then be
- * anything but null. Bytes that are only read are never written. Two lent parts of one call must not overlap where one of them is written.
+ * Each function is proved to answer its definition for all inputs. None has to be asked first whether an input is good: a bad one ends in
+ * a refusal. A pointer with its length lends that many bytes for the call and no longer; a length of 0 lends nothing, and the pointer may
+ * then be anything but null. Bytes that are only read are never written. Two lent parts of one call must not overlap where one of them is
+ * written.
  *
  * An answer is one number:
  *
  *   answer % 256   0, or the number of the refusal (1 to 14)
  *   answer / 256   of a refusal its line, counted from 1, or 0 where it has none; else the figure that the function gives
  *
- * A refused call leaves every lent byte as it was. One that is not refused writes its result at the front of the bytes lent for it and leaves the
- * bytes behind it as they were. Numbers in lent bytes are little-endian.
+ * A refused call leaves every lent byte as it was. One that is not refused writes its result at the front of the bytes lent for it and
+ * leaves the bytes behind it as they were. Numbers in lent bytes are little-endian.
  *
- * The refusals: 1 text over 61,440 bytes; 2 forbidden byte; 3 wrong keyword, flag, name or form, too few or too many fields, a line too many;
- * 4 number not decimal or outside its limit; 5 module or test number, level or X/Y pair breaks its rule; 6 text ends early; 7 width or W not 1 to
- * 64; 8 B not 1 to 3; 9 no planned module; 10 more than 12 planned; 11 lent bytes too few for the result; 12 plan record or plan file not good;
- * 13 no such module or test; 14 SOC record not good.
+ * The refusals:
+ *
+ *    1 the text is longer than 61,440 bytes
+ *    2 a byte is none of tab, LF, CR before LF, or 32 to 126
+ *    3 a wrong keyword, 0/1 flag, name or form, too few or too many fields, or a line after the last one due
+ *    4 a number is not decimal or is outside its limit
+ *    5 a module or test number, a level or an X/Y pair breaks its rule
+ *    6 the text ends while lines are still due
+ *    7 the number of wires is not from 1 to 64
+ *    8 the limit of buses is not from 1 to 3
+ *    9 no module is planned: none has a test with TamUse 1
+ *   10 more than 12 modules are planned
+ *   11 the bytes lent for the result are too few
+ *   12 this is not a good plan file or plan record
+ *   13 there is no such module, or no such test in it
+ *   14 the SOC record breaks a limit or rule of the text, or a spare place in it is not 0
  */
 #ifndef TALLOWWING_H
 #define TALLOWWING_H
@@ -38,8 +51,8 @@ extern "C" {
 #define TALLOWWING_SOC_BYTES 16688
 
 /*
- * A layout, 1,024 bytes, each number 4 bytes, 64 places each: 0 flip-flops of wrapper chain i + 1; 256 its input cells; 512 its output cells;
- * 768 the wrapper chain, from 1, of internal chain j + 1. Places past the width or the chains, and of chains not used, are 0.
+ * A layout, 1,024 bytes, each number 4 bytes, 64 places each: 0 flip-flops of wrapper chain i + 1; 256 its input cells; 512 its output
+ * cells; 768 the wrapper chain, from 1, of internal chain j + 1. Places past the width or the chains, and of chains not used, are 0.
  */
 #define TALLOWWING_LAYOUT_BYTES 1024
 
@@ -86,6 +99,10 @@ uint64_t tallowwing_write_plan(const uint8_t *plan, size_t plan_len, uint8_t *fi
 
 /* Reads a plan file, the part used and no more, to its record. Refusals 12, 11. The figure is 300, the bytes written. */
 uint64_t tallowwing_read_plan(const uint8_t *file, size_t file_len, uint8_t *plan, size_t plan_len);
+
+/* Lists a plan record: the line `wires W limit B time T`, then its buses and modules as in a listing. Refusals 12, 11; 2,048 bytes are
+ * always enough. The figure is the number of bytes written. */
+uint64_t tallowwing_show(const uint8_t *plan, size_t plan_len, uint8_t *listing, size_t listing_len);
 
 /* Lists the plan for a line `Plan W B` and the SOC text behind it, or the line `refused N line L`. Refusal 11 alone; 2,048 bytes are always
  * enough. The figure is the number of bytes written. */

@@ -4,7 +4,7 @@ use std::env;
 use std::path::{self, PathBuf};
 use std::process::exit;
 
-const ARCHIVE: &str = "libexport.a";
+const ARCHIVE: &str = "libtallowwing.a";
 
 fn main() {
     println!("cargo:rerun-if-env-changed=TALLOWWING_LIB_DIR");
@@ -13,13 +13,14 @@ fn main() {
     println!("cargo:rerun-if-changed={}", archive.display());
     if !archive.is_file() {
         eprintln!(
-            "The library's archive is missing: {}\nBuild it, or name the folder that holds {ARCHIVE} in TALLOWWING_LIB_DIR.",
+            "The library's archive is missing: {}\nBuild it with library/make-archive, or name the folder that holds \
+             {ARCHIVE} in TALLOWWING_LIB_DIR.",
             archive.display()
         );
         exit(1);
     }
     println!("cargo:rustc-link-search=native={}", folder.display());
-    println!("cargo:rustc-link-lib=static=export");
+    println!("cargo:rustc-link-lib=static=tallowwing");
 }
 
 /// TALLOWWING_LIB_DIR, else where the library's own build puts it, beside this workspace.

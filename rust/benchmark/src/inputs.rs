@@ -1,7 +1,7 @@
 //! The SOC texts that are measured.
 
 /// The public d695, in the form of document 003.
-pub const D695: &str = include_str!("../../independent/tests/d695.soc");
+pub const D695: &str = include_str!("../../../examples/d695.soc");
 
 /// What a module of a made text is like.
 pub struct Module {

@@ -13,8 +13,8 @@ pub fn print() {
     println!("# The library beside the independent implementation\n");
     println!("Machine: {}, {} cores.\n", machine::processor(), machine::cores());
     println!(
-        "Both are called on the same bytes in one run, in turn; a time is the median of up to nine repetitions. The ratio is the library's time over \
-         the independent implementation's. Bytes lent for results are not cleared between calls.\n"
+        "Both are called on the same bytes in one run, in turn; a time is the median of up to nine repetitions. The ratio is the \
+         library's time over the independent implementation's. Bytes lent for results are not cleared between calls.\n"
     );
     head("Measured");
     row("reading a text of 60,000 bytes", &reading(&inputs::long()));
@@ -85,7 +85,8 @@ fn reading(text: &str) -> Pair {
 /// Every module's time at every width, one call each.
 fn times(text: &str) -> Pair {
     let record = record(text);
-    let asked: Vec<(u32, u32)> = (0..u32::from(record[44])).flat_map(|module| (1..=64).map(move |width| (module, width))).collect();
+    let asked: Vec<(u32, u32)> =
+        (0..u32::from(record[library::places::soc::MODULE_COUNT])).flat_map(|module| (1..=64).map(move |width| (module, width))).collect();
     pair(
         || {
             for &(module, width) in &asked {

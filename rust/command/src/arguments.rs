@@ -4,54 +4,64 @@ use std::ffi::OsString;
 use std::os::unix::ffi::OsStrExt;
 use std::path::PathBuf;
 
+use clap::builder::PossibleValuesParser;
 use clap::error::ErrorKind;
-use clap::{value_parser, Arg, ArgMatches, Command};
+use clap::{value_parser, Arg, ArgAction, ArgMatches, Command, ValueHint};
+use clap_complete::Shell;
 
-use crate::failure::Failure;
+use crate::completions::SHELLS;
+use crate::failure::{Failure, Place, Refusal};
+use crate::form::Form;
 use crate::help;
-use crate::plan_line::Words;
+use crate::refusals::NOT_DECIMAL;
 
 /// What the user asks for.
 pub enum Job {
-    Plan { file: PathBuf, words: Words },
+    Plan { file: PathBuf, wires: u32, limit: u32 },
     Soc { file: PathBuf },
     Layout { file: PathBuf, module: u32, test: u32, width: u32 },
     Time { file: PathBuf, module: u32, width: u32 },
-    Write { file: PathBuf, words: Words, out: PathBuf },
+    Write { file: PathBuf, wires: u32, limit: u32, out: PathBuf },
     Show { file: PathBuf },
+    Completions { shell: Shell },
+    Manual,
 }
 
-/// Reads the command line. Help and version end in an `Err` too, as clap has it.
-pub fn job() -> Result<Job, Failure> {
-    let matches = command().try_get_matches().map_err(Failure::Call)?;
-    let (name, matches) = matches.subcommand().expect("clap asks for a subcommand");
-    let given = Given { name, matches };
-    let file = given.path("FILE");
-    Ok(match name {
-        "plan" => Job::Plan { file, words: given.words()? },
-        "soc" => Job::Soc { file },
-        "layout" => Job::Layout { file, module: given.number("MODULE")?, test: given.number("TEST")?, width: given.number("WIDTH")? },
-        "time" => Job::Time { file, module: given.number("MODULE")?, width: given.number("WIDTH")? },
-        "write" => Job::Write { file, words: given.words()?, out: given.path("OUT") },
-        _ => Job::Show { file },
-    })
+/// The job, and the form of its result, which holds for a refusal too.
+pub struct Asked {
+    pub form: Form,
+    pub job: Result<Job, Failure>,
 }
 
-fn command() -> Command {
+/// Reads the command line. Help and version end in a failure too, as clap has it.
+pub fn read() -> Asked {
+    match command().try_get_matches() {
+        Ok(matches) => {
+            let (name, matches) = matches.subcommand().expect("clap asks for a subcommand");
+            let given = Given { name, matches };
+            Asked { form: Form::chosen(given.flag("json")), job: given.job() }
+        }
+        Err(error) => Asked { form: Form::chosen(false), job: Err(Failure::Call(error)) },
+    }
+}
+
+pub fn command() -> Command {
     Command::new("tallowwing")
         .version(env!("CARGO_PKG_VERSION"))
         .about(help::ABOUT)
         .long_about(help::LONG_ABOUT)
         .after_help(help::AFTER)
-        .after_long_help(help::AFTER_LONG)
+        .after_long_help(help::after_long())
         .subcommand_required(true)
         .disable_help_subcommand(true)
-        .subcommand(subcommand("plan", help::PLAN).arg(soc_file()).arg(wires()).arg(limit()))
+        .subcommand(subcommand("plan", help::PLAN).arg(soc_file()).arg(wires()).arg(limit()).arg(json()))
         .subcommand(subcommand("soc", help::SOC).arg(soc_file()))
-        .subcommand(subcommand("layout", help::LAYOUT).arg(soc_file()).arg(module()).arg(test()).arg(width()))
-        .subcommand(subcommand("time", help::TIME).arg(soc_file()).arg(module()).arg(width()))
+        .subcommand(subcommand("layout", help::LAYOUT).arg(soc_file()).arg(module()).arg(test()).arg(width()).arg(json()))
+        .subcommand(subcommand("time", help::TIME).arg(soc_file()).arg(module()).arg(width()).arg(json()))
         .subcommand(subcommand("write", help::WRITE).arg(soc_file()).arg(wires()).arg(limit()).arg(out()))
-        .subcommand(subcommand("show", help::SHOW).arg(file_argument("PLANFILE", "A plan file, or - for standard input")))
+        .subcommand(subcommand("show", help::SHOW).arg(plan_file()).arg(json()))
+        .subcommand(subcommand("completions", help::COMPLETIONS).arg(shell()))
+        .subcommand(subcommand("manual", help::MANUAL))
 }
 
 /// The first sentence is the short help.
@@ -62,19 +72,31 @@ fn subcommand(name: &'static str, help: &'static str) -> Command {
 
 /// An argument FILE, whatever it is called in the usage.
 fn file_argument(name: &'static str, help: &'static str) -> Arg {
-    Arg::new("FILE").value_name(name).help(help).required(true).value_parser(value_parser!(PathBuf))
+    Arg::new("FILE").value_name(name).help(help).required(true).value_parser(value_parser!(PathBuf)).value_hint(ValueHint::FilePath)
 }
 
 fn soc_file() -> Arg {
     file_argument("FILE", "A SOC text, or - for standard input")
 }
 
-fn out() -> Arg {
-    let help = "The plan file to write, whole or not at all, or - for standard output";
-    Arg::new("OUT").help(help).required(true).value_parser(value_parser!(PathBuf))
+fn plan_file() -> Arg {
+    file_argument("PLANFILE", "A plan file, or - for standard input")
 }
 
-/// W and B go to the library as they are, even with a hyphen in front, for it is the library that refuses them.
+fn out() -> Arg {
+    let help = "The plan file to write, whole or not at all, or - for standard output";
+    Arg::new("OUT").help(help).required(true).value_parser(value_parser!(PathBuf)).value_hint(ValueHint::FilePath)
+}
+
+fn json() -> Arg {
+    Arg::new("json").long("json").help("Prints one JSON object").action(ArgAction::SetTrue)
+}
+
+fn shell() -> Arg {
+    Arg::new("SHELL").help("The shell").required(true).value_parser(PossibleValuesParser::new(SHELLS))
+}
+
+/// W and B may be any word, even with a hyphen in front: one that is no number is refused as on the line `Plan W B`, and is no wrong call.
 fn word_argument(name: &'static str, help: &'static str) -> Arg {
     Arg::new(name).help(help).required(true).value_parser(value_parser!(OsString)).allow_hyphen_values(true)
 }
@@ -118,23 +140,47 @@ impl Given<'_> {
         self.matches.get_one::<OsString>(argument).map(|word| word.as_bytes().to_vec()).unwrap_or_default()
     }
 
-    fn words(&self) -> Result<Words, Failure> {
-        Ok(Words { wires: self.word("W")?, limit: self.word("B")? })
+    fn flag(&self, argument: &str) -> bool {
+        matches!(self.matches.try_get_one::<bool>(argument), Ok(Some(true)))
     }
 
-    /// A word as it was typed. One that is empty, or holds a blank or line end, would be more or less than one field of the Plan line.
-    fn word(&self, argument: &str) -> Result<Vec<u8>, Failure> {
+    fn job(&self) -> Result<Job, Failure> {
+        let file = || self.path("FILE");
+        Ok(match self.name {
+            "plan" => Job::Plan { file: file(), wires: self.word("W")?, limit: self.word("B")? },
+            "soc" => Job::Soc { file: file() },
+            "layout" => {
+                let (module, test, width) = (self.number("MODULE")?, self.number("TEST")?, self.number("WIDTH")?);
+                Job::Layout { file: file(), module, test, width }
+            }
+            "time" => Job::Time { file: file(), module: self.number("MODULE")?, width: self.number("WIDTH")? },
+            "write" => Job::Write { file: file(), wires: self.word("W")?, limit: self.word("B")?, out: self.path("OUT") },
+            "show" => Job::Show { file: file() },
+            "completions" => Job::Completions { shell: self.shell() },
+            _ => Job::Manual,
+        })
+    }
+
+    fn shell(&self) -> Shell {
+        let name = self.matches.get_one::<String>("SHELL").expect("clap asks for a shell");
+        name.parse().expect("clap takes no other shell")
+    }
+
+    /// The number of a word, or the refusal that document 01 has for it. What is not one word is a wrong call.
+    fn word(&self, argument: &'static str) -> Result<u32, Failure> {
         let typed = self.bytes(argument);
         if typed.is_empty() || typed.iter().any(|byte| b" \t\r\n".contains(byte)) {
             return Err(self.wrong_call(format!("{argument} is not one word: '{}'", typed.escape_ascii())));
         }
-        Ok(typed)
+        decimal(&typed).ok_or_else(|| {
+            let place = Place::Argument { name: argument, value: typed.escape_ascii().to_string() };
+            Refusal::without_line(place, NOT_DECIMAL, Some(DECIMALS.to_string())).into()
+        })
     }
 
     fn number(&self, argument: &str) -> Result<u32, Failure> {
         let typed = self.bytes(argument);
-        decimal(&typed)
-            .ok_or_else(|| self.wrong_call(format!("{argument} is not a decimal from 0 to 4,294,967,295: '{}'", typed.escape_ascii())))
+        decimal(&typed).ok_or_else(|| self.wrong_call(format!("{argument} is not a decimal of {DECIMALS}: '{}'", typed.escape_ascii())))
     }
 
     /// An error that shows the usage of the subcommand.
@@ -145,6 +191,9 @@ impl Given<'_> {
         Failure::Call(asked.error(ErrorKind::ValueValidation, message))
     }
 }
+
+/// What an argument that is a number may be.
+const DECIMALS: &str = "0 to 4,294,967,295";
 
 /// Digits without sign or leading zeros, within 32 bits. Which numbers make sense is the library's affair.
 fn decimal(word: &[u8]) -> Option<u32> {

@@ -1,20 +1,14 @@
-//! Why a run ends without its result, what is told of it, and the exit status.
+//! Why a run ends without its result.
 
-use std::io::{self, Write};
+use std::io;
 use std::path::{Path, PathBuf};
-use std::process::ExitCode;
 
-use tallowwing_library::Answer;
-
-use crate::{output, words};
-
-const REFUSED: u8 = 1;
-const WRONG_CALL: u8 = 2;
-const SYSTEM: u8 = 3;
+use crate::excerpt::line_of;
+use crate::spot::spot;
 
 pub enum Failure {
-    /// The library refused what FILE holds, or a number asked of it.
-    Refused { file: PathBuf, number: u64, line: u64 },
+    /// The library refused what a file holds, or a number asked of it.
+    Refused(Refusal),
     /// The arguments make no sense. Help and version, which end a run too, come this way.
     Call(clap::Error),
     /// A file that cannot be read or written.
@@ -25,55 +19,45 @@ impl Failure {
     pub fn system(file: &Path, error: io::Error) -> Self {
         Failure::System { file: file.to_path_buf(), error }
     }
+}
 
-    /// Tells on standard output and standard error what there is to tell.
-    pub fn tell(self) -> ExitCode {
-        match self {
-            Failure::Refused { file, number, line } => tell_refusal(&file, number, line),
-            Failure::Call(error) => tell_call(&error),
-            Failure::System { file, error } => {
-                tell_line(&format!("{}: {}", file.display(), reason(&error)));
-                ExitCode::from(SYSTEM)
-            }
-        }
+/// A refusal, and what it is told with.
+#[derive(Debug, PartialEq, Eq)]
+pub struct Refusal {
+    pub number: u8,
+    /// Counted from 1, or 0 where the refusal has none.
+    pub line: u64,
+    pub place: Place,
+    /// What is known beyond the words: a count, or what would have been right.
+    pub known: Option<String>,
+    /// The line as it is shown beneath the message, and the byte of it that is meant.
+    pub shown: Option<(Vec<u8>, Option<usize>)>,
+}
+
+/// What a refusal belongs to.
+#[derive(Debug, PartialEq, Eq)]
+pub enum Place {
+    File(PathBuf),
+    Argument { name: &'static str, value: String },
+}
+
+impl Refusal {
+    /// A refusal of a text, with its line or without.
+    pub fn of_text(file: &Path, text: &[u8], number: u8, line: u64) -> Self {
+        let shown = line_of(text, line);
+        let spot = shown.and_then(|bytes| spot(bytes, number));
+        let known = spot.as_ref().and_then(|spot| spot.known.clone());
+        let shown = shown.map(|bytes| (bytes.to_vec(), spot.map(|spot| spot.at)));
+        Refusal { number, line, place: Place::File(file.to_path_buf()), known, shown }
+    }
+
+    pub fn without_line(place: Place, number: u8, known: Option<String>) -> Self {
+        Refusal { number, line: 0, place, known, shown: None }
     }
 }
 
-/// The figure that the library gives, or its refusal of FILE.
-pub fn figure(answer: Answer, file: &Path) -> Result<u64, Failure> {
-    match answer {
-        Answer::Figure(figure) => Ok(figure),
-        Answer::Refused { number, line } => Err(Failure::Refused { file: file.to_path_buf(), number: number.into(), line }),
-    }
-}
-
-fn tell_refusal(file: &Path, number: u64, line: u64) -> ExitCode {
-    tell_line(&format!("{}:{line}: {} (refusal {number})", file.display(), words::of(number, line)));
-    match output::print(format!("refused {number} line {line}\n").as_bytes()) {
-        Ok(()) => ExitCode::from(REFUSED),
-        Err(failure) => failure.tell(),
-    }
-}
-
-fn tell_call(error: &clap::Error) -> ExitCode {
-    let printed = error.print();
-    match (error.use_stderr(), printed) {
-        (true, _) => ExitCode::from(WRONG_CALL),
-        (false, Ok(())) => ExitCode::SUCCESS,
-        (false, Err(error)) => Failure::system(Path::new(output::STANDARD_OUTPUT), error).tell(),
-    }
-}
-
-/// A standard error that is closed is no reason to end otherwise.
-fn tell_line(line: &str) {
-    let _ = writeln!(io::stderr(), "tallowwing: {line}");
-}
-
-/// The system's reason, without the number that Rust adds to it.
-fn reason(error: &io::Error) -> String {
-    let told = error.to_string();
-    match told.find(" (os error") {
-        Some(end) => told[..end].to_string(),
-        None => told,
+impl From<Refusal> for Failure {
+    fn from(refusal: Refusal) -> Self {
+        Failure::Refused(refusal)
     }
 }

@@ -1,34 +1,44 @@
 //! `tallowwing layout`: the wrapper of a module for one of its tests.
 
-use std::fmt::Write;
 use std::path::Path;
 
+use tallowwing_library::views::{Chain, LayoutView};
 use tallowwing_library::{self as library, LAYOUT_BYTES};
 
-use crate::failure::{figure, Failure};
+use crate::failure::Failure;
+use crate::form::Form;
 use crate::output;
-use crate::record::{self, u32_at};
+use crate::report::{Group, Report, Row};
+use crate::soc_file::SocFile;
 
-pub fn run(file: &Path, module: u32, test: u32, width: u32) -> Result<(), Failure> {
-    let record = record::of_file(file)?;
-    let mut layout = vec![0; LAYOUT_BYTES];
-    figure(library::layout(&record, module, test, width, &mut layout), file)?;
-    let cycles = figure(library::test_time(&record, module, test, width), file)?;
-    let chains = u32_at(&record, 48 + 416 * module as usize + 16);
-    output::print(lines(&layout, width, chains, cycles).as_bytes())
+pub fn run(file: &Path, module: u32, test: u32, width: u32, form: Form) -> Result<(), Failure> {
+    let soc = SocFile::read(file)?;
+    let arguments = [("MODULE", module), ("TEST", test), ("WIDTH", width)];
+    let mut layout = [0; LAYOUT_BYTES];
+    soc.figure(library::layout(soc.record(), module, test, width, &mut layout), &arguments)?;
+    let cycles = soc.figure(library::test_time(soc.record(), module, test, width), &arguments)?;
+    let internal = soc.view().module(module).map_or(0, |module| module.chain_count());
+    let mut report = report(LayoutView::new(&layout), width, internal, cycles);
+    report.asked = vec![("module", module.into()), ("test", test.into()), ("width", width.into())];
+    output::print(report.printed(form).as_bytes())
 }
 
-fn lines(layout: &[u8], width: u32, chains: u32, cycles: u64) -> String {
-    let part = |part: usize, index: u32| u32_at(layout, 256 * part + 4 * index as usize);
-    let wrapper: Vec<(u32, u32, u32)> = (0..width).map(|i| (part(0, i), part(1, i), part(2, i))).collect();
-    let scan_in = wrapper.iter().map(|(ff, cells, _)| ff + cells).max().unwrap_or(0);
-    let scan_out = wrapper.iter().map(|(ff, _, cells)| ff + cells).max().unwrap_or(0);
-    let mut lines = format!("si {scan_in} so {scan_out} cycles {cycles}\n");
-    for (i, (ff, inputs, outputs)) in wrapper.iter().enumerate() {
-        let _ = writeln!(lines, "chain {} ff {ff} in {inputs} out {outputs}", i + 1);
+fn report(layout: LayoutView, width: u32, internal: u32, cycles: u64) -> Report {
+    let chains: Vec<Chain> = (1..=width).map(|i| layout.chain(i)).collect();
+    let longest = |length: fn(&Chain) -> u32| chains.iter().map(length).max().unwrap_or(0);
+    let scan_in = longest(|chain| chain.flip_flops + chain.input_cells);
+    let scan_out = longest(|chain| chain.flip_flops + chain.output_cells);
+    let chain = |(i, chain): (u32, &Chain)| -> Row {
+        let figures = [("chain", i), ("ff", chain.flip_flops), ("in", chain.input_cells), ("out", chain.output_cells)];
+        figures.map(|(name, figure)| (name, figure.into())).to_vec()
+    };
+    let internal_chain = |j: u32| -> Row { vec![("internal", j.into()), ("chain", layout.wrapper_chain(j).into())] };
+    Report {
+        asked: Vec::new(),
+        head: vec![("si", scan_in.into()), ("so", scan_out.into()), ("cycles", cycles.into())],
+        groups: vec![
+            Group { name: "chains", rows: (1..).zip(&chains).map(chain).collect() },
+            Group { name: "internal", rows: (1..=internal).map(internal_chain).collect() },
+        ],
     }
-    for j in 0..chains {
-        let _ = writeln!(lines, "internal {} chain {}", j + 1, part(3, j));
-    }
-    lines
 }

@@ -2,13 +2,12 @@
 
 use std::path::Path;
 
-use tallowwing_library::TEXT_MAX;
-
 use crate::failure::Failure;
-use crate::plan_line::{list, Words};
-use crate::{input, output};
+use crate::form::Form;
+use crate::plan_record::PlanRecord;
+use crate::soc_file::SocFile;
 
-pub fn run(file: &Path, words: &Words) -> Result<(), Failure> {
-    let text = input::read(file, TEXT_MAX)?;
-    output::print(&list(&[words.line(), text].concat(), file)?)
+pub fn run(file: &Path, wires: u32, limit: u32, form: Form) -> Result<(), Failure> {
+    let soc = SocFile::read(file)?;
+    PlanRecord::planned(&soc, file, wires, limit)?.print(Some(soc.view().name()), form)
 }

@@ -4,12 +4,13 @@ use std::path::Path;
 
 use tallowwing_library::{self as library, TEXT_MAX};
 
-use crate::failure::{figure, Failure};
-use crate::{output, record};
+use crate::failure::Failure;
+use crate::output;
+use crate::soc_file::SocFile;
 
 pub fn run(file: &Path) -> Result<(), Failure> {
-    let record = record::of_file(file)?;
+    let soc = SocFile::read(file)?;
     let mut text = vec![0; TEXT_MAX];
-    let length = figure(library::write_soc(&record, &mut text), file)?;
+    let length = soc.figure(library::write_soc(soc.record(), &mut text), &[])?;
     output::print(&text[..length as usize])
 }

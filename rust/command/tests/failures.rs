@@ -26,10 +26,21 @@ fn wrong_calls() {
         &["time", "x.soc", "1"],
         &["write", "x.soc", "4", "2"],
         &["show"],
+        &["soc", "--json", "x.soc"],
+        &["write", "--json", "x.soc", "4", "2", "x.plan"],
+        &["completions"],
+        &["manual", "x.soc"],
     ];
     for call in calls {
         folder.run(call).wrong_call();
     }
+}
+
+#[test]
+fn a_shell_without_completions() {
+    let ran = Folder::new().run(&["completions", "tcsh"]);
+    assert_eq!((ran.status, &ran.out[..]), (Some(2), ""));
+    assert!(ran.err.contains("bash, zsh, fish"), "{}", ran.err);
 }
 
 #[test]
@@ -57,10 +68,10 @@ fn a_word_cannot_bring_further_fields_or_lines() {
 }
 
 #[test]
-fn a_word_that_is_no_text_goes_to_the_library() {
+fn a_word_that_is_no_text_is_no_decimal() {
     let folder = Folder::holding("x.soc", T1);
     let output = command(&["plan", "x.soc"]).arg(OsStr::from_bytes(b"\xff")).arg("2").current_dir(&folder.0).output().unwrap();
-    Ran::of(output).refused(4, 0, "x.soc", "W or B is not a decimal from 0 to 4,294,967,295");
+    Ran::of(output).refused(4, 0, "W \\xff: a number is not decimal or is outside its limit: 0 to 4,294,967,295", "");
 }
 
 #[test]

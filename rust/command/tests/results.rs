@@ -134,6 +134,36 @@ fn write_follows_a_link_and_keeps_devices() {
     assert!(!fs::metadata("/dev/null").unwrap().is_file());
 }
 
+/// What bash offers behind a line, with the script that the command prints.
+fn offered(line: &str) -> Vec<String> {
+    let script = "source <(\"$1\" completions bash)
+        read -ra COMP_WORDS <<<\"$2.\"; COMP_CWORD=$((${#COMP_WORDS[@]} - 1)); COMP_WORDS[COMP_CWORD]=${COMP_WORDS[COMP_CWORD]%.}
+        _tallowwing tallowwing \"${COMP_WORDS[COMP_CWORD]}\" \"${COMP_WORDS[COMP_CWORD - 1]}\"
+        printf '%s\\n' \"${COMPREPLY[@]}\"";
+    let command = env!("CARGO_BIN_EXE_tallowwing");
+    let output = std::process::Command::new("bash").args(["-c", script, "bash", command, line]).output().expect("bash runs");
+    String::from_utf8_lossy(&output.stdout).lines().map(str::to_string).collect()
+}
+
+#[test]
+fn bash_completes_the_words() {
+    assert_eq!(offered("tallowwing pl"), ["plan"]);
+    assert_eq!(offered("tallowwing s"), ["soc", "show"]);
+    assert_eq!(offered("tallowwing plan --j"), ["--json"]);
+}
+
+#[test]
+fn every_shell_has_its_script() {
+    let folder = Folder::new();
+    for (shell, sign) in [("bash", "complete -F _tallowwing"), ("zsh", "#compdef tallowwing"), ("fish", "complete -c tallowwing")] {
+        let ran = folder.run(&["completions", shell]);
+        assert_eq!((ran.status, &ran.err[..]), (Some(0), ""));
+        for word in [sign, "layout", "json"] {
+            assert!(ran.out.contains(word), "{shell}: {word}");
+        }
+    }
+}
+
 #[test]
 fn help_and_version() {
     let folder = Folder::new();
@@ -141,7 +171,7 @@ fn help_and_version() {
     assert_eq!((short.status, full.status), (Some(0), Some(0)));
     assert!(short.out.len() < full.out.len());
     assert!(full.out.contains("Exit status:") && full.out.contains("refused N line L"));
-    for subcommand in ["plan", "soc", "layout", "time", "write", "show"] {
+    for subcommand in ["plan", "soc", "layout", "time", "write", "show", "completions", "manual"] {
         assert!(short.out.contains(subcommand) && full.out.contains(subcommand));
         assert!(folder.run(&[subcommand, "--help"]).out.contains("Usage: tallowwing"));
     }

@@ -1,6 +1,7 @@
 //! Numbers set to their limits, and to what lies just past them.
 
 use independent::limits;
+use tallowwing_library::places::{module, soc, test};
 
 use crate::random::Random;
 
@@ -22,17 +23,17 @@ const IN_TEXT: &[(&str, i64, i64)] = &[
 
 /// Offsets in a module of the SOC record, with the least and the most that may stand there.
 const IN_MODULE: &[(usize, i64, i64)] = &[
-    (0, 0, limits::LEVEL as i64),
-    (4, 0, limits::TERMINALS as i64),
-    (8, 0, limits::TERMINALS as i64),
-    (12, 0, limits::TERMINALS as i64),
-    (16, 0, limits::CHAINS as i64),
-    (20, 1, limits::CHAIN_LENGTH as i64),
-    (276, -1, limits::POSITION as i64),
-    (280, -1, limits::POSITION as i64),
-    (284, 0, limits::TESTS as i64),
-    (296, 1, limits::PATTERNS as i64),
-    (300, -1, limits::POWER as i64),
+    (module::LEVEL, 0, limits::LEVEL as i64),
+    (module::INPUTS, 0, limits::TERMINALS as i64),
+    (module::OUTPUTS, 0, limits::TERMINALS as i64),
+    (module::BIDIRS, 0, limits::TERMINALS as i64),
+    (module::CHAIN_COUNT, 0, limits::CHAINS as i64),
+    (module::LENGTHS, 1, limits::CHAIN_LENGTH as i64),
+    (module::X, -1, limits::POSITION as i64),
+    (module::Y, -1, limits::POSITION as i64),
+    (module::TEST_COUNT, 0, limits::TESTS as i64),
+    (module::TESTS + test::PATTERNS, 1, limits::PATTERNS as i64),
+    (module::TESTS + test::POWER, -1, limits::POWER as i64),
 ];
 
 /// Sets one number of the text to a limit, or to one past it.
@@ -60,11 +61,11 @@ pub fn limit_in_lines(lines: &mut [Vec<String>], random: &mut Random) {
 
 /// Sets one number of a module in the SOC record to a limit, or to one past it.
 pub fn limit_in_record(record: &mut [u8], random: &mut Random) {
-    let module = random.below(usize::from(record[44]));
+    let number = random.below(usize::from(record[soc::MODULE_COUNT]));
     let (offset, least, most) = *random.pick(IN_MODULE);
-    let place = 48 + 416 * module + offset;
-    let number = about(least, most, random) as i32;
-    record[place..place + 4].copy_from_slice(&number.to_le_bytes());
+    let place = soc::module(number) + offset;
+    let figure = about(least, most, random) as i32;
+    record[place..place + 4].copy_from_slice(&figure.to_le_bytes());
 }
 
 fn about(least: i64, most: i64, random: &mut Random) -> i64 {

@@ -15,10 +15,11 @@ pub enum Entry {
     Plan,
     WritePlan,
     ReadPlan,
+    Show,
     Listing,
 }
 
-pub const ENTRIES: [Entry; 10] = [
+pub const ENTRIES: [Entry; 11] = [
     Entry::ReadSoc,
     Entry::WriteSoc,
     Entry::Layout,
@@ -28,6 +29,7 @@ pub const ENTRIES: [Entry; 10] = [
     Entry::Plan,
     Entry::WritePlan,
     Entry::ReadPlan,
+    Entry::Show,
     Entry::Listing,
 ];
 
@@ -43,6 +45,7 @@ impl Entry {
             Entry::Plan => "plan",
             Entry::WritePlan => "write_plan",
             Entry::ReadPlan => "read_plan",
+            Entry::Show => "show",
             Entry::Listing => "listing",
         }
     }
@@ -84,6 +87,7 @@ impl Case {
             Entry::Plan => library::plan(input, a, b, lent),
             Entry::WritePlan => library::write_plan(input, lent),
             Entry::ReadPlan => library::read_plan(input, lent),
+            Entry::Show => library::show(input, lent),
             Entry::Listing => library::listing(input, lent),
         }
     }
@@ -101,6 +105,7 @@ impl Case {
             Entry::Plan => entries::plan(input, a, b, lent),
             Entry::WritePlan => entries::write_plan(input, lent),
             Entry::ReadPlan => entries::read_plan(input, lent),
+            Entry::Show => entries::show(input, lent),
             Entry::Listing => entries::listing(input, lent),
         })
     }

@@ -1,5 +1,7 @@
 //! Records and plan files made wrong in one place or in their length.
 
+use tallowwing_library::places::{module, soc, test};
+
 use crate::random::Random;
 
 /// Numbers at the limits of a record's places, on either side.
@@ -36,8 +38,9 @@ const NUMBERS: &[u32] = &[
     0xFFFF_FFFF,
 ];
 
-const SOC_HEAD_BYTES: usize = 48;
-const SOC_MODULE_BYTES: usize = 416;
+/// Numbers of a module that stand alone.
+const SINGLE: [usize; 8] =
+    [module::LEVEL, module::INPUTS, module::OUTPUTS, module::BIDIRS, module::CHAIN_COUNT, module::X, module::Y, module::TEST_COUNT];
 
 /// A SOC record with one place changed, or of another length.
 pub fn damage_soc(record: &mut Vec<u8>, random: &mut Random) {
@@ -50,15 +53,15 @@ pub fn damage_soc(record: &mut Vec<u8>, random: &mut Random) {
 
 /// The offset of a place: the head, a module that is there, a flag, or any.
 fn soc_place(record: &[u8], random: &mut Random) -> usize {
-    let modules = u32::from_le_bytes([record[44], record[45], record[46], record[47]]) as usize;
-    let module = SOC_HEAD_BYTES + SOC_MODULE_BYTES * random.below(modules.clamp(1, 40));
+    let modules = usize::from(record[soc::MODULE_COUNT]);
+    let front = soc::module(random.below(modules.clamp(1, soc::MODULES)));
     match random.below(10) {
-        0..=1 => 4 * random.below(SOC_HEAD_BYTES / 4),
-        2..=3 => module + *random.pick(&[0, 4, 8, 12, 16, 276, 280, 284]),
-        4 => module + 20 + 4 * random.below(64),
-        5..=6 => module + 288 + 4 * random.below(32),
-        7 => module + 288 + 16 * random.below(8) + 4 * random.below(2),
-        8 => module + 4 * random.below(SOC_MODULE_BYTES / 4),
+        0..=1 => 4 * random.below(soc::HEAD_BYTES / 4),
+        2..=3 => front + *random.pick(&SINGLE),
+        4 => front + module::LENGTHS + 4 * random.below((module::X - module::LENGTHS) / 4),
+        5..=6 => front + module::TESTS + 4 * random.below((module::BYTES - module::TESTS) / 4),
+        7 => front + module::test(1 + random.below(8)) + *random.pick(&[test::SCAN_USE, test::TAM_USE]),
+        8 => front + 4 * random.below(module::BYTES / 4),
         _ => 4 * random.below(record.len() / 4),
     }
 }

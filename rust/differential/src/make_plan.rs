@@ -1,6 +1,7 @@
 //! Plans as loose figures: good ones, ones with a rule broken, and their records and files.
 
 use independent::limits;
+use tallowwing_library::{places, PLAN_BYTES};
 
 use crate::random::Random;
 
@@ -147,14 +148,14 @@ impl LoosePlan {
             bytes.extend_from_slice(&width.to_le_bytes());
             bytes.extend_from_slice(&busy.to_le_bytes());
         }
-        bytes.resize(60, 0);
+        bytes.resize(places::plan::MODULES, 0);
         for module in self.modules.iter().take(limits::PLANNED) {
             for number in [module.number, module.bus, module.wires] {
                 bytes.extend_from_slice(&number.to_le_bytes());
             }
             bytes.extend_from_slice(&module.cycles.to_le_bytes());
         }
-        bytes.resize(300, 0);
+        bytes.resize(PLAN_BYTES, 0);
         bytes
     }
 

@@ -44,6 +44,10 @@ pub fn read_plan(file: &[u8], plan: &mut [u8]) -> Outcome {
     give(&plan_bytes(&plan_file::read(file)?), plan)
 }
 
+pub fn show(plan: &[u8], listing: &mut [u8]) -> Outcome {
+    give(listing::plan_lines(&good_plan(plan)?).as_bytes(), listing)
+}
+
 pub fn listing(input: &[u8], listing: &mut [u8]) -> Outcome {
     give(listing::listing(input).as_bytes(), listing)
 }

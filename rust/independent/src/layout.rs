@@ -78,8 +78,8 @@ fn place_for(length: FlipFlops, lengths: &[FlipFlops]) -> usize {
 
 /// The cells on each chain when cells of length 1 are added by the same rule.
 ///
-/// A cell makes its chain fuller, so the next one follows it there until the chain is as long as the longest: chains are topped up one after
-/// another, the fullest first. When all are equally long, the cells go round from the first chain.
+/// A cell makes its chain fuller, so the next one follows it there until the chain is as long as the longest: chains are topped up one
+/// after another, the fullest first. When all are equally long, the cells go round from the first chain.
 fn add_cells(lengths: &[FlipFlops], cells: u32) -> [u32; limits::CHAINS] {
     let mut added = [0; limits::CHAINS];
     let mut left = cells;

@@ -39,8 +39,12 @@ fn plan_line(line: &[u8]) -> Result<(u32, u32), Refusal> {
 }
 
 fn lines(soc: &Soc, plan: &Plan) -> String {
-    let name = String::from_utf8_lossy(soc.name());
-    let mut out = format!("soc {name} wires {} limit {} time {}\n", plan.wires.0, plan.limit, plan.time.0);
+    format!("soc {} {}", String::from_utf8_lossy(soc.name()), plan_lines(plan))
+}
+
+/// What a listing has of the plan alone: W, B and time, each bus, each planned module.
+pub fn plan_lines(plan: &Plan) -> String {
+    let mut out = format!("wires {} limit {} time {}\n", plan.wires.0, plan.limit, plan.time.0);
     for (index, bus) in plan.buses().iter().enumerate() {
         let _ = writeln!(out, "bus {} width {} busy {}", index + 1, bus.width.0, bus.busy.0);
     }

@@ -79,8 +79,8 @@ fn the_most_that_a_test_and_a_module_take() {
     let test = |number| format!("Module 0 Test {number} ScanUse 1 TamUse 1 Patterns 16777215\n");
     let tests: String = (1..=8).map(test).collect();
     let largest = soc(&format!(
-        "SocName largest\nTotalModules 1\nOptions Power 0 XY 0\nModule 0 Level 0 Inputs 8191 Outputs 8191 Bidirs 8191 ScanChains 64 : {chains}\n\
-         Module 0 TotalTests 8\n{tests}"
+        "SocName largest\nTotalModules 1\nOptions Power 0 XY 0\n\
+         Module 0 Level 0 Inputs 8191 Outputs 8191 Bidirs 8191 ScanChains 64 : {chains}\nModule 0 TotalTests 8\n{tests}"
     ));
     assert_eq!(test_time(&largest, 0, 1, 1), Ok(Cycles(limits::TEST_CYCLES)));
     assert_eq!(time_and_wires(&largest, 0, 1), (limits::MODULE_CYCLES, 1));
@@ -98,10 +98,14 @@ fn t1_plans() {
 #[test]
 fn two_copies_go_to_two_buses() {
     let module = |m| {
-        format!("Module {m} Level 1 Inputs 0 Outputs 0 Bidirs 0 ScanChains 1 : 10\nModule {m} TotalTests 1\nModule {m} Test 1 ScanUse 1 TamUse 1 Patterns 5\n")
+        format!(
+            "Module {m} Level 1 Inputs 0 Outputs 0 Bidirs 0 ScanChains 1 : 10\nModule {m} TotalTests 1\n\
+             Module {m} Test 1 ScanUse 1 TamUse 1 Patterns 5\n"
+        )
     };
     let two = soc(&format!(
-        "SocName two\nTotalModules 3\nOptions Power 0 XY 0\nModule 0 Level 0 Inputs 0 Outputs 0 Bidirs 0 ScanChains 0 :\nModule 0 TotalTests 0\n{}{}",
+        "SocName two\nTotalModules 3\nOptions Power 0 XY 0\n\
+         Module 0 Level 0 Inputs 0 Outputs 0 Bidirs 0 ScanChains 0 :\nModule 0 TotalTests 0\n{}{}",
         module(1),
         module(2)
     ));

@@ -75,6 +75,18 @@ fn plan_file_of_t1() {
 }
 
 #[test]
+fn a_good_record_is_shown_and_no_other() {
+    let mut lent = [0; 2_048];
+    let length = entries::show(&plan_bytes(&best()), &mut lent).unwrap() as usize;
+    let shown = "wires 4 limit 2 time 65\nbus 1 width 1 busy 65\nbus 2 width 3 busy 9\n\
+                 module 1 bus 1 wires 1 cycles 65\nmodule 2 bus 2 wires 3 cycles 9\n";
+    assert_eq!(std::str::from_utf8(&lent[..length]), Ok(shown));
+    assert_eq!(refusal(entries::show(&plan_bytes(&best()), &mut lent[..length - 1])), 11);
+    assert_eq!(refusal(entries::show(&plan_bytes(&best())[..299], &mut lent)), 12);
+    assert_eq!(refusal(entries::show(&plan_bytes(&Plan { limit: 1, ..best() }), &mut lent)), 12);
+}
+
+#[test]
 fn no_other_file_is_good() {
     let file = plan_file::write(&best());
     for length in 0..file.len() {

@@ -128,7 +128,10 @@ fn planner_refuses_7_then_8_then_9_then_10_then_11() {
     let many = |count: usize| {
         let module = |m: usize| {
             let level = m.min(1);
-            format!("Module {m} Level {level} Inputs 1 Outputs 0 Bidirs 0 ScanChains 0 :\nModule {m} TotalTests 1\nModule {m} Test 1 ScanUse 0 TamUse 1 Patterns 1\n")
+            format!(
+                "Module {m} Level {level} Inputs 1 Outputs 0 Bidirs 0 ScanChains 0 :\nModule {m} TotalTests 1\n\
+                 Module {m} Test 1 ScanUse 0 TamUse 1 Patterns 1\n"
+            )
         };
         let modules: String = (0..count).map(module).collect();
         soc_bytes(&soc(&format!("SocName n\nTotalModules {count}\nOptions Power 0 XY 0\n{modules}")))

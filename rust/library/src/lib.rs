@@ -4,6 +4,8 @@
 
 mod answer;
 mod declared;
+pub mod places;
+pub mod views;
 mod wrapped;
 
 pub use answer::Answer;

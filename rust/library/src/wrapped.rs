@@ -1,7 +1,7 @@
 //! Every entry of the library on slices.
 //!
-//! The calls are sound for all slices: the library is proved to stay within the lengths it is given, a slice's pointer is never null even when
-//! it is empty, and a slice that is written cannot overlap one that is read.
+//! The calls are sound for all slices: the library is proved to stay within the lengths it is given, a slice's pointer is never null even
+//! when it is empty, and a slice that is written cannot overlap one that is read.
 
 use crate::answer::Answer;
 use crate::declared::*;
@@ -49,6 +49,11 @@ pub fn write_plan(plan: &[u8], file: &mut [u8]) -> Answer {
 /// Reads a plan file, the part used and no more, to its record.
 pub fn read_plan(file: &[u8], plan: &mut [u8]) -> Answer {
     Answer::from_number(unsafe { tallowwing_read_plan(file.as_ptr(), file.len(), plan.as_mut_ptr(), plan.len()) })
+}
+
+/// Lists a plan record: the line `wires W limit B time T`, then its buses and modules as in a listing.
+pub fn show(plan: &[u8], listing: &mut [u8]) -> Answer {
+    Answer::from_number(unsafe { tallowwing_show(plan.as_ptr(), plan.len(), listing.as_mut_ptr(), listing.len()) })
 }
 
 /// Lists the plan for a line `Plan W B` and the SOC text behind it, or the line `refused N line L`.

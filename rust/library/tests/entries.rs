@@ -1,5 +1,6 @@
 //! Every entry answers through the wrappers, empty slices included. What the answers have to be is held against `independent` elsewhere.
 
+use tallowwing_library::views::{Bus, Chain, LayoutView, PlanView, Planned, SocView};
 use tallowwing_library::*;
 
 /// Document 01's text t1.
@@ -42,6 +43,39 @@ fn plan_goes_to_the_file_and_back() {
 }
 
 #[test]
+fn a_plan_record_is_shown_as_it_is_listed() {
+    let (mut planned, mut shown, mut listed) = ([0; PLAN_BYTES], [0; LISTING_MAX], [0; LISTING_MAX]);
+    assert_eq!(plan(&record(), 4, 2, &mut planned), Answer::Figure(PLAN_BYTES as u64));
+    let length = show(&planned, &mut shown).figure().expect("a good record") as usize;
+    assert!(listing(&[b"Plan 4 2\n", T1].concat(), &mut listed).figure().is_some());
+    assert_eq!([b"soc t1 ", &shown[..length]].concat(), listed[..length + 7]);
+    assert_eq!(show(&planned, &mut shown[..length - 1]), refused(11));
+}
+
+#[test]
+fn views_read_figures_by_name() {
+    let record: [u8; SOC_BYTES] = record().try_into().expect("a record's length");
+    let soc = SocView::new(&record);
+    assert_eq!((soc.name(), soc.module_count(), soc.planned_count()), (&b"t1"[..], 3, 2));
+    let counts = |number| soc.module(number).map(|module| (module.chain_count(), module.test_count(), module.is_planned()));
+    assert_eq!([0, 1, 2, 3].map(counts), [Some((0, 0, false)), Some((1, 1, true)), Some((0, 1, true)), None]);
+
+    let mut bytes = [0; LAYOUT_BYTES];
+    assert!(layout(&record, 2, 1, 2, &mut bytes).figure().is_some());
+    assert_eq!(LayoutView::new(&bytes).chain(1), Chain { flip_flops: 0, input_cells: 2, output_cells: 1 });
+    assert!(layout(&record, 1, 1, 2, &mut bytes).figure().is_some());
+    assert_eq!(LayoutView::new(&bytes).wrapper_chain(1), 1);
+
+    let mut bytes = [0; PLAN_BYTES];
+    assert!(plan(&record, 4, 2, &mut bytes).figure().is_some());
+    let view = PlanView::new(&bytes);
+    assert_eq!((view.wires(), view.limit(), view.time()), (4, 2, 65));
+    assert_eq!(view.buses().collect::<Vec<_>>(), [Bus { width: 1, busy: 65 }, Bus { width: 3, busy: 9 }]);
+    let modules = [Planned { number: 1, bus: 1, wires: 1, cycles: 65 }, Planned { number: 2, bus: 2, wires: 3, cycles: 9 }];
+    assert_eq!(view.modules().collect::<Vec<_>>(), modules);
+}
+
+#[test]
 fn empty_slices_are_refused_and_no_more() {
     assert_eq!(read_soc(&[], &mut []), refused(6));
     assert_eq!(read_soc(T1, &mut []), refused(11));
@@ -53,6 +87,7 @@ fn empty_slices_are_refused_and_no_more() {
     assert_eq!(plan(&[], 0, 0, &mut []), refused(14));
     assert_eq!(write_plan(&[], &mut []), refused(12));
     assert_eq!(read_plan(&[], &mut []), refused(12));
+    assert_eq!(show(&[], &mut []), refused(12));
     assert_eq!(listing(&[], &mut []), refused(11));
 }
 

@@ -105,9 +105,10 @@ impl Ran {
         assert_eq!((self.status, &self.out[..], &self.err[..]), (Some(0), out, ""));
     }
 
+    /// `told` is the message without the command's name and the refusal's number, `beneath` what stands below it.
     #[track_caller]
-    pub fn refused(&self, number: u32, line: u32, file: &str, words: &str) {
-        let err = format!("tallowwing: {file}:{line}: {words} (refusal {number})\n");
+    pub fn refused(&self, number: u32, line: u32, told: &str, beneath: &str) {
+        let err = format!("tallowwing: {told} (refusal {number})\n{beneath}");
         assert_eq!((self.status, self.out.clone(), self.err.clone()), (Some(1), format!("refused {number} line {line}\n"), err));
     }
 

@@ -6,6 +6,7 @@ mod records;
 mod texts;
 
 use independent::limits;
+use tallowwing_library::{LAYOUT_BYTES, PLAN_BYTES, PLAN_FILE_MAX, SOC_BYTES};
 
 use crate::case::{Case, Entry};
 use crate::random::Random;
@@ -38,8 +39,8 @@ pub const KINDS: &[Kind] = &[
     Kind { name: "module wires", share: 40, make: records::module_wires, must_occur: &[0, 7, 13] },
     Kind { name: "plan, small", share: 90, make: plans::plan_small, must_occur: &[0, 7, 8, 9, 10, 11] },
     Kind { name: SLOW, share: 2, make: plans::plan_large, must_occur: &[0] },
-    Kind { name: "plan record, good", share: 40, make: plans::plan_record_good, must_occur: &[0, 11] },
-    Kind { name: "plan record, damaged", share: 90, make: plans::plan_record_damaged, must_occur: &[0, 12] },
+    Kind { name: "plan record, good", share: 60, make: plans::plan_record_good, must_occur: &[0, 11] },
+    Kind { name: "plan record, damaged", share: 150, make: plans::plan_record_damaged, must_occur: &[0, 12] },
     Kind { name: "plan file, good", share: 40, make: plans::plan_file_good, must_occur: &[0, 11] },
     Kind { name: "plan file, damaged", share: 90, make: plans::plan_file_damaged, must_occur: &[0, 12] },
     Kind { name: "listing, good", share: 40, make: listings::listing_good, must_occur: &[0, 11] },
@@ -79,12 +80,12 @@ fn with_room(mut case: Case, random: &mut Random) -> Case {
 /// The length of the result, or a likely one where the call is refused.
 fn exact_room(case: &Case) -> usize {
     match case.entry {
-        Entry::ReadSoc => 16_688,
-        Entry::Layout => 1_024,
-        Entry::Plan | Entry::ReadPlan => 300,
+        Entry::ReadSoc => SOC_BYTES,
+        Entry::Layout => LAYOUT_BYTES,
+        Entry::Plan | Entry::ReadPlan => PLAN_BYTES,
         _ => {
             let mut lent = vec![0; limits::TEXT_BYTES];
-            case.ask_independent(&case.input, &mut lent).figure().map_or(196, |length| length as usize)
+            case.ask_independent(&case.input, &mut lent).figure().map_or(PLAN_FILE_MAX, |length| length as usize)
         }
     }
 }

@@ -42,7 +42,7 @@ pub fn plan_large(random: &mut Random) -> Case {
 }
 
 pub fn plan_record_good(random: &mut Random) -> Case {
-    Case::new(Entry::WritePlan, [0; 3], LoosePlan::good(random).record())
+    handed_to_any(LoosePlan::good(random).record(), random)
 }
 
 pub fn plan_record_damaged(random: &mut Random) -> Case {
@@ -55,7 +55,12 @@ pub fn plan_record_damaged(random: &mut Random) -> Case {
     if !among_figures {
         damage_any(&mut record, random);
     }
-    Case::new(Entry::WritePlan, [0; 3], record)
+    handed_to_any(record, random)
+}
+
+/// Every entry that takes a plan record judges it in the same way.
+fn handed_to_any(record: Vec<u8>, random: &mut Random) -> Case {
+    Case::new(*random.pick(&[Entry::WritePlan, Entry::Show]), [0; 3], record)
 }
 
 pub fn plan_file_good(random: &mut Random) -> Case {

@@ -2,6 +2,7 @@
 
 use independent::forms::soc_bytes;
 use independent::limits;
+use tallowwing_library::places::{module, soc};
 
 use crate::at_limits::limit_in_record;
 use crate::case::{Case, Entry};
@@ -52,15 +53,15 @@ pub fn any_width(random: &mut Random) -> u32 {
 
 /// The number of a module that is there, now and then of one that is not.
 pub fn any_module(record: &[u8], random: &mut Random) -> u32 {
-    let count = u32::from(record[44]);
+    let count = u32::from(record[soc::MODULE_COUNT]);
     match random.below(12) {
         0 => *random.pick(&[count, count + 1, 40, 256, 4_294_967_295]),
         _ => random.within(0, count - 1),
     }
 }
 
-pub fn any_test(record: &[u8], module: u32, random: &mut Random) -> u32 {
-    let place = 48 + 416 * module as usize + 284;
+pub fn any_test(record: &[u8], number: u32, random: &mut Random) -> u32 {
+    let place = soc::module(number as usize) + module::TEST_COUNT;
     let count = record.get(place).map_or(0, |&count| u32::from(count));
     match random.below(12) {
         0 => *random.pick(&[0, count + 1, 9, 257, 4_294_967_295]),

@@ -65,6 +65,9 @@ int main(void)
     expect("write a plan", tallowwing_write_plan(plan, sizeof plan, file, sizeof file), 0, 64);
     expect("read a plan", tallowwing_read_plan(file, 64, again, sizeof again), 0, TALLOWWING_PLAN_BYTES);
     expect_bytes("plan", again, plan, sizeof plan);
+    expect("show", tallowwing_show(plan, sizeof plan, listed, sizeof listed), 0, sizeof listing - 1 - 7);
+    expect_bytes("show", listed, listing + 7, sizeof listing - 1 - 7);
+    expect("show a part", tallowwing_show(plan, sizeof plan - 1, listed, sizeof listed), 12, 0);
     expect("read a longer plan", tallowwing_read_plan(file, 65, again, sizeof again), 12, 0);
     memcpy(input, "Plan 4 2\n", 9);
     memcpy(input + 9, text, length);
