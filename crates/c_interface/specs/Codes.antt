@@ -12,7 +12,7 @@ use Rattle.text_writer.specs.Written as soctext
 use Rattle.wrapper.specs.Answers.{layoutAnswer, testTimeAnswer, moduleTimeAnswer}
 use Rattle.plan.specs.Answers.{planAnswer}
 use Rattle.plan_file.specs.Files as planfile
-use Rattle.listing.specs.Listing.{listingAnswer, listingLeaves}
+use Rattle.listing.specs.Listing.{listingAnswer, listingLeaves, showAnswer, showLeaves}
 use Rattle.c_forms.specs.SocForm.{socIn, socBytes}
 use Rattle.c_forms.specs.PlanForm.{planIn, planBytes}
 use Rattle.c_forms.specs.LayoutForm.{layoutBytes}
@@ -93,3 +93,9 @@ listingCode input buf = code (listingAnswer input buf .refusal) (listingAnswer i
 
 abbrev pub listingHeld : List ℕ → List ℕ → List ℕ
 listingHeld input buf = listingLeaves input buf
+
+abbrev pub showCode : List ℕ → List ℕ → ℕ
+showCode b buf = code (showAnswer (planIn b) buf .refusal) (showAnswer (planIn b) buf .len)
+
+abbrev pub showHeld : List ℕ → List ℕ → List ℕ
+showHeld b buf = showLeaves (planIn b) buf

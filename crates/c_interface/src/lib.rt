@@ -3,7 +3,7 @@
 use units::Refusal;
 use units::Wires;
 ghost use mathlib.Core.Path.{_≡_};
-ghost use Rattle.c_interface.specs.Codes.{above, code, bytesCode, readCode, readHeld, writeCode, writeHeld, layoutCode, layoutHeld, testTimeCode, moduleTimeCode, moduleWiresCode, planCode, planHeld, writePlanCode, writePlanHeld, readPlanCode, readPlanHeld, listingCode, listingHeld};
+ghost use Rattle.c_interface.specs.Codes.{above, code, bytesCode, readCode, readHeld, writeCode, writeHeld, layoutCode, layoutHeld, testTimeCode, moduleTimeCode, moduleWiresCode, planCode, planHeld, writePlanCode, writePlanHeld, readPlanCode, readPlanHeld, listingCode, listingHeld, showCode, showHeld};
 
 // v has 56 bits: a line and a length stay far below, and a time has at most 46.
 fn above_byte(n: u8, v: u64) -> u64
@@ -134,4 +134,13 @@ pub extern "C" fn tallowwing_listing(input: &[u8], into: &mut [u8]) -> u64
 {
     let listed = listing::listing(input, &mut *into);
     code_of(listed.refusal, listed.len as u64)
+}
+
+#[no_mangle]
+pub extern "C" fn tallowwing_show(from: &[u8], into: &mut [u8]) -> u64
+    ensures { λ r. ⌜ (r ≡ showCode (now (from .entry)) (now (into .entry))) × (now (into .exit) ≡ showHeld (now (from .entry)) (now (into .entry))) ⌝ }
+{
+    let p = c_forms::plan_in(from);
+    let shown = listing::show(p, &mut *into);
+    code_of(shown.refusal, shown.len as u64)
 }

@@ -11,6 +11,8 @@ use Rattle.fields.specs.Bytes.{bytes, lf}
 use Rattle.fields.specs.Names.{nameMax}
 use Rattle.fields.specs.Written.{decimal, joined, writtenLines}
 use Rattle.fields.proofs.SizeLaws.{decimal-size}
+use Rattle.buffer.specs.Puts.{putEnd, putIn}
+use Rattle.buffer.proofs.PutLaws.{Due, due-all, due-room, due-next, put-is}
 use Rattle.soc.specs.Record.{nameOf}
 use Rattle.soc.specs.declared.record.Soc.{Soc}
 use Rattle.plan_record.specs.declared.record.Bus.{Bus}
@@ -19,7 +21,7 @@ use Rattle.plan_record.specs.declared.record.BusPlan.{BusPlan}
 use Rattle.plan_record.specs.Record.{busesOf, modulesOf}
 use Rattle.fields.proofs.LinesWritten.{written-append, front-more}
 use Rattle.listing.specs.Listing.{refusalFields, countFields, socFields, busFields, busLines, moduleFields, moduleLines, linesBehind}
-use Rattle.listing.specs.Room.{refusalRoom, countRoom, busRoom, moduleRoom}
+use Rattle.listing.specs.Room.{refusalRoom, countRoom, nameRoom, busRoom, moduleRoom}
 use Rattle.listing.specs.Rest.{restText}
 
 -- figures are below 2⁶⁴, which has 20 digits
@@ -51,6 +53,24 @@ module _ (p : BusPlan) where
   pub soc-text : (s : Soc) → writtenLines (socFields s p ∷ []) ≡ bytes "soc " ++ (nameOf s ++ (bytes " " ++ writtenLines (countFields p ∷ [])))
   unfolding socFields countFields writtenLines joined
   soc-text s = simp append-assoc
+
+  pub soc-size : (s : Soc) → s .«name_len» ≤ nameMax → p .wires .0 < figureEnd → p .limit < figureEnd → p .time .0 < figureEnd → length (writtenLines (socFields s p ∷ [])) ≤ nameRoom + countRoom
+  soc-size s n w b t = rw soc-text (simp length-append (omega (arith, name-size s n, count-size w b t)))
+
+  -- `soc`, the name and a space are put: little room is used, and the rest of the line is due
+  pub soc-front : (s : Soc) {at r1 r2 r3 : ℕ} {start b1 b2 b3 : List ℕ} → s .«name_len» ≤ nameMax → at + length (writtenLines (socFields s p ∷ [])) ≤ length start
+      → (r1 ≡ putEnd (bytes "soc ") at start) × (b1 ≡ putIn (bytes "soc ") at start)
+      → (r2 ≡ putEnd (nameOf s) r1 b1) × (b2 ≡ putIn (nameOf s) r1 b1)
+      → (r3 ≡ putEnd (bytes " ") r2 b2) × (b3 ≡ putIn (bytes " ") r2 b2)
+      → (r3 ≤ at + nameRoom) × Due (writtenLines (countFields p ∷ [])) (writtenLines (socFields s p ∷ [])) at start r3 b3
+  soc-front s n h e1 e2 e3 =
+      let d0 = due-all (soc-text s) h in
+      let p1 = put-is (due-room (bytes "soc ") _ d0) e1 in
+      let d1 = due-next (bytes "soc ") _ d0 p1 in
+      let p2 = put-is (due-room (nameOf s) _ d1) e2 in
+      let d2 = due-next (nameOf s) _ d1 p2 in
+      let p3 = put-is (due-room (bytes " ") _ d2) e3 in
+      (omega (arith, p1 .behind, p2 .behind, p3 .behind, name-size s n), due-next (bytes " ") _ d2 p3)
 
   -- the text of a plan, part by part
   pub lines-text : (first : List (List ℕ)) → writtenLines (linesBehind first p) ≡ writtenLines (first ∷ []) ++ restText p

@@ -128,3 +128,22 @@ answer-good s W B e =
 
 pub planner-answers-good : (s : Soc) (W B : ℕ) (a : PlanAnswer) → a ≡ planAnswer s W B → a .refusal .number ≡ 0 → goodPlan (a .plan) ≡ true
 planner-answers-good s W B a e h = rw e (answer-good s W B (rw e at h))
+
+-- a record that is not good is refused (14), so that one with a plan is good
+pub planner-accepts-good : (s : Soc) (W B : ℕ) (a : PlanAnswer) → a ≡ planAnswer s W B → a .refusal .number ≡ 0 → goodSoc s ≡ true
+unfolding planAnswer
+planner-accepts-good s W B a e h = go (goodSoc s) refl (rw e at h)
+  where
+    rest : PlanAnswer
+    rest =
+        cond (leb 1 W && leb W widthMax)
+        (cond (leb 1 B && leb B limitMax)
+        (cond (leb 1 (length (plannedOf s)))
+        (cond (leb (length (plannedOf s)) plannedMax) (record { refusal = accepted; plan = recordOf s W B (bestFor s W B) }) (refusedPlan 10))
+        (refusedPlan 9))
+        (refusedPlan 8))
+        (refusedPlan 7)
+
+    go : (v : Bool) → goodSoc s ≡ v → cond v rest (refusedPlan 14) .refusal .number ≡ 0 → v ≡ true
+    go true e h = refl
+    go false e h = let no : ⊥ = omega arith in absurd no

@@ -6,7 +6,8 @@ use mathlib.Core.Path.{ap}
 use Rattle.fields.specs.Written.{writtenLines}
 use Rattle.soc.proofs.GoodSocLaws.{soc-figures}
 use Rattle.plan_record.proofs.GoodPlanLaws.{GoodFigures, good-figures}
-use Rattle.plan.proofs.PlannerLaws.{planner-answers-good}
+use Rattle.plan.proofs.PlannerLaws.{planner-answers-good, planner-accepts-good}
+use Rattle.listing.specs.Room.{refusalRoom, planRoom}
 use Rattle.listing.proofs.ListingLaws.{put-as, plan-refused, plan-found}
 use Rattle.listing.proofs.entry.put_answer.Statement.{statement}
 use Rattle.listing.proofs.entry.put_answer.Tie as tie
@@ -22,7 +23,7 @@ plan-requires : tie.Need-plan-requires
 plan-requires c κs = search needs
 
 put-refusal-requires : tie.Need-put-refusal-requires
-put-refusal-requires c κs = omega (arith, c .before .before .before .before .before .pre .1)
+put-refusal-requires c κs = omega (arith, c .before .before .before .before .before .pre)
 
 same-length : tie.Need-same-length
 same-length c = search needs
@@ -33,14 +34,15 @@ returns c =
     let t = k .before .before in
     let p = t .before .before in
     let s = p .before .before in
-    put-as 55 (ap writtenLines (plan-refused (s .args .s) (s .args .wires) (s .args .limit) _ (p .plan .ensures) (t .if1 .taken))) (omega arith) (k .put-refusal .ensures)
+    put-as refusalRoom (ap writtenLines (plan-refused (s .args .s) (s .args .wires) (s .args .limit) _ (p .plan .ensures) (t .if1 .taken))) (omega arith) (k .put-refusal .ensures)
 
 put-plan-requires : tie.Need-put-plan-requires
 put-plan-requires c κs =
     let t = c .before in
     let s = t .before .before .before .before in
     let f = found t in
-    (soc-figures (s .args .s) (s .pre .0) .name-len, f .buses-high, f .modules-high, omega (arith, s .pre .1))
+    let p = t .before .before in
+    (soc-figures (s .args .s) (planner-accepts-good (s .args .s) (s .args .wires) (s .args .limit) _ (p .plan .ensures) (t .if1 .left)) .name-len, f .buses-high, f .modules-high, omega (arith, s .pre))
 
 same-length-2 : tie.Need-same-length-2
 same-length-2 c = search needs
@@ -51,7 +53,7 @@ returns-2 c =
     let t = k .before .before in
     let p = t .before .before in
     let s = p .before .before in
-    put-as 1647 (ap writtenLines (plan-found (s .args .s) (s .args .wires) (s .args .limit) _ (p .plan .ensures) (t .if1 .left))) (omega arith) (k .put-plan .ensures)
+    put-as planRoom (ap writtenLines (plan-found (s .args .s) (s .args .wires) (s .args .limit) _ (p .plan .ensures) (t .if1 .left))) (omega arith) (k .put-plan .ensures)
 
 pub put-answer-spec : {M : Type 1} → statement M
 put-answer-spec = tie.close (tie.spec plan-requires put-refusal-requires same-length returns put-plan-requires same-length-2 returns-2)

@@ -14,6 +14,7 @@ use Rattle.text_reader.specs.Reading.{readSoc}
 use Rattle.fields.specs.Written.{writtenLines}
 use Rattle.listing.specs.Asked.{Wanted, asked, textBehind}
 use Rattle.listing.specs.Listing.{refusalFields, textPrinted, listingMax}
+use Rattle.listing.specs.Room.{refusalRoom}
 use Rattle.listing.proofs.AskedLaws.{first-line}
 use Rattle.listing.proofs.ListingLaws.{put-as, answer-no, answer-for, listed-no, listed-says}
 use Rattle.listing.proofs.entry.put_listed.Statement.{statement}
@@ -71,7 +72,7 @@ returns c =
     let t = o .before .before .before .before .args .input .now in
     let e : asked t ≡ refuses (k .c .given .0 .0) = answer-no (asked t) _ (sym (k .c .given .1) ∙ o .asked-of .ensures) in
     let l : a .at .result ≡ refused (k .c .given .0 .0) 0 = a .at .ensures in
-    put-as 55 (listed-no t _ e ∙ ap (λ (r : Refusal). writtenLines (refusalFields r ∷ [])) (sym l)) (omega arith) (p .put-refusal .ensures)
+    put-as refusalRoom (listed-no t _ e ∙ ap (λ (r : Refusal). writtenLines (refusalFields r ∷ [])) (sym l)) (omega arith) (p .put-refusal .ensures)
 
 same-length-2 : tie.Need-same-length-2
 same-length-2 c = search needs

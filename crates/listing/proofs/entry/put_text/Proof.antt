@@ -1,10 +1,11 @@
--- `listing::entry::put_text` meets its contract. The record of a text that is not refused is good. Assumes nothing.
+-- `listing::entry::put_text` meets its contract.: what is refused is put, else what is printed for the record. Assumes nothing.
 use borrow.Author.Needs.{needs}
 use native.Mathlib.Omega.{arith}
 use mathlib.Core.Path.{ap}
 use Rattle.fields.specs.Written.{writtenLines}
 use Rattle.listing.specs.Listing.{listingMax}
-use Rattle.listing.proofs.ListingLaws.{put-as, text-refused, text-read, read-good}
+use Rattle.listing.specs.Room.{refusalRoom}
+use Rattle.listing.proofs.ListingLaws.{put-as, text-refused, text-read}
 use Rattle.listing.proofs.entry.put_text.Statement.{statement}
 use Rattle.listing.proofs.entry.put_text.Tie as tie
 
@@ -23,13 +24,10 @@ returns c =
     let t = k .before .before in
     let r = t .before .before in
     let s = r .before .before .before in
-    put-as 55 (ap writtenLines (text-refused (record { wires = s .args .wires; limit = s .args .limit }) (s .args .text .now) _ (r .read-soc .ensures) (t .if1 .taken))) (omega arith) (k .put-refusal .ensures)
+    put-as refusalRoom (ap writtenLines (text-refused (record { wires = s .args .wires; limit = s .args .limit }) (s .args .text .now) _ (r .read-soc .ensures) (t .if1 .taken))) (omega arith) (k .put-refusal .ensures)
 
 put-answer-requires : tie.Need-put-answer-requires
-put-answer-requires c κs =
-    let t = c .before in
-    let r = t .before .before in
-    (read-good _ _ (r .read-soc .ensures) (t .if1 .left), r .before .before .before .pre)
+put-answer-requires c κs = c .before .before .before .before .before .before .pre
 
 same-length-2 : tie.Need-same-length-2
 same-length-2 c = search needs
