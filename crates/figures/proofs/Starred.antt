@@ -6,10 +6,10 @@ use Rattle.wrapper.specs.Fit.{longest, better, bestFrom, goes, placed, withCell
 use Rattle.wrapper.specs.Chains.{numberedFrom, insert, ordered, usedChains, thread, threaded}
 use Rattle.wrapper.specs.Times.{scanIn, scanOut, testCycles, testTime, sumTimes, figure, bestTo, moduleBest}
 use Rattle.plan_rules.specs.Plans.{busyFrom, busies, largest, timeOf}
-use Rattle.plan_rules.specs.Listed.{upward, widthLists, placements, plansOn, plans, firstLeast, firstOf, bestPlan}
+use Rattle.plan_rules.specs.Listed.{upward, widthLists, placements, plansOn, plans, firstLeast, firstOf, bestPlan, bestOf}
 use Rattle.plan.specs.Answers.{timeIn, bestFor}
 use Rattle.figures.specs.Figures.{figures, computedOf, statedOf}
 
 pub starred-hold : computedOf figures ≡ statedOf figures
-unfolding padded anyOf isPlanned plannedFrom longest better bestFrom goes placed withCells longestAfter numberedFrom insert ordered usedChains thread threaded scanIn scanOut testCycles testTime sumTimes figure bestTo moduleBest busyFrom busies largest timeOf upward widthLists placements plansOn plans firstLeast firstOf bestPlan timeIn bestFor computedOf statedOf
+unfolding padded anyOf isPlanned plannedFrom longest better bestFrom goes placed withCells longestAfter numberedFrom insert ordered usedChains thread threaded scanIn scanOut testCycles testTime sumTimes figure bestTo moduleBest busyFrom busies largest timeOf upward widthLists placements plansOn plans firstLeast firstOf bestOf timeIn bestFor computedOf statedOf
 starred-hold = refl

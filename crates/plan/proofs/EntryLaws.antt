@@ -18,9 +18,9 @@ use Rattle.soc.specs.declared.planned.Planned.{Planned}
 use Rattle.soc.specs.declared.record.Soc.{Soc}
 use Rattle.units.proofs.PlaceLaws.{padded-take, padded-set, padded-at}
 use Rattle.wrapper.specs.Answers.{wires, cycles}
-use Rattle.plan_rules.specs.Plans.{Plan, IsPlan, sum, busyFrom, busies}
+use Rattle.plan_rules.specs.Plans.{Plan, IsPlan, sum, busyFrom, busies, timeOf}
 use Rattle.plan_rules.specs.Listed.{bestPlan}
-use Rattle.plan_rules.proofs.Demand.{best-is}
+use Rattle.plan_rules.proofs.Demand.{best-first}
 use Rattle.plan_record.specs.Record.{busPlaces, modulePlaces, noBus, noPlaced, busRecords, moduleRecords, planRecord}
 use Rattle.plan_record.proofs.RecordLaws.{length-records}
 use Rattle.plan_search.specs.Search.{tableTime, foundOf}
@@ -173,7 +173,7 @@ module _ {s : Soc} {W B : ℕ} {t : Tables} {p : Planned} {f : Found}
 
   best-plan : IsPlan W B (length (plannedOf s)) (bestFor s W B)
   unfolding bestFor
-  best-plan = best-is (timeIn s) W B (length (plannedOf s)) some limit
+  best-plan = best-first (timeOf (timeIn s)) W B (length (plannedOf s)) some limit .is-plan
 
   found-best : f ≡ foundOf (tableTime (t .cycles)) (bestFor s W B)
   unfolding bestFor

@@ -1,4 +1,4 @@
 pub mod TableLaws
 pub mod EntryLaws
-pub mod PlanDemand
 pub mod PlannerLaws
+pub mod PlanDemand

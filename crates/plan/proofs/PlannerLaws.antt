@@ -27,7 +27,9 @@ use Rattle.plan_record.proofs.RecordLaws.{Recordable, record-good}
 use Rattle.plan.specs.Answers.{limitMax, plannedMax, plannedModule, timeIn, wiresIn, bestFor, recordOf, refusedPlan, planAnswer}
 use Rattle.plan.specs.declared.answer.PlanAnswer.{PlanAnswer}
 use Rattle.plan.proofs.TableLaws.{planned-number}
-use Rattle.plan.proofs.PlanDemand.{plan-is}
+use Rattle.plan_rules.specs.Plans.{timeOf}
+use Rattle.plan_rules.specs.First.{IsFirst}
+use Rattle.plan_rules.proofs.Demand.{best-first}
 
 -- the planned modules from number m on: their numbers are at least m, and each is planned
 record PlannedAt (m : ℕ) (ds : List Module) (x : ℕ) : Type 0 where
@@ -87,6 +89,11 @@ ascending-planned low m (d ∷ ds) h k =
 pub planned-ascends : (s : Soc) → goodSoc s ≡ true → ascendingFrom 0 (plannedOf s) ≡ true
 planned-ascends s good = ascending-planned 0 0 (modulesOf s) (omega arith) (omega (arith, soc-figures s good .module-count, length-take (s .«module_count») (s .modules)))
 
+-- "The answer is the first plan of least time."
+pub best-for-first : (s : Soc) (W B : ℕ) → 1 ≤ W → 1 ≤ B → IsFirst (timeOf (timeIn s)) W B (length (plannedOf s)) (bestFor s W B)
+unfolding bestFor
+best-for-first s W B some limit = best-first (timeOf (timeIn s)) W B (length (plannedOf s)) some limit
+
 -- the planned modules of a good SOC make a record
 recordable : (s : Soc) → goodSoc s ≡ true → 1 ≤ length (plannedOf s) → length (plannedOf s) ≤ plannedMax → Recordable (plannedOf s) (timeIn s) (wiresIn s)
 recordable s good some most =
@@ -102,12 +109,22 @@ recordable s good some most =
 module _ (s : Soc) (W B : ℕ) (good : goodSoc s ≡ true) (low : 1 ≤ W) (narrow : W ≤ widthMax) (limit : 1 ≤ B) (few : B ≤ limitMax)
     (some : 1 ≤ length (plannedOf s)) (most : length (plannedOf s) ≤ plannedMax) where
   pub planner-good : goodPlan (recordOf s W B (bestFor s W B)) ≡ true
-  planner-good = record-good (plannedOf s) (timeIn s) (wiresIn s) W B (bestFor s W B) (plan-is s W B low limit) (recordable s good some most) low narrow limit few
+  planner-good = record-good (plannedOf s) (timeIn s) (wiresIn s) W B (bestFor s W B) (best-for-first s W B low limit .is-plan) (recordable s good some most) low narrow limit few
 
--- what the planner answers where it refuses nothing
-answer-good : (s : Soc) (W B : ℕ) → planAnswer s W B .refusal .number ≡ 0 → goodPlan (planAnswer s W B .plan) ≡ true
+-- what the planner answers where it refuses nothing: the limits hold, and the plan is the best one's record
+pub record Answered (s : Soc) (W B : ℕ) (a : PlanAnswer) : Type 0 where
+  pub good : goodSoc s ≡ true
+  pub low : 1 ≤ W
+  pub narrow : W ≤ widthMax
+  pub limit : 1 ≤ B
+  pub few : B ≤ limitMax
+  pub some : 1 ≤ length (plannedOf s)
+  pub most : length (plannedOf s) ≤ plannedMax
+  pub is : a .plan ≡ recordOf s W B (bestFor s W B)
+
+pub answered : (s : Soc) (W B : ℕ) → planAnswer s W B .refusal .number ≡ 0 → Answered s W B (planAnswer s W B)
 unfolding planAnswer
-answer-good s W B e =
+answered s W B e =
     go (goodSoc s) (leb 1 W && leb W widthMax) (leb 1 B && leb B limitMax) (leb 1 (length (plannedOf s))) (leb (length (plannedOf s)) plannedMax) refl refl refl refl refl e
   where
     found : PlanAnswer
@@ -115,35 +132,30 @@ answer-good s W B e =
 
     go : (v w x y z : Bool) → goodSoc s ≡ v → (leb 1 W && leb W widthMax) ≡ w → (leb 1 B && leb B limitMax) ≡ x → leb 1 (length (plannedOf s)) ≡ y → leb (length (plannedOf s)) plannedMax ≡ z →
         let a = cond v (cond w (cond x (cond y (cond z found (refusedPlan 10)) (refusedPlan 9)) (refusedPlan 8)) (refusedPlan 7)) (refusedPlan 14) in
-        a .refusal .number ≡ 0 → goodPlan (a .plan) ≡ true
+        a .refusal .number ≡ 0 → Answered s W B a
     go true true true true true a b c d e h =
         let w = and-both (leb 1 W) (leb W widthMax) b in
         let l = and-both (leb 1 B) (leb B limitMax) c in
-        planner-good s W B a (leb-true 1 W (w .0)) (leb-true W widthMax (w .1)) (leb-true 1 B (l .0)) (leb-true B limitMax (l .1)) (leb-true 1 _ d) (leb-true _ plannedMax e)
+        record {
+          good = a;
+          low = leb-true 1 W (w .0);
+          narrow = leb-true W widthMax (w .1);
+          limit = leb-true 1 B (l .0);
+          few = leb-true B limitMax (l .1);
+          some = leb-true 1 _ d;
+          most = leb-true _ plannedMax e;
+          is = refl;
+        }
     go true true true true false a b c d e h = let no : ⊥ = omega arith in absurd no
     go true true true false z a b c d e h = let no : ⊥ = omega arith in absurd no
     go true true false y z a b c d e h = let no : ⊥ = omega arith in absurd no
     go true false x y z a b c d e h = let no : ⊥ = omega arith in absurd no
     go false w x y z a b c d e h = let no : ⊥ = omega arith in absurd no
 
-pub planner-answers-good : (s : Soc) (W B : ℕ) (a : PlanAnswer) → a ≡ planAnswer s W B → a .refusal .number ≡ 0 → goodPlan (a .plan) ≡ true
-planner-answers-good s W B a e h = rw e (answer-good s W B (rw e at h))
+-- an answer that is not refused is a good plan of a good record
+module _ (s : Soc) (W B : ℕ) (a : PlanAnswer) (e : a ≡ planAnswer s W B) (h : a .refusal .number ≡ 0) where
+  pub planner-answers-good : goodPlan (a .plan) ≡ true
+  planner-answers-good = let r = answered s W B (rw e at h) in rw (e, r .is) (planner-good s W B (r .good) (r .low) (r .narrow) (r .limit) (r .few) (r .some) (r .most))
 
--- a record that is not good is refused (14), so that one with a plan is good
-pub planner-accepts-good : (s : Soc) (W B : ℕ) (a : PlanAnswer) → a ≡ planAnswer s W B → a .refusal .number ≡ 0 → goodSoc s ≡ true
-unfolding planAnswer
-planner-accepts-good s W B a e h = go (goodSoc s) refl (rw e at h)
-  where
-    rest : PlanAnswer
-    rest =
-        cond (leb 1 W && leb W widthMax)
-        (cond (leb 1 B && leb B limitMax)
-        (cond (leb 1 (length (plannedOf s)))
-        (cond (leb (length (plannedOf s)) plannedMax) (record { refusal = accepted; plan = recordOf s W B (bestFor s W B) }) (refusedPlan 10))
-        (refusedPlan 9))
-        (refusedPlan 8))
-        (refusedPlan 7)
-
-    go : (v : Bool) → goodSoc s ≡ v → cond v rest (refusedPlan 14) .refusal .number ≡ 0 → v ≡ true
-    go true e h = refl
-    go false e h = let no : ⊥ = omega arith in absurd no
+  pub planner-accepts-good : goodSoc s ≡ true
+  planner-accepts-good = answered s W B (rw e at h) .good

@@ -17,7 +17,7 @@ use Rattle.wrapper.specs.Answers.{moduleTimesAnswer}
 use Rattle.wrapper.proofs.BestLaws.{time-falls}
 use Rattle.wrapper.proofs.PromisedTimes.{time-most, times-at, wires-at, times-past}
 use Rattle.plan_rules.specs.Plans.{Plan, IsPlan, sum, busyFrom, busies, largest, timeOf}
-use Rattle.plan_rules.specs.Listed.{plans, firstLeast, firstOf, bestPlan}
+use Rattle.plan_rules.specs.Listed.{plans, firstLeast, firstOf, bestPlan, bestOf}
 use Rattle.plan_rules.proofs.ListedLaws.{sound}
 use Rattle.plan.specs.Answers.{plannedModule, timeIn, wiresIn}
 use Rattle.wrapper.specs.Maxima.{moduleTimeMax}
@@ -175,5 +175,5 @@ module _ {f g : ℕ → ℕ → ℕ} {W n : ℕ} (same : (i w : ℕ) → i < n �
   time-same r = ap largest (busies-same r)
 
   pub best-same : (B : ℕ) → bestPlan f W B n ≡ bestPlan g W B n
-  unfolding bestPlan
+  unfolding bestOf
   best-same B = first-same (timeOf f) (timeOf g) (plans W B n) (λ p m. time-same (sound W B n p m))

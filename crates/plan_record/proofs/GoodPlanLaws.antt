@@ -1,7 +1,7 @@
 -- Laws of a good plan record: how its loops walk the modules and the buses, and what its figures keep (`GoodFigures`). Assumes nothing.
 use Prim.Native.Nat.{ℕ, zero, suc, _+_, _-_, _*_, _≤_, _<_, max}
 use mathlib.Core.Path.{_≡_, refl, ap, _∙_}
-use mathlib.Core.Bool.{Bool, true, false, cond, _&&_, and-false}
+use mathlib.Core.Bool.{Bool, true, false, cond, _&&_}
 use mathlib.Core.List.{List, [], _∷_}
 use mathlib.Core.Logic.{inl}
 use native.Mathlib.Omega.{arith}
@@ -10,7 +10,7 @@ use borrow.Author.Tests.{leb-true, eqb-true, eq-eqb, ne-eqb}
 use lib.ListN.{length, getD, take, drop, drop-of-length-le}
 use lib.Seq.{drop-cons, getD-take, length-take-le}
 use lib.Dec.{leb, eqb}
-use Rattle.units.proofs.TestLaws.{and-both}
+use Rattle.units.proofs.TestLaws.{and-both, and-third}
 use Rattle.units.specs.Places.{allOf}
 use Rattle.units.proofs.PlaceLaws.{front-has, front-ends}
 use Rattle.plan_record.specs.Record.{noBus, noPlaced, busesOf, modulesOf, widthsOf, cyclesOn, busiesOf, numbersOf, modulePlaces}
@@ -21,11 +21,6 @@ use Rattle.plan_record.specs.declared.record.PlacedModule.{PlacedModule}
 use Rattle.plan_record.specs.declared.record.BusPlan.{BusPlan}
 use Rattle.plan_rules.specs.Plans.{sum, largest}
 use Rattle.plan_record.specs.Good.{within, goodCounts, ascendingFrom, goodPlaced, risingFrom, goodBuses, goodBusies, goodTimes, spareRest, goodPlan}
-
--- the third of a chain of tests may come first
-pub and-third : (a b c d : Bool) → (a && (b && (c && d))) ≡ (c && (a && (b && d)))
-and-third a b true d = refl
-and-third a b false d = rw (and-false b, and-false a)
 
 -- the first n places of an array, from i on
 module _ {A : Type 0} (n : ℕ) (l : List A) (i : ℕ) where

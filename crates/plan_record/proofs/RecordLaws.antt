@@ -9,14 +9,14 @@ use borrow.Author.Tests.{le-leb, eq-eqb, eqb-true}
 use lib.ListN.{length, getD, drop, replicate, length-take, drop-of-length-le}
 use lib.Seq.{getD-take, drop-cons}
 use lib.Dec.{eqb}
-use Rattle.units.proofs.TestLaws.{within-true}
+use Rattle.units.proofs.TestLaws.{and-holds, within-true}
 use Rattle.units.specs.Places.{allOf, padded}
 use Rattle.units.proofs.PlaceLaws.{all-replicate, padded-length, padded-take, padded-drop}
 use Rattle.wrapper.specs.Answers.{widthMax}
 use Rattle.wrapper.specs.Maxima.{moduleTimeMax}
 use Rattle.plan_rules.specs.Plans.{Plan, IsPlan, sum, busyFrom, busies, largest, timeOf}
 use Rattle.plan_rules.proofs.BusyLaws.{length-busies, busies-at}
-use Rattle.plan_record.specs.Record.{busPlaces, modulePlaces, noBus, noPlaced, busesOf, modulesOf, widthsOf, busiesOf, numbersOf, placesOf, cyclesOn, busRecords, moduleRecords, planRecord}
+use Rattle.plan_record.specs.Record.{busPlaces, modulePlaces, noBus, noPlaced, busesOf, modulesOf, widthsOf, busiesOf, numbersOf, placesOf, planOf, cyclesOn, busRecords, moduleRecords, planRecord}
 use Rattle.plan_record.specs.Good.{within, goodCounts, ascendingFrom, goodPlaced, risingFrom, goodBuses, goodBusies, goodTimes, spareBus, sparePlaced, spareRest, goodPlan}
 use Rattle.plan_record.specs.declared.record.Bus.{Bus}
 use Rattle.plan_record.specs.declared.record.PlacedModule.{PlacedModule}
@@ -67,10 +67,6 @@ module _ (numbers : List ℕ) (time used : ℕ → ℕ → ℕ) (ws : List ℕ) 
   unfolding cyclesOn moduleRecords busyFrom
   cycles-busy i k [] = refl
   cycles-busy i k (b ∷ bs) = rw (cycles-one i b k (eqb b (suc k)) refl, cycles-busy (suc i) k bs)
-
--- two tests that pass
-and-holds : {a b : Bool} → a ≡ true → b ≡ true → (a && b) ≡ true
-and-holds p q = simp (p, q)
 
 -- widths that are plan widths rise
 rising-widths : (low : ℕ) (ws : List ℕ) → ((i : ℕ) → i < length ws → low ≤ getD ws i 0) → ((i : ℕ) → suc i < length ws → getD ws i 0 ≤ getD ws (suc i) 0) → risingFrom low ws ≡ true
@@ -148,8 +144,9 @@ module _ (numbers : List ℕ) (time used : ℕ → ℕ → ℕ) (W B : ℕ) (p :
     pub record-numbers : numbersOf (modulesOf r) ≡ numbers
     record-numbers = rw modules-are (numbers-are numbers time used (p .widths) 0 (p .buses) (omega (arith, is .placed)))
 
-    pub record-places : placesOf (modulesOf r) ≡ p .buses
-    record-places = rw modules-are (places-are numbers time used (p .widths) 0 (p .buses))
+    -- and it holds that plan
+    pub record-plan : planOf r ≡ p
+    record-plan = let b : placesOf (modulesOf r) ≡ p .buses = rw modules-are (places-are numbers time used (p .widths) 0 (p .buses)) in rw (record-widths, b)
 
     -- "A bus is busy for the sum of its modules' times": bus j + 1 for the cycles of the modules that name it
     pub record-busy : (j : ℕ) → j < r .«bus_count» → getD (busiesOf (busesOf r)) j 0 ≡ cyclesOn (suc j) (modulesOf r)

@@ -57,6 +57,10 @@ numbersOf ms = map (λ m. m .number) ms
 abbrev pub placesOf : List PlacedModule → List ℕ
 placesOf ms = map (λ m. m .bus) ms
 
+-- the plan that a record holds
+abbrev pub planOf : BusPlan → Plan
+planOf r = record { widths = widthsOf (busesOf r); buses = placesOf (modulesOf r) }
+
 -- "A bus is busy for the sum of its modules' times": the cycles of the modules that name bus b
 unfoldable pub cyclesOn : ℕ → List PlacedModule → ℕ
 cyclesOn b [] = 0

@@ -42,6 +42,10 @@ unfoldable pub firstOf : (Plan → ℕ) → List Plan → Plan
 firstOf time [] = plan [] []
 firstOf time (p ∷ ps) = firstLeast time p ps
 
+-- the first of least cost of all plans, whatever a plan costs
+unfoldable pub bestOf : (Plan → ℕ) → ℕ → ℕ → ℕ → Plan
+bestOf cost W B n = firstOf cost (plans W B n)
+
 -- "The answer is the first plan of least time."
-unfoldable pub bestPlan : (ℕ → ℕ → ℕ) → ℕ → ℕ → ℕ → Plan
-bestPlan time W B n = firstOf (timeOf time) (plans W B n)
+abbrev pub bestPlan : (ℕ → ℕ → ℕ) → ℕ → ℕ → ℕ → Plan
+bestPlan time W B n = bestOf (timeOf time) W B n

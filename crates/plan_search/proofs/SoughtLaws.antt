@@ -8,7 +8,7 @@ use native.Mathlib.Omega.{arith}
 use lib.ListN.{length, getD, take, drop, replicate, length-replicate, take-append-drop}
 use lib.Seq.{getD-take, length-take-le, length-front, take-at}
 use Rattle.plan_rules.specs.Plans.{Plan, busies, largest, timeOf}
-use Rattle.plan_rules.specs.Listed.{upward, widthLists, plan, plansOn, plans, bestPlan}
+use Rattle.plan_rules.specs.Listed.{upward, widthLists, plan, plansOn, plans, bestPlan, bestOf}
 use Rattle.plan_rules.proofs.ListedLaws.{some}
 use Rattle.plan_search.specs.Search.{tableTime, timeBound, noTime, Best, keepPlans, held, IsTable, Buffers, Widening, Searched, plansBehind}
 use Rattle.plan_rules.proofs.BusyLaws.{busies-most}
@@ -47,7 +47,7 @@ module _ (t : List ℕ) (wires limit n : ℕ) where
 
   pub sought-first : (widths loads buses best found : List ℕ) → IsTable t n → n ≤ 12 → 1 ≤ wires → 1 ≤ limit
       → length widths ≡ 3 → loads ≡ replicate 3 0 → length buses ≡ 12 → length best ≡ 13 → length found ≡ 4 → getD found 0 0 ≡ 0 → getD best 0 0 ≡ noTime → Sought widths loads buses best found 1
-  unfolding bestPlan plans
+  unfolding bestOf plans
   sought-first widths loads buses best found table few w b e1 e2 e3 e4 e5 e6 e7 = record {
     from = omega arith;
     upto = omega arith;
