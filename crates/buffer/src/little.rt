@@ -26,7 +26,8 @@ pub fn u32_at(b: &[u8], at: usize) -> u32
     if b.len() <= at {
         return 0;
     }
-    byte_at(b, at) + 256 * (byte_at(b, at + 1) + 256 * (byte_at(b, at + 2) + 256 * byte_at(b, at + 3)))
+    byte_at(b, at)
+        + 256 * (byte_at(b, at + 1) + 256 * (byte_at(b, at + 2) + 256 * byte_at(b, at + 3)))
 }
 
 pub fn u64_at(b: &[u8], at: usize) -> u64

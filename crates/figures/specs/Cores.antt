@@ -1,17 +1,14 @@
--- The cores and SOCs of document 01's section "Figures to hold against".
+-- The cores of document 01's section "Figures to hold against".
 use Prim.Native.Nat.{ℕ}
-use mathlib.Core.Bool.{true, false}
+use mathlib.Core.Bool.{true}
 use mathlib.Core.List.{List, [], _∷_, map}
 use lib.ListN.{length}
 use lib.IntN.{pos}
-use Rattle.fields.specs.Bytes.{bytes}
-use Rattle.fields.specs.Names.{nameMax}
-use Rattle.soc.specs.Limits.{modulesMax, chainsMax, testsMax}
+use Rattle.soc.specs.Limits.{chainsMax, testsMax}
 use Rattle.units.specs.Places.{padded}
-use Rattle.soc.specs.Record.{flipFlops, notGiven, noTest, noModule}
+use Rattle.soc.specs.Record.{flipFlops, notGiven, noTest}
 use Rattle.soc.specs.declared.record.Test.{Test}
 use Rattle.soc.specs.declared.record.Module.{Module}
-use Rattle.soc.specs.declared.record.Soc.{Soc}
 
 -- a test of p patterns with ScanUse 1 and TamUse 1
 abbrev pub test : ℕ → Test
@@ -48,22 +45,3 @@ terminals = core 1 3 2 [] (test 4 ∷ [])
 -- "No terminals, no chains, 7 patterns"
 abbrev pub nothing : Module
 nothing = core 1 0 0 [] (test 7 ∷ [])
-
--- a SOC with these modules behind a module 0 without tests
-abbrev pub socWith : List Module → Soc
-socWith ds =
-    record {
-      «name_len» = 2;
-      name = padded nameMax 0 (bytes "t1");
-      power = false;
-      xy = false;
-      «module_count» = length (core 0 0 0 [] [] ∷ ds);
-      modules = padded modulesMax noModule (core 0 0 0 [] [] ∷ ds);
-    }
-
--- "Text t1", and "Two copies of its module 1"
-abbrev pub t1 : Soc
-t1 = socWith (oneChain ∷ terminals ∷ [])
-
-abbrev pub twoCopies : Soc
-twoCopies = socWith (oneChain ∷ oneChain ∷ [])

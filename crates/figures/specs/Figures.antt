@@ -2,11 +2,15 @@
 use Prim.Native.Nat.{ℕ}
 use mathlib.Core.Bool.{true}
 use mathlib.Core.List.{List, [], _∷_, _++_}
-use lib.ListN.{length}
+use lib.ListN.{getD}
 use Rattle.wrapper.specs.Times.{figure, scanIn, scanOut, moduleBest}
-use Rattle.plan_rules.specs.Plans.{timeOf}
-use Rattle.plan.specs.Answers.{timeIn, bestFor}
-use Rattle.figures.specs.Cores.{coreA, oneChain, terminals, nothing, t1, twoCopies}
+use Rattle.soc.specs.declared.record.Soc.{Soc}
+use Rattle.text_reader.specs.Reading.{readSoc}
+use Rattle.plan_record.specs.Record.{modulesOf, placesOf}
+use Rattle.plan_record.specs.declared.record.BusPlan.{BusPlan}
+use Rattle.plan.specs.Answers.{planAnswer}
+use Rattle.figures.specs.Cores.{coreA, oneChain, terminals, nothing}
+use Rattle.figures.specs.Texts.{t1Text, twoCopiesText}
 
 -- a figure as the definitions have it, and as document 01 states it
 pub record Figure : Type 0 where
@@ -38,20 +42,26 @@ wrapperFigures =
     ∷ (moduleBest nothing 1 .cycles is 7)
     ∷ []
 
--- "Text t1 above: W 4, B 1: 74*; W 1, B 3: 83*; W 4, B 3: 65 with two buses*. Two copies of its module 1, W 2, B 2: 65, modules on buses 1 and 2*."
-abbrev pub planFigures : List Figure
-planFigures =
-    (timeOf (timeIn t1) (bestFor t1 4 1) is 74)
-    ∷ (timeOf (timeIn t1) (bestFor t1 1 3) is 83)
-    ∷ (timeOf (timeIn t1) (bestFor t1 4 3) is 65)
-    ∷ (length (bestFor t1 4 3 .widths) is 2)
-    ∷ (timeOf (timeIn twoCopies) (bestFor twoCopies 2 2) is 65)
-    ∷ (lib.ListN.getD (bestFor twoCopies 2 2 .buses) 0 0 is 1)
-    ∷ (lib.ListN.getD (bestFor twoCopies 2 2 .buses) 1 0 is 2)
+-- what the planner answers for W wires and limit B
+abbrev pub planned : Soc → ℕ → ℕ → BusPlan
+planned s W B = planAnswer s W B .plan
+
+-- "Text t1 above: W 4, B 1: 74*; W 1, B 3: 83*; W 4, B 3: 65 with two buses*. Two copies of its module 1, W 2, B 2: 65, modules on buses 1 and 2*.":
+-- of a record and one with the copies
+abbrev pub planFigures : Soc → Soc → List Figure
+planFigures s c =
+    (planned s 4 1 .time .0 is 74)
+    ∷ (planned s 1 3 .time .0 is 83)
+    ∷ (planned s 4 3 .time .0 is 65)
+    ∷ (planned s 4 3 .«bus_count» is 2)
+    ∷ (planned c 2 2 .time .0 is 65)
+    ∷ (getD (placesOf (modulesOf (planned c 2 2))) 0 0 is 1)
+    ∷ (getD (placesOf (modulesOf (planned c 2 2))) 1 0 is 2)
     ∷ []
 
+-- all of them, for the records that the reader gives for the texts
 abbrev pub figures : List Figure
-figures = wrapperFigures ++ planFigures
+figures = wrapperFigures ++ planFigures (readSoc t1Text .soc) (readSoc twoCopiesText .soc)
 
 -- the computed figures of a table, and the stated ones
 unfoldable pub computedOf : List Figure → List ℕ

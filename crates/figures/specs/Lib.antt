@@ -1,2 +1,4 @@
 pub mod Cores
+pub mod Texts
 pub mod Figures
+pub mod Records

@@ -1,8 +1,8 @@
 // A plan file read to its record; or 12. The reader is handed the part used and no more.
-use plan_record::is_good_plan;
 use plan_record::Bus;
 use plan_record::BusPlan;
 use plan_record::PlacedModule;
+use plan_record::is_good_plan;
 use units::Cycles;
 use units::Refusal;
 use units::Wires;

@@ -1,9 +1,9 @@
 // A plan record written to its file, at the front of a lent buffer; or the refusal: 12, then 11.
-use plan_record::is_good_plan;
 use super::put::put_bus;
 use super::put::put_module;
 use super::put::put_trailer;
 use plan_record::BusPlan;
+use plan_record::is_good_plan;
 use units::Refusal;
 ghost use mathlib.Core.Path.{_≡_};
 ghost use mathlib.Core.List.{_++_};
