@@ -1,150 +1,130 @@
--- Laws of the bytes of a plan file: bytes stored at the front of a buffer, a part that was lent from a place on and comes back, records one behind the
--- other, and the length of a file. Assumes nothing.
-use Prim.Native.Nat.{ℕ, suc, _+_, _-_, _*_, _/_, _%_, _<_, _≤_}
-use mathlib.Core.Path.{_≡_, refl, sym, ap, _∙_}
+-- Laws of a plan file as it is written: what is put into a part that was lent, records one behind the other over any stride, the length
+-- of a file, and what the writer answers. Assumes nothing.
+use Prim.Native.Nat.{ℕ, _+_, _-_, _*_, _<_, _≤_}
+use mathlib.Core.Path.{_≡_, refl, _∙_}
 use mathlib.Core.Bool.{true, false}
-use mathlib.Core.List.{List, [], _∷_, _++_, append-assoc, append-nil}
-use native.Mathlib.Nat.{div-div-eq-div-mul}
+use mathlib.Core.List.{List, _++_, append-assoc}
+use native.Mathlib.Nat.{mul-suc}
 use native.Mathlib.Numerals.{add-one}
 use native.Mathlib.Omega.{arith}
 use borrow.Author.Tests.{le-leb, lt-leb}
 use borrow.Rule.Slice.PartMut.{putMid}
-use lib.ListN.{length, getD, take, drop, set, length-append, length-drop, length-set, drop-of-length-le}
-use lib.Seq.{take-all, take-at, drop-at, take-suc, drop-drop, length-take-le}
-use Rattle.buffer.proofs.PutLaws.{partFrom, part-rest}
+use lib.ListN.{length, getD, length-append, length-drop}
+use lib.Seq.{length-take-le}
 use Rattle.units.specs.Refusals.{accepted}
+use Rattle.buffer.specs.Little.{little}
+use Rattle.buffer.specs.Rows.{each}
+use Rattle.buffer.specs.Puts.{putFront, putEnd, putIn, putAt, Put}
+use Rattle.buffer.specs.Written.{refusedWrite}
+use Rattle.buffer.proofs.LittleLaws.{little-length}
+use Rattle.buffer.proofs.RowLaws.{each-length, Run, run-more, run-all}
+use Rattle.buffer.proofs.PutLaws.{partFrom, part-rest, part-in, put-is, put-kept, due-all, due-room, due-next, due-put}
 use Rattle.plan_record.specs.declared.record.Bus.{Bus}
 use Rattle.plan_record.specs.declared.record.PlacedModule.{PlacedModule}
 use Rattle.plan_record.specs.declared.record.BusPlan.{BusPlan}
-use Rattle.plan_record.specs.Record.{busesOf, modulesOf}
+use Rattle.plan_record.specs.Record.{busesOf, modulesOf, noBus, noPlaced}
 use Rattle.plan_record.specs.Good.{goodPlan}
-use Rattle.plan_file.specs.Bytes.{little, moduleBytes, busBytes, trailerBytes, each, fileBytes}
-use Rattle.plan_file.specs.Puts.{Small}
-use Rattle.plan_file.specs.Files.{refusedFile, writeAnswer, writeLeaves}
+use Rattle.plan_record.specs.Whole.{Whole}
 use Rattle.plan_record.proofs.GoodPlanLaws.{good-figures}
-
--- bytes stored one by one, from a place on
-unfoldable pub stored : ℕ → List ℕ → List ℕ → List ℕ
-stored i [] b = b
-stored i (x ∷ w) b = stored (suc i) w (set b i x)
-
-stored-behind : (w : List ℕ) (i y : ℕ) (b : List ℕ) → stored (suc i) w (y ∷ b) ≡ y ∷ stored i w b
-unfolding stored
-stored-behind [] i y b = refl
-stored-behind (x ∷ w) i y b = stored-behind w (suc i) y (set b i x)
-
-pub stored-front : (w b : List ℕ) → length w ≤ length b → stored 0 w b ≡ w ++ drop (length w) b
-unfolding stored
-stored-front [] b h = refl
-stored-front (x ∷ w) [] h = absurd (omega arith)
-stored-front (x ∷ w) (y ∷ b) h = stored-behind w 0 x b ∙ ap (λ l. x ∷ l) (stored-front w b (omega arith))
-
-pub stored-length : (w : List ℕ) (i : ℕ) (b : List ℕ) → length (stored i w b) ≡ length b
-unfolding stored
-stored-length [] i b = refl
-stored-length (x ∷ w) i b = stored-length w (suc i) (set b i x) ∙ length-set b i x
-
--- the 8 bytes of v, each by one division
-unfoldable pub eight : ℕ → List ℕ
-eight v =
-    v % 256
-    ∷ v / 256 % 256
-    ∷ v / 65536 % 256
-    ∷ v / 16777216 % 256
-    ∷ v / 4294967296 % 256
-    ∷ v / 1099511627776 % 256
-    ∷ v / 281474976710656 % 256
-    ∷ v / 72057594037927936 % 256
-    ∷ []
-
-pub little-eight : (v : ℕ) → little 8 v ≡ eight v
-unfolding little eight
-little-eight v = simp div-div-eq-div-mul
+use Rattle.plan_file.specs.Bytes.{moduleStride, busStride, trailerLength, fileLength, fileMax}
+use Rattle.plan_file.specs.Bytes.{moduleBytes, busBytes, trailerBytes, fileBytes}
+use Rattle.plan_file.specs.Puts.{SmallTrailer, Small}
+use Rattle.plan_file.specs.Files.{writeAnswer, writeLeaves}
 
 pub part-room : (at n : ℕ) (b : List ℕ) → n + at ≤ length b → n ≤ length (partFrom at b)
 part-room at n b h = rw part-rest (simp length-drop (omega arith))
 
--- behind what a buffer holds already, w is put into the part that was lent from there on
-pub put-behind : (a w : List ℕ) (at n : ℕ) (o b p : List ℕ) → length a ≡ at → b ≡ a ++ drop at o → p ≡ w ++ drop n (partFrom at b)
-    → putMid at (length b - at) b p ≡ (a ++ w) ++ drop (at + n) o
-put-behind a w at n o b p e f g =
-    let t : take at b ≡ a = ap (take at) f ∙ take-at a (drop at o) at e in
-    let d : drop at b ≡ drop at o = ap (drop at) f ∙ drop-at a (drop at o) at e in
-    rw (drop-of-length-le (drop at b) {i = length b - at} (simp length-drop (omega arith)), append-nil, g, part-rest, t, d, drop-drop, append-assoc)
+-- with the room, at the front of a buffer
+module _ (w o b : List ℕ) where
+  put-front : {r : ℕ} → length w ≤ length o → Put w 0 o b r → b ≡ putFront w o
+  unfolding putAt
+  put-front h p = let e : 0 + length w ≡ length w = omega arith in p .holds ∙ rw (e, le-leb (length w) (length o) h)
 
--- bytes stored at the front, and w behind them
-pub stored-then : (a w : List ℕ) (n : ℕ) (b p : List ℕ) → length a ≤ length b → p ≡ w ++ drop n (partFrom (length a) (stored 0 a b))
-    → putMid (length a) (length (stored 0 a b) - length a) (stored 0 a b) p ≡ (a ++ w) ++ drop (length a + n) b
-stored-then a w n b p h g = put-behind a w (length a) n b (stored 0 a b) p refl (stored-front a b h) g
+  front-put : (r : ℕ) → r ≡ length w → length w ≤ length o → b ≡ putFront w o → Put w 0 o b r
+  unfolding putIn
+  front-put r e h g = record { behind = omega arith; holds = put-is {r = putEnd w 0 o} (omega arith) (refl, g) .holds }
 
-module _ {A : Type 0} (f : A → List ℕ) where
-  each-append : (xs ys : List A) → each f (xs ++ ys) ≡ each f xs ++ each f ys
-  unfolding each
-  each-append [] ys = refl
-  each-append (x ∷ xs) ys = ap (λ l. f x ++ l) (each-append xs ys) ∙ sym (append-assoc (f x) (each f xs) (each f ys))
+-- into the part that was lent from a place on
+put-lent : (w : List ℕ) (at r : ℕ) (b q : List ℕ) → r ≡ at + length w → r ≤ length b → q ≡ putFront w (partFrom at b)
+    → Put w at b (putMid at (length b - at) b q) r
+put-lent w at r b q e h g = record { behind = e; holds = put-is {r = putEnd w at b} (omega arith) (refl, part-in w at b q g) .holds }
 
-  each-one : (x : A) → each f (x ∷ []) ≡ f x
-  unfolding each
-  each-one x = append-nil (f x)
+-- bytes at the front, and a number of 8 bytes behind them
+pub put-number : (w : List ℕ) (v : ℕ) (o : List ℕ) {b e : List ℕ} {k r : ℕ} → length w + 8 ≤ length o
+    → (k ≡ putEnd w 0 o) × (b ≡ putIn w 0 o) → (r ≡ putEnd (little 8 v) k b) × (e ≡ putIn (little 8 v) k b)
+    → e ≡ putFront (w ++ little 8 v) o
+put-number w v o {b} {e} {k} {r} h p q =
+    let n : length (w ++ little 8 v) ≡ length w + 8 = rw (length-append, little-length) in
+    let d = due-put w (little 8 v) (due-all {rest = w ++ little 8 v} {at = 0} {start = o} refl (omega arith)) p in
+    put-front (w ++ little 8 v) o e (omega arith) (d .done e r (put-is (d .room) q))
 
-  -- records of 12 bytes
-  module _ (twelve : (x : A) → length (f x) ≡ 12) where
-    pub each-length : (xs : List A) → length (each f xs) ≡ 12 * length xs
-    unfolding each
-    each-length [] = refl
-    each-length (x ∷ xs) = simp (length-append, twelve, each-length xs) (omega arith)
+-- elements of k bytes each, put one behind the other into parts that were lent
+module _ {A : Type 0} {f : A → List ℕ} {k : ℕ} {l : List A} {o : List ℕ} {i : ℕ} {b : List ℕ} (run : Run f k l 0 o i b (k * i)) where
+  pub run-lent : {x : A} {q : List ℕ} (z : A) → ((y : A) → length (f y) ≡ k) → i < length l → getD l i z ≡ x → k * (i + 1) ≤ length b
+      → q ≡ putFront (f x) (partFrom (k * i) b) → Run f k l 0 o (i + 1) (putMid (k * i) (length b - k * i) b q) (k * (i + 1))
+  run-lent {x} {q} z long h v room g =
+      let e : k * (i + 1) ≡ k * i + k = rw add-one (mul-suc k i) in
+      let p = put-lent (f x) (k * i) (k * (i + 1)) b q (omega (arith, long x)) room g in
+      run-more f k l z h (omega arith) run (put-kept p (omega (arith, long x))) (long (getD l i z)) (rw v p)
 
-    -- one record more
-    pub each-put : (xs : List A) (k : ℕ) (d : A) (o b p : List ℕ) → k < length xs → b ≡ each f (take k xs) ++ drop (12 * k) o
-        → p ≡ f (getD xs k d) ++ drop 12 (partFrom (12 * k) b)
-        → putMid (12 * k) (length b - 12 * k) b p ≡ each f (take (k + 1) xs) ++ drop (12 * (k + 1)) o
-    each-put xs k d o b p h e g =
-        let n : length (each f (take k xs)) ≡ 12 * k = each-length (take k xs) ∙ ap (λ i. 12 * i) (length-take-le k xs (omega arith)) in
-        let m : 12 * (k + 1) ≡ 12 * k + 12 = omega arith in
-        put-behind (each f (take k xs)) (f (getD xs k d)) (12 * k) 12 o b p n e g
-        ∙ rw (m, add-one, take-suc xs k d, each-append, each-one)
+  pub run-front : (n : ℕ) → length l ≡ n → i ≡ n → k * n ≤ length o → b ≡ putFront (each f l) o
+  run-front n h e room = let a = run-all f k l n h e run in put-front (each f l) o b (omega (arith, a .1)) (a .0)
 
-pub module-length : (m : PlacedModule) → length (moduleBytes m) ≡ 12
+pub module-length : (m : PlacedModule) → length (moduleBytes m) ≡ moduleStride
 unfolding moduleBytes little
 module-length m = refl
 
-pub bus-length : (b : Bus) → length (busBytes b) ≡ 12
+pub bus-length : (b : Bus) → length (busBytes b) ≡ busStride
 unfolding busBytes little
 bus-length b = refl
 
-pub trailer-length : (p : BusPlan) → length (trailerBytes p) ≡ 16
+pub trailer-length : (p : BusPlan) → length (trailerBytes p) ≡ trailerLength
 unfolding trailerBytes little
 trailer-length p = refl
 
--- the records of a plan whose counts are within its places
-module _ (p : BusPlan) (buses : p .«bus_count» ≤ length (p .buses)) (modules : p .«module_count» ≤ length (p .modules)) where
-  pub modules-length : length (each moduleBytes (modulesOf p)) ≡ 12 * p .«module_count»
-  modules-length =
-      each-length moduleBytes module-length (modulesOf p) ∙ ap (λ i. 12 * i) (length-take-le (p .«module_count») (p .modules) modules)
+-- a record whose counts keep its places
+module _ (p : BusPlan) (w : Whole p) (s : SmallTrailer p) where
+  pub modules-count : length (modulesOf p) ≡ p .«module_count»
+  modules-count = length-take-le (p .«module_count») (p .modules) (omega arith)
 
-  pub buses-length : length (each busBytes (busesOf p)) ≡ 12 * p .«bus_count»
-  buses-length = each-length busBytes bus-length (busesOf p) ∙ ap (λ i. 12 * i) (length-take-le (p .«bus_count») (p .buses) buses)
+  pub buses-count : length (busesOf p) ≡ p .«bus_count»
+  buses-count = length-take-le (p .«bus_count») (p .buses) (omega arith)
 
-  pub file-length : length (fileBytes p) ≡ 12 * p .«module_count» + 12 * p .«bus_count» + 16
+  pub modules-length : length (each moduleBytes (modulesOf p)) ≡ moduleStride * p .«module_count»
+  modules-length = each-length moduleBytes moduleStride (modulesOf p) (p .«module_count») noPlaced modules-count (λ i h. module-length _)
+
+  pub buses-length : length (each busBytes (busesOf p)) ≡ busStride * p .«bus_count»
+  buses-length = each-length busBytes busStride (busesOf p) (p .«bus_count») noBus buses-count (λ i h. bus-length _)
+
+  small-length : length (fileBytes p) ≡ fileLength (p .«module_count») (p .«bus_count»)
   unfolding fileBytes
-  file-length = simp (length-append, modules-length, buses-length, trailer-length) (omega arith)
+  small-length = simp (length-append, modules-length, buses-length, trailer-length)
 
   -- a file put by its three parts, each behind those before it
-  pub file-put : (o b1 q r : List ℕ) → b1 ≡ each moduleBytes (modulesOf p) ++ drop (12 * p .«module_count») o
-      → q ≡ each busBytes (busesOf p) ++ drop (12 * p .«bus_count») (partFrom (12 * p .«module_count») b1)
-      → let at = 12 * p .«module_count» + 12 * p .«bus_count» in
-      let b2 = putMid (12 * p .«module_count») (length b1 - 12 * p .«module_count») b1 q in
-      r ≡ trailerBytes p ++ drop 16 (partFrom at b2) → putMid at (length b2 - at) b2 r ≡ fileBytes p ++ drop (length (fileBytes p)) o
+  pub file-put : (o b q r : List ℕ) → fileLength (p .«module_count») (p .«bus_count») ≤ length o
+      → b ≡ putFront (each moduleBytes (modulesOf p)) o
+      → let m = moduleStride * p .«module_count» in
+      let n = m + busStride * p .«bus_count» in
+      let c = putMid m (length b - m) b q in
+      q ≡ putFront (each busBytes (busesOf p)) (partFrom m b) → r ≡ putFront (trailerBytes p) (partFrom n c)
+      → putMid n (length c - n) c r ≡ putFront (fileBytes p) o
   unfolding fileBytes
-  file-put o b1 q r e f g =
+  file-put o b q r h e f g =
       let ms = each moduleBytes (modulesOf p) in
       let bs = each busBytes (busesOf p) in
-      let m = 12 * p .«module_count» in
-      let n = 12 * p .«bus_count» in
-      let b2 = putMid m (length b1 - m) b1 q in
-      let l : length (ms ++ bs) ≡ m + n = simp (length-append, modules-length, buses-length) in
-      put-behind (ms ++ bs) (trailerBytes p) (m + n) 16 o b2 r l (put-behind ms bs m n o b1 q modules-length e f) g
-      ∙ ap (λ k. fileBytes p ++ drop k o) (sym file-length)
+      let t = trailerBytes p in
+      let m = moduleStride * p .«module_count» in
+      let n = m + busStride * p .«bus_count» in
+      let ml = modules-length in
+      let bl = buses-length in
+      let tl = trailer-length p in
+      let l = small-length in
+      let d0 = due-all {rest = ms ++ (bs ++ t)} {w = fileBytes p} {at = 0} {start = o} (append-assoc ms bs t) (omega arith) in
+      let d1 = due-next ms (bs ++ t) d0 (front-put ms o b m (omega arith) (omega arith) e) in
+      let d2 = due-next bs t d1 (put-lent bs m n b q (omega arith) (omega (arith, due-room bs t d1)) f) in
+      let c = putMid m (length b - m) b q in
+      let last = put-lent t n (n + trailerLength) c r (omega arith) (omega (arith, d2 .room)) g in
+      put-front (fileBytes p) o _ (omega arith) (d2 .done _ _ last)
 
 -- what is asked of a plan that is written holds of a good one
 pub good-small : (p : BusPlan) → goodPlan p ≡ true → Small p
@@ -152,32 +132,31 @@ good-small p e =
     let g = good-figures p e in
     record {
       trailer = record { wires = omega arith; limit = omega arith; buses = g .buses-high; modules = g .modules-high };
-      number = λ i h. omega (arith, g .number i h);
-      bus = λ i h. omega (arith, g .bus i h);
-      module-wires = λ i h. omega (arith, g .wires i h);
+      placed =
+          λ i h. record { number = omega (arith, g .number i h); bus = omega (arith, g .bus i h); wires = omega (arith, g .wires i h) };
       width = λ b h. omega (arith, g .width b h);
     }
 
--- a good plan in a record, whose arrays have 3 and 12 places
-module _ (p : BusPlan) (buses : length (p .buses) ≡ 3) (modules : length (p .modules) ≡ 12) (good : goodPlan p ≡ true) where
-  pub good-length : length (fileBytes p) ≡ 12 * p .«module_count» + 12 * p .«bus_count» + 16
-  good-length = let g = good-figures p good in file-length p (omega arith) (omega arith)
+-- the file of a good plan
+module _ (p : BusPlan) (w : Whole p) (good : goodPlan p ≡ true) where
+  pub file-length : length (fileBytes p) ≡ fileLength (p .«module_count») (p .«bus_count»)
+  file-length = small-length p w (good-small p good .trailer)
 
-  pub file-most : length (fileBytes p) ≤ 196
-  file-most = let g = good-figures p good in omega (arith, good-length)
+  pub file-most : length (fileBytes p) ≤ fileMax
+  file-most = let g = good-small p good .trailer in omega (arith, file-length)
 
 -- what the writer answers, and what it leaves
 module _ (p : BusPlan) (buf : List ℕ) where
-  pub write-bad : goodPlan p ≡ false → (refusedFile 12 ≡ writeAnswer p buf) × (buf ≡ writeLeaves p buf)
+  pub write-bad : goodPlan p ≡ false → (refusedWrite 12 ≡ writeAnswer p buf) × (buf ≡ writeLeaves p buf)
   unfolding writeAnswer writeLeaves
   write-bad e = (rw e, rw e)
 
-  pub write-short : goodPlan p ≡ true → length buf < length (fileBytes p) → (refusedFile 11 ≡ writeAnswer p buf) × (buf ≡ writeLeaves p buf)
-  unfolding writeAnswer writeLeaves
-  write-short e h = let l = lt-leb (length (fileBytes p)) (length buf) h in (rw (e, l), rw (e, l))
+  module _ (e : goodPlan p ≡ true) where
+    pub write-short : length buf < length (fileBytes p) → (refusedWrite 11 ≡ writeAnswer p buf) × (buf ≡ writeLeaves p buf)
+    unfolding writeAnswer writeLeaves
+    write-short h = let l = lt-leb (length (fileBytes p)) (length buf) h in (rw (e, l), rw (e, l))
 
-  pub write-whole : goodPlan p ≡ true → length (fileBytes p) ≤ length buf
-      → (record { refusal = accepted; len = length (fileBytes p) } ≡ writeAnswer p buf)
-      × (fileBytes p ++ drop (length (fileBytes p)) buf ≡ writeLeaves p buf)
-  unfolding writeAnswer writeLeaves
-  write-whole e h = let l = le-leb (length (fileBytes p)) (length buf) h in (rw (e, l), rw (e, l))
+    pub write-whole : length (fileBytes p) ≤ length buf
+        → (record { refusal = accepted; len = length (fileBytes p) } ≡ writeAnswer p buf) × (putFront (fileBytes p) buf ≡ writeLeaves p buf)
+    unfolding writeAnswer writeLeaves
+    write-whole h = let l = le-leb (length (fileBytes p)) (length buf) h in (rw (e, l), rw e)

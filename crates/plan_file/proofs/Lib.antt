@@ -1,3 +1,5 @@
-pub mod BackLaws
 pub mod FileLaws
 pub mod ReadLaws
+pub mod SpareLaws
+pub mod BytesBack
+pub mod FileBack

@@ -1,16 +1,31 @@
--- The bytes of a plan file (document 01, "The plan file"): "Little-endian, 12-byte records."
-use Prim.Native.Nat.{ℕ, zero, suc, _+_, _*_, _/_, _%_}
-use mathlib.Core.List.{List, [], _∷_, _++_}
-use lib.ListN.{length}
+-- The bytes of a plan file (document 01, "The plan file").
+use Prim.Native.Nat.{ℕ, _+_, _*_}
+use mathlib.Core.List.{List, _∷_, _++_}
+use Rattle.buffer.specs.Little.{little}
+use Rattle.buffer.specs.Rows.{each}
 use Rattle.plan_record.specs.declared.record.Bus.{Bus}
 use Rattle.plan_record.specs.declared.record.PlacedModule.{PlacedModule}
 use Rattle.plan_record.specs.declared.record.BusPlan.{BusPlan}
-use Rattle.plan_record.specs.Record.{busesOf, modulesOf}
+use Rattle.plan_record.specs.Record.{busPlaces, modulePlaces, busesOf, modulesOf}
 
--- v in n bytes, the lowest first
-unfoldable pub little : ℕ → ℕ → List ℕ
-little zero v = []
-little (suc n) v = v % 256 ∷ little n (v / 256)
+-- "Little-endian, 12-byte records."
+abbrev pub moduleStride : ℕ
+moduleStride = 12
+
+abbrev pub busStride : ℕ
+busStride = 12
+
+-- "the trailer, the last 16 bytes"
+abbrev pub trailerLength : ℕ
+trailerLength = 16
+
+-- how long the file of so many modules and buses is: the length that "fits exactly"
+abbrev pub fileLength : ℕ → ℕ → ℕ
+fileLength modules buses = moduleStride * modules + busStride * buses + trailerLength
+
+-- "At most 196 bytes."
+abbrev pub fileMax : ℕ
+fileMax = moduleStride * modulePlaces + busStride * busPlaces + trailerLength
 
 -- "number, bus, wires, zero (a byte each), cycles (8 bytes)"
 unfoldable pub moduleBytes : PlacedModule → List ℕ
@@ -24,13 +39,8 @@ busBytes b = b .width .0 ∷ 0 ∷ 0 ∷ 0 ∷ little 8 (b .busy .0)
 unfoldable pub trailerBytes : BusPlan → List ℕ
 trailerBytes p =
     little 2 0
-    ++ little 2 (12 * p .«module_count»)
+    ++ little 2 (moduleStride * p .«module_count»)
     ++ p .wires .0 ∷ p .limit ∷ p .«bus_count» ∷ p .«module_count» ∷ little 8 (p .time .0)
-
--- one behind the other
-unfoldable pub each : {A : Type 0} → (A → List ℕ) → List A → List ℕ
-each f [] = []
-each f (x ∷ xs) = f x ++ each f xs
 
 -- "Per planned module, ascending .. Then per bus .. Then the trailer, the last 16 bytes"
 unfoldable pub fileBytes : BusPlan → List ℕ

@@ -2,43 +2,34 @@
 use super::put::put_bus;
 use super::put::put_module;
 use super::put::put_trailer;
+use super::strides::BUS_STRIDE;
+use super::strides::MODULE_STRIDE;
+use super::strides::TRAILER;
+use buffer::Written;
+use buffer::refused_write;
 use plan_record::BusPlan;
 use plan_record::is_good_plan;
 use units::Refusal;
 ghost use mathlib.Core.Path.{_≡_};
-ghost use mathlib.Core.List.{_++_};
-ghost use Prim.Native.Nat.{_+_, _*_, _≤_};
-ghost use lib.ListN.{length, drop, take};
+ghost use Prim.Native.Nat.{_*_, _≤_};
+ghost use lib.ListN.{length};
+ghost use Rattle.buffer.specs.Puts.{putFront};
+ghost use Rattle.buffer.specs.Rows.{each};
 ghost use Rattle.plan_record.specs.Record.{busesOf, modulesOf};
-ghost use Rattle.plan_file.specs.Bytes.{moduleBytes, busBytes, each, fileBytes};
+ghost use Rattle.plan_file.specs.Bytes.{moduleStride, busStride, fileLength, moduleBytes, busBytes, fileBytes};
 ghost use Rattle.plan_file.specs.Puts.{Small};
-ghost use Rattle.plan_file.specs.Files.{refusedFile, writeAnswer, writeLeaves};
-
-// How many bytes were written; or the refusal.
-pub struct FileWritten {
-    pub refusal: Refusal,
-    pub len: usize,
-}
-
-fn refused_file(n: u8) -> FileWritten
-    ensures { λ r. ⌜ r ≡ refusedFile n ⌝ }
-{
-    FileWritten {
-        refusal: Refusal::at(n, 0),
-        len: 0,
-    }
-}
+ghost use Rattle.plan_file.specs.Files.{writeAnswer, writeLeaves};
 
 // The records of the modules, ascending: each writer gets the part that starts at its offset.
 fn put_modules(b: &mut [u8], p: BusPlan)
-    requires { ⌜ Small p × (12 * p .«module_count» ≤ length (now b)) ⌝ }
-    ensures { λ _. ⌜ now (b .exit) ≡ each moduleBytes (modulesOf p) ++ drop (12 * p .«module_count») (now (b .entry)) ⌝ }
+    requires { ⌜ Small p × (moduleStride * p .«module_count» ≤ length (now b)) ⌝ }
+    ensures { λ _. ⌜ now (b .exit) ≡ putFront (each moduleBytes (modulesOf p)) (now (b .entry)) ⌝ }
 {
     let n = p.module_count;
     let mut i: usize = 0;
     while i < n {
         let m = p.modules[i];
-        let at = 12 * i;
+        let at = MODULE_STRIDE * i;
         put_module(&mut b[at..], m);
         i += 1;
     }
@@ -46,14 +37,14 @@ fn put_modules(b: &mut [u8], p: BusPlan)
 
 // The records of the buses.
 fn put_buses(b: &mut [u8], p: BusPlan)
-    requires { ⌜ Small p × (12 * p .«bus_count» ≤ length (now b)) ⌝ }
-    ensures { λ _. ⌜ now (b .exit) ≡ each busBytes (busesOf p) ++ drop (12 * p .«bus_count») (now (b .entry)) ⌝ }
+    requires { ⌜ Small p × (busStride * p .«bus_count» ≤ length (now b)) ⌝ }
+    ensures { λ _. ⌜ now (b .exit) ≡ putFront (each busBytes (busesOf p)) (now (b .entry)) ⌝ }
 {
     let n = p.bus_count;
     let mut i: usize = 0;
     while i < n {
         let x = p.buses[i];
-        let at = 12 * i;
+        let at = BUS_STRIDE * i;
         put_bus(&mut b[at..], x);
         i += 1;
     }
@@ -61,28 +52,28 @@ fn put_buses(b: &mut [u8], p: BusPlan)
 
 // The trailer is written last, at the end of the part used.
 fn put_file(b: &mut [u8], p: BusPlan)
-    requires { ⌜ Small p × (12 * p .«module_count» + 12 * p .«bus_count» + 16 ≤ length (now b)) ⌝ }
-    ensures { λ _. ⌜ now (b .exit) ≡ fileBytes p ++ drop (length (fileBytes p)) (now (b .entry)) ⌝ }
+    requires { ⌜ Small p × (fileLength (p .«module_count») (p .«bus_count») ≤ length (now b)) ⌝ }
+    ensures { λ _. ⌜ now (b .exit) ≡ putFront (fileBytes p) (now (b .entry)) ⌝ }
 {
-    let buses = 12 * p.module_count;
-    let trailer = buses + 12 * p.bus_count;
+    let buses = MODULE_STRIDE * p.module_count;
+    let trailer = buses + BUS_STRIDE * p.bus_count;
     put_modules(&mut *b, p);
     put_buses(&mut b[buses..], p);
     put_trailer(&mut b[trailer..], p);
 }
 
-pub fn write_plan(p: BusPlan, buf: &mut [u8]) -> FileWritten
+pub fn write_plan(p: BusPlan, buf: &mut [u8]) -> Written
     ensures { λ r. ⌜ (r ≡ writeAnswer p (now (buf .entry))) × (now (buf .exit) ≡ writeLeaves p (now (buf .entry))) ⌝ }
 {
     if !is_good_plan(p) {
-        return refused_file(12);
+        return refused_write(12);
     }
-    let n = 12 * p.module_count + 12 * p.bus_count + 16;
+    let n = MODULE_STRIDE * p.module_count + BUS_STRIDE * p.bus_count + TRAILER;
     if buf.len() < n {
-        return refused_file(11);
+        return refused_write(11);
     }
     put_file(&mut *buf, p);
-    FileWritten {
+    Written {
         refusal: Refusal::none(),
         len: n,
     }

@@ -1,125 +1,70 @@
--- `plan_file::put::put_trailer` meets its contract. The offsets and the figures are stored at the front, and the time is put into the part behind them. Assumes nothing.
-use Prim.Native.Nat.{ℕ, _-_, _*_, _/_, _%_}
-use mathlib.Core.Path.{_∙_}
-use mathlib.Core.List.{List, [], _∷_}
-use native.Mathlib.Omega.{arith}
+-- `plan_file::put::put_trailer` meets its contract: the offsets and the figures at the front, and the time behind them. Assumes nothing.
+use Prim.Native.Nat.{ℕ, _*_, _/_, _%_}
 use borrow.Author.Needs.{needs}
-use borrow.Rule.Slice.PartMut.{same-len-mid}
-use lib.ListN.{length, length-set}
-use Rattle.plan_file.specs.Bytes.{little, trailerBytes}
-use Rattle.plan_file.proofs.FileLaws.{stored, stored-length, part-room, stored-then}
+use mathlib.Core.List.{List, [], _∷_}
+use Rattle.buffer.specs.Little.{little}
+use Rattle.plan_file.specs.Bytes.{moduleStride, trailerBytes}
+use Rattle.plan_file.proofs.FileLaws.{put-number}
 use Rattle.plan_file.proofs.put.put_trailer.Statement.{statement}
 use Rattle.plan_file.proofs.put.put_trailer.Tie as tie
 
--- what is stored at the front
-abbrev front : tie.Start → List ℕ
-front s =
-    0
-    ∷ 0
-    ∷ 12 * s .args .p .«module_count» % 256
-    ∷ 12 * s .args .p .«module_count» / 256 % 256
-    ∷ s .args .p .wires .0
-    ∷ s .args .p .limit
-    ∷ s .args .p .«bus_count»
-    ∷ s .args .p .«module_count»
-    ∷ []
+mul-buses : tie.Need-mul-buses
+mul-buses c = search needs
 
-mul-at : tie.Need-mul-at
-mul-at c = search needs
+cast-t7 : tie.Need-cast-t7
+cast-t7 c = search needs
 
-slice-write-b : tie.Need-slice-write-b
-slice-write-b c = search needs
+cast-t10 : tie.Need-cast-t10
+cast-t10 c = search needs
 
-slice-write-b-2 : tie.Need-slice-write-b-2
-slice-write-b-2 c = simp length-set (omega arith)
+cast-t11 : tie.Need-cast-t11
+cast-t11 c = search needs
 
-cast-b : tie.Need-cast-b
-cast-b c = search needs
+cast-t12 : tie.Need-cast-t12
+cast-t12 c = search needs
 
-slice-write-b-3 : tie.Need-slice-write-b-3
-slice-write-b-3 c = simp length-set (omega arith)
+cast-t13 : tie.Need-cast-t13
+cast-t13 c = search needs
 
-cast-b-2 : tie.Need-cast-b-2
-cast-b-2 c = search needs
+cast-t14 : tie.Need-cast-t14
+cast-t14 c = search needs
 
-slice-write-b-4 : tie.Need-slice-write-b-4
-slice-write-b-4 c = simp length-set (omega arith)
+slice-aggregate-put-bytes : tie.Need-slice-aggregate-put-bytes
+slice-aggregate-put-bytes c = search needs
 
-cast-b-3 : tie.Need-cast-b-3
-cast-b-3 c = search needs
-
-slice-write-b-5 : tie.Need-slice-write-b-5
-slice-write-b-5 c = simp length-set (omega arith)
-
-cast-b-4 : tie.Need-cast-b-4
-cast-b-4 c = search needs
-
-slice-write-b-6 : tie.Need-slice-write-b-6
-slice-write-b-6 c = simp length-set (omega arith)
-
-cast-b-5 : tie.Need-cast-b-5
-cast-b-5 c = search needs
-
-slice-write-b-7 : tie.Need-slice-write-b-7
-slice-write-b-7 c = simp length-set (omega arith)
-
-cast-b-6 : tie.Need-cast-b-6
-cast-b-6 c = search needs
-
-slice-write-b-8 : tie.Need-slice-write-b-8
-slice-write-b-8 c = simp length-set (omega arith)
-
-sub-put-u64 : tie.Need-sub-put-u64
-sub-put-u64 c = simp length-set (omega arith)
-
-part-put-u64-start : tie.Need-part-put-u64-start
-part-put-u64-start c = simp length-set (omega arith)
-
-part-put-u64-end : tie.Need-part-put-u64-end
-part-put-u64-end c = search needs
+put-bytes-requires : tie.Need-put-bytes-requires
+put-bytes-requires c κs = search needs
 
 put-u64-requires : tie.Need-put-u64-requires
-unfolding stored
-put-u64-requires c κs =
-    let s = c .before .before .before .before .before .before .before in
-    part-room 8 8 (stored 0 (front s) (s .args .b .now)) (simp stored-length (omega arith))
+put-u64-requires c κs = search needs
 
 same-length : tie.Need-same-length
-unfolding stored
-same-length c =
-    let s = c .before .before .before .before .before .before .before .before .before .before in
-    let w = stored 0 (front s) (s .args .b .now) in
-    same-len-mid 8 (length w - 8) w (c .before .before .put-u64 .last .0) (c .before .before .put-u64 .kept .0)
-    ∙ stored-length (front s) 0 (s .args .b .now)
+same-length c = search needs
 
 returns : tie.Need-returns
-unfolding stored trailerBytes little
+unfolding trailerBytes little
 returns c =
-    let s = c .before .before .before .before .before .before .before .before .before .before in
-    stored-then (front s) (little 8 (s .args .p .time .0)) 8 (s .args .b .now) (c .before .before .put-u64 .last .0) (omega (arith, s .pre .0)) (c .before .before .put-u64 .ensures)
+    let n = c .before .before in
+    let a = n .before .before .before .before in
+    let s = a .before .before .before .before .before .before .before .before .before in
+    let p = s .args .p in
+    let o = moduleStride * p .«module_count» in
+    let w : List ℕ = 0 ∷ 0 ∷ o % 256 ∷ o / 256 % 256 ∷ p .wires .0 ∷ p .limit ∷ p .«bus_count» ∷ p .«module_count» ∷ [] in
+    put-number w (p .time .0) (s .args .b .now) (s .pre .0) (a .put-bytes .ensures) (n .put-u64 .ensures)
 
 pub put-trailer-spec : {M : Type 1} → statement M
 put-trailer-spec =
     tie.close
     (tie.spec
-    mul-at
-    slice-write-b
-    slice-write-b-2
-    cast-b
-    slice-write-b-3
-    cast-b-2
-    slice-write-b-4
-    cast-b-3
-    slice-write-b-5
-    cast-b-4
-    slice-write-b-6
-    cast-b-5
-    slice-write-b-7
-    cast-b-6
-    slice-write-b-8
-    sub-put-u64
-    part-put-u64-start
-    part-put-u64-end
+    mul-buses
+    cast-t7
+    cast-t10
+    cast-t11
+    cast-t12
+    cast-t13
+    cast-t14
+    slice-aggregate-put-bytes
+    put-bytes-requires
     put-u64-requires
     same-length
     returns)

@@ -4,21 +4,35 @@ use borrow.Author.Needs.{needs}
 use native.Mathlib.Omega.{arith}
 use Prim.Native.Nat.{_+_, _-_, _*_, _≤_}
 use mathlib.Core.Path.{_≡_, sym, _∙_}
-use Rattle.plan_file.specs.Files.{zeroBuses}
-use Rattle.plan_file.proofs.ReadLaws.{zero-buses-step, zero-buses-fails, zero-buses-end}
+use mathlib.Core.Bool.{false}
 use borrow.Author.Tests.{eq-eqb, ne-eqb}
-use Rattle.units.proofs.TestLaws.{and-stops, and-goes}
+use Rattle.units.proofs.TestLaws.{and-stops, and-goes, and-holds}
+use Rattle.buffer.proofs.RowLaws.{all-rows-step, all-rows-fails, all-rows-end}
+use Rattle.plan_file.specs.Bytes.{busStride}
+use Rattle.plan_file.specs.Files.{zeroBus, zeroBuses}
 use Rattle.plan_file.proofs.read.are_zero_buses.Statement.{statement}
 use Rattle.plan_file.proofs.read.are_zero_buses.Tie as tie
 
 abbrev Inv-loop : tie.InvT-loop
-Inv-loop f from n i₀ i = (i ≤ n) × (zeroBuses f n from ≡ zeroBuses f (n - i) (from + 12 * i))
+Inv-loop f from n i₀ i = (i ≤ n) × (zeroBuses f n from ≡ zeroBuses f (n - i) (from + busStride * i))
 
 abbrev μ-loop : tie.MeasureT-loop
 μ-loop f from n i₀ i = n - i
 
 loop-holds : tie.Need-loop-holds Inv-loop μ-loop
-loop-holds c = (omega arith, let e : c .args .n - 0 ≡ c .args .n = omega arith in let a : c .args .from + 0 ≡ c .args .from = omega arith in rw (e, a))
+loop-holds c =
+    let e : c .args .n - 0 ≡ c .args .n = omega arith in
+    let a : c .args .from + 0 ≡ c .args .from = omega arith in
+    (omega arith, rw (e, a))
+
+-- the record at the loop's place fails
+fails : (c : tie.In-loop Inv-loop μ-loop) →
+    let a = c .before .before .args in
+    zeroBus (a .f .now) (a .from + busStride * c .before .loop .i) ≡ false → false ≡ zeroBuses (a .f .now) (a .n) (a .from)
+fails c t =
+    let l = c .before in
+    let a = l .before .args in
+    sym (l .loop .inv .1 ∙ all-rows-fails (zeroBus (a .f .now)) busStride (a .n) (l .loop .i) (a .from) (omega arith) t)
 
 mul-at : tie.Need-mul-at Inv-loop μ-loop
 mul-at c = search needs
@@ -33,10 +47,8 @@ shared-slice-read-if1 : tie.Need-shared-slice-read-if1 Inv-loop μ-loop
 shared-slice-read-if1 c = search needs
 
 returns : tie.Need-returns Inv-loop μ-loop
-returns c =
-    let l = c .before .before .before in
-    let s = l .before in
-    sym (l .loop .inv .1 ∙ zero-buses-fails (s .args .f .now) (s .args .from) (s .args .n) (l .loop .i) (omega arith) (and-stops _ _ (ne-eqb _ _ (c .if1 .taken))))
+unfolding zeroBus
+returns c = fails (c .before .before) (and-stops _ _ (ne-eqb _ _ (c .if1 .taken)))
 
 add-if2 : tie.Need-add-if2 Inv-loop μ-loop
 add-if2 c = search needs
@@ -45,10 +57,10 @@ shared-slice-read-if2 : tie.Need-shared-slice-read-if2 Inv-loop μ-loop
 shared-slice-read-if2 c = search needs
 
 returns-2 : tie.Need-returns-2 Inv-loop μ-loop
+unfolding zeroBus
 returns-2 c =
-    let l = c .before .before .before .before .before in
-    let s = l .before in
-    sym (l .loop .inv .1 ∙ zero-buses-fails (s .args .f .now) (s .args .from) (s .args .n) (l .loop .i) (omega arith) (and-goes _ _ (eq-eqb _ _ (c .before .before .if1 .left)) ∙ and-stops _ _ (ne-eqb _ _ (c .if2 .taken))))
+    let e = c .before .before in
+    fails (e .before .before) (and-goes _ _ (eq-eqb _ _ (e .if1 .left)) ∙ and-stops _ _ (ne-eqb _ _ (c .if2 .taken)))
 
 add-if3 : tie.Need-add-if3 Inv-loop μ-loop
 add-if3 c = search needs
@@ -57,10 +69,12 @@ shared-slice-read-if3 : tie.Need-shared-slice-read-if3 Inv-loop μ-loop
 shared-slice-read-if3 c = search needs
 
 returns-3 : tie.Need-returns-3 Inv-loop μ-loop
+unfolding zeroBus
 returns-3 c =
-    let l = c .before .before .before .before .before .before .before in
-    let s = l .before in
-    sym (l .loop .inv .1 ∙ zero-buses-fails (s .args .f .now) (s .args .from) (s .args .n) (l .loop .i) (omega arith) (and-goes _ _ (eq-eqb _ _ (c .before .before .before .before .if1 .left)) ∙ and-goes _ _ (eq-eqb _ _ (c .before .before .if2 .left)) ∙ ne-eqb _ _ (c .if3 .taken)))
+    let d = c .before .before in
+    let e = d .before .before in
+    fails (e .before .before)
+    (and-goes _ _ (eq-eqb _ _ (e .if1 .left)) ∙ and-goes _ _ (eq-eqb _ _ (d .if2 .left)) ∙ ne-eqb _ _ (c .if3 .taken))
 
 add-i : tie.Need-add-i Inv-loop μ-loop
 add-i c = search needs
@@ -69,15 +83,19 @@ loop-less : tie.Need-loop-less Inv-loop μ-loop
 loop-less c = search needs
 
 loop-again : tie.Need-loop-again Inv-loop μ-loop
+unfolding zeroBus
 loop-again c =
-    let l = c .before .before .before .before .before .before .before in
-    let s = l .before in
-    (omega arith, l .loop .inv .1 ∙ zero-buses-step (s .args .f .now) (s .args .from) (s .args .n) (l .loop .i) (omega arith) (c .before .before .before .before .if1 .left) (c .before .before .if2 .left) (c .if3 .left))
+    let d = c .before .before in
+    let e = d .before .before in
+    let l = e .before .before .before in
+    let a = l .before .args in
+    let t = and-holds (eq-eqb _ _ (e .if1 .left)) (and-holds (eq-eqb _ _ (d .if2 .left)) (eq-eqb _ _ (c .if3 .left))) in
+    (omega arith, l .loop .inv .1 ∙ all-rows-step (zeroBus (a .f .now)) busStride (a .n) (l .loop .i) (a .from) (omega arith) t)
 
 returns-4 : tie.Need-returns-4 Inv-loop μ-loop
 returns-4 c =
     let s = c .before .before in
-    sym (c .before .loop .inv .1 ∙ zero-buses-end (s .args .f .now) (s .args .n) (c .before .loop .i) _ (omega arith))
+    sym (c .before .loop .inv .1 ∙ all-rows-end (zeroBus (s .args .f .now)) busStride (s .args .n) (c .before .loop .i) _ (omega arith))
 
 pub are-zero-buses-spec : {M : Type 1} → statement M
 are-zero-buses-spec =

@@ -2,17 +2,19 @@
 -- behind them. The measure is what is left of the records. Assumes nothing.
 use borrow.Author.Needs.{needs}
 use native.Mathlib.Omega.{arith}
-use Prim.Native.Nat.{_+_, _-_, _*_, _≤_}
+use Prim.Native.Nat.{_-_, _≤_}
 use mathlib.Core.Path.{_≡_, _∙_}
 use Rattle.units.specs.Places.{padded}
+use Rattle.buffer.specs.Rows.{rows}
+use Rattle.buffer.proofs.RowLaws.{filled-none, filled-step}
 use Rattle.plan_record.specs.Record.{busPlaces, noBus}
-use Rattle.plan_file.specs.Files.{busAt, records}
-use Rattle.plan_file.proofs.ReadLaws.{filled-none, filled-step}
+use Rattle.plan_file.specs.Bytes.{busStride}
+use Rattle.plan_file.specs.Files.{busAt}
 use Rattle.plan_file.proofs.read.buses_in.Statement.{statement}
 use Rattle.plan_file.proofs.read.buses_in.Tie as tie
 
 abbrev Inv-loop : tie.InvT-loop
-Inv-loop f from n list₀ i₀ list i = (i ≤ n) × (list ≡ padded busPlaces noBus (records (busAt f) i from))
+Inv-loop f from n list₀ i₀ list i = (i ≤ n) × (list ≡ padded busPlaces noBus (rows (busAt f) busStride i from))
 
 abbrev μ-loop : tie.MeasureT-loop
 μ-loop f from n list₀ i₀ list i = n - i
@@ -21,7 +23,9 @@ no-bus-requires : tie.Need-no-bus-requires Inv-loop μ-loop
 no-bus-requires c κs = search needs
 
 loop-holds : tie.Need-loop-holds Inv-loop μ-loop
-loop-holds c = (omega arith, rw (c .no-bus .ensures) (filled-none busPlaces noBus (busAt (c .before .before .args .f .now)) (c .before .before .args .from)))
+loop-holds c =
+    let a = c .before .before .args in
+    (omega arith, rw (c .no-bus .ensures) (filled-none busPlaces noBus (busAt (a .f .now)) busStride (a .from)))
 
 mul-at : tie.Need-mul-at Inv-loop μ-loop
 mul-at c = search needs
@@ -29,17 +33,17 @@ mul-at c = search needs
 add-at : tie.Need-add-at Inv-loop μ-loop
 add-at c = search needs
 
-shared-slice-read-t11 : tie.Need-shared-slice-read-t11 Inv-loop μ-loop
-shared-slice-read-t11 c = search needs
+figure-at-requires : tie.Need-figure-at-requires Inv-loop μ-loop
+figure-at-requires c κs = search needs
 
-cast-t12 : tie.Need-cast-t12 Inv-loop μ-loop
-cast-t12 c = omega (arith, c .shared-slice-known2 .given (c .before .before .before .before .before .args .from + 12 * c .before .before .loop .i))
+cast-t10 : tie.Need-cast-t10 Inv-loop μ-loop
+cast-t10 c = search needs
 
-add-number-at : tie.Need-add-number-at Inv-loop μ-loop
-add-number-at c = search needs
+add-u64-at : tie.Need-add-u64-at Inv-loop μ-loop
+add-u64-at c = search needs
 
-number-at-requires : tie.Need-number-at-requires Inv-loop μ-loop
-number-at-requires c κs = search needs
+u64-at-requires : tie.Need-u64-at-requires Inv-loop μ-loop
+u64-at-requires c κs = search needs
 
 mul-list : tie.Need-mul-list Inv-loop μ-loop
 mul-list c = search needs
@@ -56,10 +60,9 @@ loop-less c = search needs
 loop-again : tie.Need-loop-again Inv-loop μ-loop
 loop-again c =
     let l = c .before .before .before in
-    let s = l .before .before .before in (
-      omega arith,
-      rw (l .loop .inv .1) (filled-step busPlaces noBus _ (busAt (s .args .f .now)) (l .loop .i) (s .args .from) (omega arith) (rw (c .number-at .ensures))),
-    )
+    let a = l .before .before .before .args in
+    let v = filled-step busPlaces noBus _ (busAt (a .f .now)) busStride (l .loop .i) (a .from) in
+    (omega arith, rw (l .loop .inv .1) (v (omega arith) (rw (c .before .figure-at .ensures .0, c .u64-at .ensures))))
 
 returns : tie.Need-returns Inv-loop μ-loop
 returns c =
@@ -78,10 +81,10 @@ buses-in-spec =
     loop-holds
     mul-at
     add-at
-    shared-slice-read-t11
-    cast-t12
-    add-number-at
-    number-at-requires
+    figure-at-requires
+    cast-t10
+    add-u64-at
+    u64-at-requires
     mul-list
     array-set-from-list
     add-i

@@ -1,10 +1,7 @@
 -- `plan_file::read::has_good_length` meets its contract: its tests are those of `goodLength`, in order. Assumes nothing.
 use borrow.Author.Needs.{needs}
-use native.Mathlib.Omega.{arith}
-use Prim.Native.Nat.{_+_, _-_}
-use mathlib.Core.Path.{sym, _∙_}
-use lib.ListN.{length}
 use borrow.Author.Tests.{lt-leb, le-leb}
+use mathlib.Core.Path.{sym, _∙_}
 use Rattle.units.proofs.TestLaws.{and-stops, and-goes}
 use Rattle.plan_file.specs.Files.{goodLength}
 use Rattle.plan_file.proofs.read.has_good_length.Statement.{statement}
@@ -17,39 +14,41 @@ returns c = sym (and-stops _ _ (lt-leb _ _ (c .if1 .taken)))
 sub-t : tie.Need-sub-t
 sub-t c = search needs
 
-add-modules : tie.Need-add-modules
-add-modules c = search needs
+add-figure-at : tie.Need-add-figure-at
+add-figure-at c = search needs
 
-shared-slice-read-modules : tie.Need-shared-slice-read-modules
-shared-slice-read-modules c = search needs
-
-cast-modules : tie.Need-cast-modules
-cast-modules c = omega (arith, c .shared-slice-known .given (length (c .before .before .args .f .now) - 16 + 7))
+figure-at-requires : tie.Need-figure-at-requires
+figure-at-requires c κs = search needs
 
 returns-2 : tie.Need-returns-2
 unfolding goodLength
-returns-2 c = sym (and-goes _ _ (le-leb _ _ (c .before .before .if1 .left)) ∙ and-stops _ _ (lt-leb _ _ (c .if2 .taken)))
+returns-2 c =
+    let m = c .before in
+    sym (and-goes _ _ (le-leb _ _ (m .before .if1 .left)) ∙ and-stops _ _ (lt-leb _ _ (rw (m .figure-at .ensures .0) at (c .if2 .taken))))
 
-add-buses : tie.Need-add-buses
-add-buses c = search needs
+add-figure-at-2 : tie.Need-add-figure-at-2
+add-figure-at-2 c = search needs
 
-shared-slice-read-buses : tie.Need-shared-slice-read-buses
-shared-slice-read-buses c = search needs
-
-cast-buses : tie.Need-cast-buses
-cast-buses c = omega (arith, c .shared-slice-known2 .given (length (c .before .before .before .before .args .f .now) - 16 + 6))
+figure-at-requires-2 : tie.Need-figure-at-requires-2
+figure-at-requires-2 c κs = search needs
 
 returns-3 : tie.Need-returns-3
 unfolding goodLength
 returns-3 c =
-    let e = c .before .before in
-    sym (and-goes _ _ (le-leb _ _ (e .before .before .if1 .left)) ∙ and-goes _ _ (le-leb _ _ (e .if2 .left)) ∙ and-stops _ _ (lt-leb _ _ (c .if3 .taken)))
-
-add-result : tie.Need-add-result
-add-result c = search needs
+    let b = c .before in
+    let e = b .before in
+    let m = e .before in
+    sym (and-goes _ _ (le-leb _ _ (m .before .if1 .left)) ∙ and-goes _ _ (le-leb _ _ (rw (m .figure-at .ensures .0) at (e .if2 .left)))
+    ∙ and-stops _ _ (lt-leb _ _ (rw (b .figure-at2 .ensures .0) at (c .if3 .taken))))
 
 mul-result : tie.Need-mul-result
 mul-result c = search needs
+
+mul-result-2 : tie.Need-mul-result-2
+mul-result-2 c = search needs
+
+add-result : tie.Need-add-result
+add-result c = search needs
 
 add-result-2 : tie.Need-add-result-2
 add-result-2 c = search needs
@@ -57,8 +56,12 @@ add-result-2 c = search needs
 returns-4 : tie.Need-returns-4
 unfolding goodLength
 returns-4 c =
-    let e = c .before .before in
-    sym (and-goes _ _ (le-leb _ _ (e .before .before .if1 .left)) ∙ and-goes _ _ (le-leb _ _ (e .if2 .left)) ∙ and-goes _ _ (le-leb _ _ (c .if3 .left)))
+    let b = c .before in
+    let e = b .before in
+    let m = e .before in
+    rw (m .figure-at .ensures .0, b .figure-at2 .ensures .0)
+    (sym (and-goes _ _ (le-leb _ _ (m .before .if1 .left)) ∙ and-goes _ _ (le-leb _ _ (rw (m .figure-at .ensures .0) at (e .if2 .left)))
+    ∙ and-goes _ _ (le-leb _ _ (rw (b .figure-at2 .ensures .0) at (c .if3 .left)))))
 
 pub has-good-length-spec : {M : Type 1} → statement M
 has-good-length-spec =
@@ -66,15 +69,14 @@ has-good-length-spec =
     (tie.spec
     returns
     sub-t
-    add-modules
-    shared-slice-read-modules
-    cast-modules
+    add-figure-at
+    figure-at-requires
     returns-2
-    add-buses
-    shared-slice-read-buses
-    cast-buses
+    add-figure-at-2
+    figure-at-requires-2
     returns-3
-    add-result
     mul-result
+    mul-result-2
+    add-result
     add-result-2
     returns-4)

@@ -5,14 +5,16 @@ use native.Mathlib.Omega.{arith}
 use Prim.Native.Nat.{_+_, _-_, _*_, _≤_}
 use mathlib.Core.Path.{_≡_, _∙_}
 use Rattle.units.specs.Places.{padded}
+use Rattle.buffer.specs.Rows.{rows}
+use Rattle.buffer.proofs.RowLaws.{filled-none, filled-step}
 use Rattle.plan_record.specs.Record.{modulePlaces, noPlaced}
-use Rattle.plan_file.specs.Files.{moduleAt, records}
-use Rattle.plan_file.proofs.ReadLaws.{filled-none, filled-step}
+use Rattle.plan_file.specs.Bytes.{moduleStride}
+use Rattle.plan_file.specs.Files.{moduleAt}
 use Rattle.plan_file.proofs.read.modules_in.Statement.{statement}
 use Rattle.plan_file.proofs.read.modules_in.Tie as tie
 
 abbrev Inv-loop : tie.InvT-loop
-Inv-loop f n list₀ i₀ list i = (i ≤ n) × (list ≡ padded modulePlaces noPlaced (records (moduleAt f) i 0))
+Inv-loop f n list₀ i₀ list i = (i ≤ n) × (list ≡ padded modulePlaces noPlaced (rows (moduleAt f) moduleStride i 0))
 
 abbrev μ-loop : tie.MeasureT-loop
 μ-loop f n list₀ i₀ list i = n - i
@@ -21,40 +23,36 @@ no-placed-requires : tie.Need-no-placed-requires Inv-loop μ-loop
 no-placed-requires c κs = search needs
 
 loop-holds : tie.Need-loop-holds Inv-loop μ-loop
-loop-holds c = (omega arith, rw (c .no-placed .ensures) (filled-none modulePlaces noPlaced (moduleAt (c .before .before .args .f .now)) 0))
+loop-holds c =
+    let a = c .before .before .args in
+    (omega arith, rw (c .no-placed .ensures) (filled-none modulePlaces noPlaced (moduleAt (a .f .now)) moduleStride 0))
 
 mul-at : tie.Need-mul-at Inv-loop μ-loop
 mul-at c = search needs
 
-shared-slice-read-t9 : tie.Need-shared-slice-read-t9 Inv-loop μ-loop
-shared-slice-read-t9 c = search needs
+figure-at-requires : tie.Need-figure-at-requires Inv-loop μ-loop
+figure-at-requires c κs = search needs
 
-cast-t10 : tie.Need-cast-t10 Inv-loop μ-loop
-cast-t10 c = omega (arith, c .shared-slice-known2 .given (12 * c .before .before .loop .i))
+add-figure-at : tie.Need-add-figure-at Inv-loop μ-loop
+add-figure-at c = search needs
 
-add-t11 : tie.Need-add-t11 Inv-loop μ-loop
-add-t11 c = search needs
+figure-at-requires-2 : tie.Need-figure-at-requires-2 Inv-loop μ-loop
+figure-at-requires-2 c κs = search needs
 
-shared-slice-read-t13 : tie.Need-shared-slice-read-t13 Inv-loop μ-loop
-shared-slice-read-t13 c = search needs
+add-figure-at-2 : tie.Need-add-figure-at-2 Inv-loop μ-loop
+add-figure-at-2 c = search needs
 
-cast-t14 : tie.Need-cast-t14 Inv-loop μ-loop
-cast-t14 c = omega (arith, c .shared-slice-known3 .given (12 * c .before .before .before .loop .i + 1))
+figure-at-requires-3 : tie.Need-figure-at-requires-3 Inv-loop μ-loop
+figure-at-requires-3 c κs = search needs
 
-add-t15 : tie.Need-add-t15 Inv-loop μ-loop
-add-t15 c = search needs
+cast-t13 : tie.Need-cast-t13 Inv-loop μ-loop
+cast-t13 c = search needs
 
-shared-slice-read-t17 : tie.Need-shared-slice-read-t17 Inv-loop μ-loop
-shared-slice-read-t17 c = search needs
+add-u64-at : tie.Need-add-u64-at Inv-loop μ-loop
+add-u64-at c = search needs
 
-cast-t18 : tie.Need-cast-t18 Inv-loop μ-loop
-cast-t18 c = omega (arith, c .shared-slice-known4 .given (12 * c .before .before .before .before .loop .i + 2))
-
-add-number-at : tie.Need-add-number-at Inv-loop μ-loop
-add-number-at c = search needs
-
-number-at-requires : tie.Need-number-at-requires Inv-loop μ-loop
-number-at-requires c κs = search needs
+u64-at-requires : tie.Need-u64-at-requires Inv-loop μ-loop
+u64-at-requires c κs = search needs
 
 mul-list : tie.Need-mul-list Inv-loop μ-loop
 mul-list c = search needs
@@ -70,11 +68,16 @@ loop-less c = search needs
 
 loop-again : tie.Need-loop-again Inv-loop μ-loop
 loop-again c =
-    let l = c .before .before .before .before .before in
-    let s = l .before .before .before in
-    let e : 0 + 12 * l .loop .i ≡ 12 * l .loop .i = omega arith in (
+    let w = c .before in
+    let b = w .before in
+    let n = b .before in
+    let l = n .before .before in
+    let a = l .before .before .before .args in
+    let e : 0 + moduleStride * l .loop .i ≡ moduleStride * l .loop .i = omega arith in
+    let v = filled-step modulePlaces noPlaced _ (moduleAt (a .f .now)) moduleStride (l .loop .i) 0 in (
       omega arith,
-      rw (l .loop .inv .1) (filled-step modulePlaces noPlaced _ (moduleAt (s .args .f .now)) (l .loop .i) 0 (omega arith) (rw (e, c .number-at .ensures))),
+      rw (l .loop .inv .1)
+          (v (omega arith) (rw (e, n .figure-at .ensures .0, b .figure-at2 .ensures .0, w .figure-at3 .ensures .0, c .u64-at .ensures))),
     )
 
 returns : tie.Need-returns Inv-loop μ-loop
@@ -93,16 +96,14 @@ modules-in-spec =
     no-placed-requires
     loop-holds
     mul-at
-    shared-slice-read-t9
-    cast-t10
-    add-t11
-    shared-slice-read-t13
-    cast-t14
-    add-t15
-    shared-slice-read-t17
-    cast-t18
-    add-number-at
-    number-at-requires
+    figure-at-requires
+    add-figure-at
+    figure-at-requires-2
+    add-figure-at-2
+    figure-at-requires-3
+    cast-t13
+    add-u64-at
+    u64-at-requires
     mul-list
     array-set-from-list
     add-i

@@ -1,19 +1,19 @@
--- `plan_file::write::put_file` meets its contract. The modules, the buses and the trailer are each put into the part behind what is written already.
--- Assumes nothing.
-use mathlib.Core.Path.{_≡_}
-use native.Mathlib.Omega.{arith}
+-- `plan_file::write::put_file` meets its contract. The modules, the buses and the trailer are each put into the part behind what is
+-- written already. Assumes nothing.
 use borrow.Author.Needs.{needs}
-use lib.ListN.{length, length-map}
+use lib.ListN.{length-map}
+use Rattle.plan_record.specs.Whole.{Whole}
 use Rattle.plan_file.proofs.FileLaws.{file-put}
 use Rattle.plan_file.proofs.write.put_file.Statement.{statement}
 use Rattle.plan_file.proofs.write.put_file.Tie as tie
 
--- the places of the record
-len-buses : (s : tie.Start) → length (s .args .p .buses) ≡ 3
-len-buses s = simp length-map at (s .good .1 .0 .1 .1 .1 .1 .1 .0 .1 .0 .1)
-
-len-modules : (s : tie.Start) → length (s .args .p .modules) ≡ 12
-len-modules s = simp length-map at (s .good .1 .0 .1 .1 .1 .1 .1 .1 .1 .0 .1 .0 .1)
+-- the record has its places
+whole : (s : tie.Start) → Whole (s .args .p)
+whole s =
+    record {
+      buses = simp length-map at (s .good .1 .0 .1 .1 .1 .1 .1 .0 .1 .0 .1);
+      modules = simp length-map at (s .good .1 .0 .1 .1 .1 .1 .1 .1 .1 .0 .1 .0 .1);
+    }
 
 mul-buses : tie.Need-mul-buses
 mul-buses c = search needs
@@ -60,17 +60,8 @@ returns c =
     let a = c .before .before .before .before .before .before .before .before .before .before .put-modules in
     let b = c .before .before .before .before .before .before .put-buses in
     let d = c .before .before .put-trailer in
-    file-put
-    (s .args .p)
-    (omega (arith, len-buses s, s .pre .0 .trailer .buses))
-    (omega (arith, len-modules s, s .pre .0 .trailer .modules))
-    (s .args .b .now)
-    (a .last .0)
-    (b .last .0)
-    (d .last .0)
-    (a .ensures)
-    (b .ensures)
-    (d .ensures)
+    file-put (s .args .p) (whole s) (s .pre .0 .trailer) (s .args .b .now) (a .last .0) (b .last .0) (d .last .0)
+    (s .pre .1) (a .ensures) (b .ensures) (d .ensures)
 
 pub put-file-spec : {M : Type 1} → statement M
 put-file-spec =
