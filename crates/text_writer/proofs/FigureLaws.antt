@@ -9,15 +9,21 @@ use lib.ListN.{length}
 use lib.IntN.{ℤ, pos, negsuc, natAbs}
 use lib.Signed.{ltZ, nonNeg}
 use mir.Syntax.{w32, w64}
-use mir.Val.{Fits, SFits}
+use mir.Val.{Fits, SFits, boolByte}
 use Rattle.fields.specs.Bytes.{bytes}
-use Rattle.fields.specs.Written.{decimal}
+use Rattle.fields.specs.Written.{digitsOf, decimal}
 use Rattle.text_lines.specs.Written.{flagField, givenField}
 
 pub flag-length : (b : Bool) → length (flagField b) ≡ 1
 unfolding flagField
 flag-length true = refl
 flag-length false = refl
+
+-- a flag is written as its number
+pub flag-number : (b : Bool) → decimal (boolByte b) ≡ flagField b
+unfolding flagField decimal digitsOf
+flag-number true = refl
+flag-number false = refl
 
 pub given-below : (z : ℤ) → ltZ z (pos 0) ≡ true → givenField z ≡ bytes "-1"
 unfolding givenField

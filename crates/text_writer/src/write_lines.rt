@@ -1,8 +1,6 @@
 // The lines of a record put into a buffer, each with its figures, single spaces and LF.
-use super::put::put_bytes;
 use super::put::put_flag;
 use super::put::put_given;
-use super::put::put_key;
 use soc::Module;
 use soc::Soc;
 use soc::Test;
@@ -10,55 +8,57 @@ ghost use Prim.Native.Nat.{_+_, _≤_};
 ghost use mathlib.Core.Bool.{cond};
 ghost use mathlib.Core.List.{[], _∷_};
 ghost use lib.ListN.{length, take};
+ghost use Rattle.soc.specs.Limits.{chainsMax};
 ghost use Rattle.text_lines.specs.Written.{nameFields, totalFields, optionsFields, levelFields, testsFields, powerFields, testFields};
+ghost use Rattle.fields.specs.Names.{nameMax};
 ghost use Rattle.fields.specs.Written.{writtenLines};
 ghost use Rattle.text_writer.specs.Written.{positionLines, spacedLengths, powerEnd};
 ghost use Rattle.buffer.specs.Puts.{Put};
 
 // `SocName` name, `TotalModules` n, `Options Power` 0/1 `XY` 0/1.
 pub(crate) fn put_head(buf: &mut [u8], at: usize, s: Soc) -> usize
-    requires { ⌜ (s .«name_len» ≤ 32) × (at + length (writtenLines (nameFields s ∷ totalFields s ∷ optionsFields s ∷ [])) ≤ length (now buf)) ⌝ }
+    requires { ⌜ (s .«name_len» ≤ nameMax) × (at + length (writtenLines (nameFields s ∷ totalFields s ∷ optionsFields s ∷ [])) ≤ length (now buf)) ⌝ }
     ensures { λ r. ⌜ Put (writtenLines (nameFields s ∷ totalFields s ∷ optionsFields s ∷ [])) at (now (buf .entry)) (now (buf .exit)) r ⌝ }
 {
     let n = s.name_len;
     let name = s.name;
-    let a = put_bytes(&mut *buf, at, b"SocName ");
-    let b = put_bytes(&mut *buf, a, &name[..n]);
-    let c = put_key(&mut *buf, b, b"\nTotalModules ", s.module_count as u64);
+    let a = buffer::put_bytes(&mut *buf, at, b"SocName ");
+    let b = buffer::put_bytes(&mut *buf, a, &name[..n]);
+    let c = fields::put_key(&mut *buf, b, b"\nTotalModules ", s.module_count as u64);
     let d = put_flag(&mut *buf, c, b"\nOptions Power ", s.power);
     let e = put_flag(&mut *buf, d, b" XY ", s.xy);
-    put_bytes(&mut *buf, e, b"\n")
+    buffer::put_bytes(&mut *buf, e, b"\n")
 }
 
 // The first n lengths, each behind a space.
 fn put_lengths(buf: &mut [u8], at: usize, d: Module, n: usize) -> usize
-    requires { ⌜ (n ≤ 64) × (at + length (spacedLengths (take n (d .chains))) ≤ length (now buf)) ⌝ }
+    requires { ⌜ (n ≤ chainsMax) × (at + length (spacedLengths (take n (d .chains))) ≤ length (now buf)) ⌝ }
     ensures { λ r. ⌜ Put (spacedLengths (take n (d .chains))) at (now (buf .entry)) (now (buf .exit)) r ⌝ }
 {
     let mut e = at;
     let mut i: usize = 0;
     while i < n {
         let f = d.chains[i];
-        e = put_key(&mut *buf, e, b" ", f.0 as u64);
+        e = fields::put_key(&mut *buf, e, b" ", f.0 as u64);
         i += 1;
     }
     e
 }
 
 pub(crate) fn put_level_line(buf: &mut [u8], at: usize, m: u64, d: Module) -> usize
-    requires { ⌜ (d .«chain_count» ≤ 64) × (at + length (writtenLines (levelFields m d ∷ [])) ≤ length (now buf)) ⌝ }
+    requires { ⌜ (d .«chain_count» ≤ chainsMax) × (at + length (writtenLines (levelFields m d ∷ [])) ≤ length (now buf)) ⌝ }
     ensures { λ r. ⌜ Put (writtenLines (levelFields m d ∷ [])) at (now (buf .entry)) (now (buf .exit)) r ⌝ }
 {
     let n = d.chain_count;
-    let a = put_key(&mut *buf, at, b"Module ", m);
-    let b = put_key(&mut *buf, a, b" Level ", d.level as u64);
-    let c = put_key(&mut *buf, b, b" Inputs ", d.inputs as u64);
-    let e = put_key(&mut *buf, c, b" Outputs ", d.outputs as u64);
-    let f = put_key(&mut *buf, e, b" Bidirs ", d.bidirs as u64);
-    let g = put_key(&mut *buf, f, b" ScanChains ", n as u64);
-    let h = put_bytes(&mut *buf, g, b" :");
+    let a = fields::put_key(&mut *buf, at, b"Module ", m);
+    let b = fields::put_key(&mut *buf, a, b" Level ", d.level as u64);
+    let c = fields::put_key(&mut *buf, b, b" Inputs ", d.inputs as u64);
+    let e = fields::put_key(&mut *buf, c, b" Outputs ", d.outputs as u64);
+    let f = fields::put_key(&mut *buf, e, b" Bidirs ", d.bidirs as u64);
+    let g = fields::put_key(&mut *buf, f, b" ScanChains ", n as u64);
+    let h = buffer::put_bytes(&mut *buf, g, b" :");
     let i = put_lengths(&mut *buf, h, d, n);
-    put_bytes(&mut *buf, i, b"\n")
+    buffer::put_bytes(&mut *buf, i, b"\n")
 }
 
 // With XY 1, `Module` m `X` x `Y` y.
@@ -69,10 +69,10 @@ pub(crate) fn put_position_line(buf: &mut [u8], at: usize, m: u64, d: Module, xy
     if !xy {
         return at;
     }
-    let a = put_key(&mut *buf, at, b"Module ", m);
+    let a = fields::put_key(&mut *buf, at, b"Module ", m);
     let b = put_given(&mut *buf, a, b" X ", d.x);
     let c = put_given(&mut *buf, b, b" Y ", d.y);
-    put_bytes(&mut *buf, c, b"\n")
+    buffer::put_bytes(&mut *buf, c, b"\n")
 }
 
 // `Module` m `TotalTests` t.
@@ -80,9 +80,9 @@ pub(crate) fn put_tests_line(buf: &mut [u8], at: usize, m: u64, d: Module) -> us
     requires { ⌜ at + length (writtenLines (testsFields m d ∷ [])) ≤ length (now buf) ⌝ }
     ensures { λ r. ⌜ Put (writtenLines (testsFields m d ∷ [])) at (now (buf .entry)) (now (buf .exit)) r ⌝ }
 {
-    let a = put_key(&mut *buf, at, b"Module ", m);
-    let b = put_key(&mut *buf, a, b" TotalTests ", d.test_count as u64);
-    put_bytes(&mut *buf, b, b"\n")
+    let a = fields::put_key(&mut *buf, at, b"Module ", m);
+    let b = fields::put_key(&mut *buf, a, b" TotalTests ", d.test_count as u64);
+    buffer::put_bytes(&mut *buf, b, b"\n")
 }
 
 // With Power 1, `Power` w; and the line's end.
@@ -91,10 +91,10 @@ fn put_power(buf: &mut [u8], at: usize, t: Test, power: bool) -> usize
     ensures { λ r. ⌜ Put (powerEnd power t) at (now (buf .entry)) (now (buf .exit)) r ⌝ }
 {
     if !power {
-        return put_bytes(&mut *buf, at, b"\n");
+        return buffer::put_bytes(&mut *buf, at, b"\n");
     }
     let e = put_given(&mut *buf, at, b" Power ", t.power);
-    put_bytes(&mut *buf, e, b"\n")
+    buffer::put_bytes(&mut *buf, e, b"\n")
 }
 
 // The line of test i.
@@ -109,10 +109,10 @@ pub(crate) fn put_test_line(
     requires { ⌜ at + length (writtenLines (testFields m i t (cond power (powerFields t) []) ∷ [])) ≤ length (now buf) ⌝ }
     ensures { λ r. ⌜ Put (writtenLines (testFields m i t (cond power (powerFields t) []) ∷ [])) at (now (buf .entry)) (now (buf .exit)) r ⌝ }
 {
-    let a = put_key(&mut *buf, at, b"Module ", m);
-    let b = put_key(&mut *buf, a, b" Test ", i);
+    let a = fields::put_key(&mut *buf, at, b"Module ", m);
+    let b = fields::put_key(&mut *buf, a, b" Test ", i);
     let c = put_flag(&mut *buf, b, b" ScanUse ", t.scan_use);
     let d = put_flag(&mut *buf, c, b" TamUse ", t.tam_use);
-    let e = put_key(&mut *buf, d, b" Patterns ", t.patterns as u64);
+    let e = fields::put_key(&mut *buf, d, b" Patterns ", t.patterns as u64);
     put_power(&mut *buf, e, t, power)
 }

@@ -1,13 +1,12 @@
--- `text_writer::put::put_given` meets its contract: behind the bytes it puts "-1" below 0, and else the number. Assumes nothing.
+-- `text_writer::put::put_given` meets its contract: behind the key it puts "-1" below 0, and else the number. Assumes nothing.
 use borrow.Author.Needs.{needs}
-use native.Mathlib.Omega.{arith}
-use mathlib.Core.Path.{_≡_, ap}
-use lib.ListN.{length, length-append}
+use mathlib.Core.Path.{_≡_}
 use mir.Syntax.{w32}
 use mir.Val.{toZ, ofZ}
 use Rattle.soc.proofs.FigureLaws.{figure-back}
+use Rattle.fields.specs.Bytes.{bytes}
+use Rattle.buffer.proofs.PutLaws.{put-behind}
 use Rattle.text_writer.proofs.FigureLaws.{given-below, given-above, given-cast}
-use Rattle.buffer.proofs.PutLaws.{put-then}
 use Rattle.text_writer.proofs.put.put_given.Statement.{statement}
 use Rattle.text_writer.proofs.put.put_given.Tie as tie
 
@@ -16,48 +15,44 @@ back : (c : tie.Start) → toZ w32 (ofZ w32 (c .args .z)) ≡ c .args .z
 back c = figure-back (c .args .z) (c .fits .z)
 
 put-bytes-requires : tie.Need-put-bytes-requires
-put-bytes-requires c κs = omega (arith, simp length-append at (c .before .before .before .pre))
+put-bytes-requires c κs = search needs
 
 slice-aggregate-put-bytes : tie.Need-slice-aggregate-put-bytes
 slice-aggregate-put-bytes c = search needs
 
 put-bytes-requires-2 : tie.Need-put-bytes-requires-2
-put-bytes-requires-2 c κs =
-    let i = c .before .before in
-    let s = i .before .before .before .before .before .before .before in
-    omega (arith, ap length (given-below (s .args .z) (rw (back s) at (i .if1 .taken))), simp length-append at (s .pre))
+put-bytes-requires-2 c κs = search needs
 
 same-length : tie.Need-same-length
 same-length c = search needs
 
 returns : tie.Need-returns
 returns c =
-    let n = c .before .before in
-    let i = n .before .before .before in
-    let s = i .before .before .before .before .before .before .before in
-    rw (given-below (s .args .z) (rw (back s) at (i .if1 .taken))) (put-then (omega arith) (i .before .before .before .put-bytes .ensures) (n .put-bytes2 .ensures))
+    let k2 = c .before .before in
+    let k1 = k2 .before .before .before .before .before in
+    let i = k1 .before .before in
+    let s = i .before .before .before in
+    rw (given-below (s .args .z) (rw (back s) at (i .if1 .taken)))
+    (put-behind (bytes "-1") (s .args .w .now) (s .args .buf .now) (s .args .at) (k1 .put-bytes .ensures) (k2 .put-bytes2 .ensures))
 
-cast-put-number : tie.Need-cast-put-number
-cast-put-number c =
+cast-put-key : tie.Need-cast-put-key
+cast-put-key c =
     let i = c .before in
-    let s = i .before .before .before .before .before .before .before in
+    let s = i .before .before .before in
     rw (back s) (given-cast (s .args .z) (s .fits .z) (rw (back s) at (i .if1 .left)))
 
-put-number-requires : tie.Need-put-number-requires
-put-number-requires c κs =
-    let i = c .before in
-    let s = i .before .before .before .before .before .before .before in
-    rw (back s) (omega (arith, ap length (given-above (s .args .z) (rw (back s) at (i .if1 .left))), simp length-append at (s .pre)))
+put-key-requires : tie.Need-put-key-requires
+put-key-requires c κs = search needs
 
 same-length-2 : tie.Need-same-length-2
 same-length-2 c = search needs
 
 returns-2 : tie.Need-returns-2
 returns-2 c =
-    let n = c .before .before in
-    let i = n .before .before in
-    let s = i .before .before .before .before .before .before .before in
-    rw (given-above (s .args .z) (rw (back s) at (i .if1 .left))) (put-then (omega arith) (i .before .before .before .put-bytes .ensures) (rw (back s) at (n .put-number .ensures)))
+    let k = c .before .before in
+    let i = k .before .before in
+    let s = i .before .before .before in
+    rw (given-above (s .args .z) (rw (back s) at (i .if1 .left))) (rw (back s) at (k .put-key .ensures))
 
 pub put-given-spec : {M : Type 1} → statement M
 put-given-spec =
@@ -68,7 +63,7 @@ put-given-spec =
     put-bytes-requires-2
     same-length
     returns
-    cast-put-number
-    put-number-requires
+    cast-put-key
+    put-key-requires
     same-length-2
     returns-2)

@@ -22,7 +22,7 @@ abbrev part3 : tie.Start → List ℕ
 part3 s = writtenLines (testsFields (s .args .m) (s .args .d) ∷ [])
 
 abbrev part4 : tie.Start → List ℕ
-part4 s = testsText (s .args .power) (s .args .m) (testsOf (s .args .d))
+part4 s = testsText (s .args .power) (s .args .m) 1 (testsOf (s .args .d))
 
 abbrev rest3 : tie.Start → List ℕ
 rest3 s = part4 s

@@ -1,5 +1,5 @@
--- `text_writer::write::put_soc` meets its contract: a good record keeps the limits that the two calls require, and the second puts what is due behind
--- the first. Assumes nothing.
+-- `text_writer::write::put_soc` meets its contract: a good record keeps the limits that the two calls require, and the second puts what
+-- is due behind the first. Assumes nothing.
 use borrow.Author.Needs.{needs}
 use native.Mathlib.Omega.{arith}
 use Prim.Native.Nat.{ℕ}
@@ -20,7 +20,7 @@ abbrev part1 : tie.Start → List ℕ
 part1 s = writtenLines (nameFields (s .args .s) ∷ totalFields (s .args .s) ∷ optionsFields (s .args .s) ∷ [])
 
 abbrev part2 : tie.Start → List ℕ
-part2 s = modulesText (s .args .s .power) (s .args .s .xy) (modulesOf (s .args .s))
+part2 s = modulesText (s .args .s .power) (s .args .s .xy) 0 (modulesOf (s .args .s))
 
 abbrev Left : tie.Start → List ℕ → ℕ → List ℕ → Type 0
 Left s rest r buf = Due rest (writtenSoc (s .args .s)) 0 (s .args .buf .now) r buf

@@ -1,5 +1,5 @@
--- `text_writer::write::write_soc` meets its contract. The written form of a good record fits the form's buffer, so that what `put_soc` puts there is
--- all of it; the tests are those of the definitions. Assumes nothing.
+-- `text_writer::write::write_soc` meets its contract. The written form of a good record fits the form's buffer, so that what `put_soc`
+-- puts there is all of it; the tests are those of the definitions. Assumes nothing.
 use borrow.Author.Needs.{needs}
 use borrow.Author.Tests.{not-true, not-false}
 use native.Mathlib.Omega.{arith}

@@ -1,43 +1,34 @@
--- `text_writer::write_lines::put_lengths` meets its contract. The loop's invariant: the text of the first `i` lengths is put. The measure is what is
--- left of `n`. Assumes nothing.
+-- `text_writer::write_lines::put_lengths` meets its contract. The loop's invariant: of the text of the `n` lengths, that of those from
+-- `i` on is still due. The measure is what is left of `n`. Assumes nothing.
 use borrow.Author.Needs.{needs}
 use native.Mathlib.Omega.{arith}
-use Prim.Native.Nat.{_+_, _-_, _≤_}
-use mathlib.Core.Path.{_≡_, refl, ap, _∙_}
-use mathlib.Core.List.{_∷_, _++_}
-use lib.ListN.{length, getD, take, length-map, length-append}
-use Rattle.fields.specs.Bytes.{space}
+use Prim.Native.Nat.{_-_, _≤_}
+use mathlib.Core.Path.{_≡_, refl, _∙_}
+use lib.ListN.{length, getD, take, drop, length-map}
+use Rattle.fields.specs.Bytes.{bytes}
+use Rattle.fields.specs.Written.{decimal}
+use Rattle.soc.specs.Limits.{chainsMax}
 use Rattle.soc.specs.Record.{flipFlops}
-use Rattle.text_lines.specs.Written.{lengthField}
-use Rattle.buffer.specs.Puts.{Put}
+use Rattle.buffer.proofs.PutLaws.{Due, due-all, due-key, put-none}
 use Rattle.text_writer.specs.Written.{spacedLengths}
-use Rattle.buffer.proofs.PutLaws.{put-none, put-then}
-use Rattle.text_writer.proofs.RunLaws.{spaced-more, spaced-fits}
+use Rattle.text_writer.proofs.RunLaws.{spaced-more, rest-none}
 use Rattle.text_writer.proofs.write_lines.put_lengths.Statement.{statement}
 use Rattle.text_writer.proofs.write_lines.put_lengths.Tie as tie
 
 abbrev Inv-loop : tie.InvT-loop
-Inv-loop buf₀ at n d e₀ i₀ t9 buf e i = (i ≤ n) × (length buf ≡ length buf₀) × Put (spacedLengths (take i (d .chains))) at buf₀ buf e
+Inv-loop buf₀ at n d e₀ i₀ t9 buf e i =
+    (i ≤ n)
+    × (length buf ≡ length buf₀)
+    × Due (spacedLengths (drop i (take n (d .chains)))) (spacedLengths (take n (d .chains))) at buf₀ e buf
 
 abbrev μ-loop : tie.MeasureT-loop
 μ-loop buf₀ at n d e₀ i₀ t9 buf e i = n - i
 
-len : (c : tie.Start Inv-loop μ-loop) → length (c .args .t3 .chains) ≡ 64
+len : (c : tie.Start Inv-loop μ-loop) → length (c .args .t3 .chains) ≡ chainsMax
 len c = simp length-map at (c .good .1 .1 .0 .1 .1 .1 .1 .1 .1 .1 .0 .1 .0 .1)
 
--- the text of one length more
-more : (c : tie.In-loop Inv-loop μ-loop) →
-    let l = c .before in
-    let chains = l .before .before .args .t3 .chains in
-    spacedLengths (take (l .loop .i + 1) chains) ≡ spacedLengths (take (l .loop .i) chains) ++ space ∷ lengthField (getD chains (l .loop .i) (flipFlops 0))
-more c =
-    let l = c .before in
-    let s = l .before .before in
-    spaced-more (l .loop .i) (s .args .t3 .chains) (flipFlops 0) (omega (arith, len s))
-
 loop-holds : tie.Need-loop-holds Inv-loop μ-loop
-unfolding spacedLengths
-loop-holds c = (omega arith, refl, put-none _ _)
+loop-holds c = (omega arith, refl, due-all refl (c .before .pre .1))
 
 mul-f : tie.Need-mul-f Inv-loop μ-loop
 mul-f c = search needs
@@ -52,12 +43,7 @@ cast-put-key : tie.Need-cast-put-key Inv-loop μ-loop
 cast-put-key c = search needs
 
 put-key-requires : tie.Need-put-key-requires Inv-loop μ-loop
-unfolding lengthField
-put-key-requires c κs =
-    let t = c .before .before .before .before in
-    let l = t .before in
-    let s = l .before .before in
-    omega (arith, l .loop .inv .2 .behind, simp length-append at (ap length (more t)), spaced-fits (l .loop .i + 1) (s .args .n) (s .args .t3 .chains) (omega arith), s .pre .1)
+put-key-requires c κs = search needs
 
 add-i : tie.Need-add-i Inv-loop μ-loop
 add-i c = search needs
@@ -66,21 +52,24 @@ loop-less : tie.Need-loop-less Inv-loop μ-loop
 loop-less c = search needs
 
 loop-again : tie.Need-loop-again Inv-loop μ-loop
-unfolding lengthField
 loop-again c =
     let k = c .before .before in
-    let t = k .before .before .before .before .before in
-    let l = t .before in
-    (omega arith, k .put-key .kept .0 ∙ l .loop .inv .1, rw (more t) (put-then (omega arith) (l .loop .inv .2) (k .put-key .ensures)))
+    let l = k .before .before .before .before .before .before in
+    let s = l .before .before in
+    let chains = s .args .t3 .chains in
+    let more = spaced-more (s .args .n) chains (l .loop .i) (flipFlops 0) (omega arith) (omega (arith, len s, s .pre .0)) in
+    let f = decimal (getD chains (l .loop .i) (flipFlops 0) .0) in
+    (omega arith, k .put-key .kept .0 ∙ l .loop .inv .1, due-key (bytes " ") f _ (rw more at (l .loop .inv .2)) (k .put-key .ensures))
 
 same-length : tie.Need-same-length Inv-loop μ-loop
 same-length c = c .before .loop .inv .1
 
 returns : tie.Need-returns Inv-loop μ-loop
+unfolding spacedLengths
 returns c =
     let l = c .before in
-    let e : l .loop .i ≡ l .before .before .args .n = omega arith in
-    rw (← e) (l .loop .inv .2)
+    let s = l .before .before in
+    (rw (rest-none (s .args .n) (s .args .t3 .chains) (l .loop .i) (omega arith)) at (l .loop .inv .2)) .done _ _ (put-none _ _)
 
 pub put-lengths-spec : {M : Type 1} → statement M
 put-lengths-spec =
