@@ -1,32 +1,28 @@
--- Laws of a signed number in its two's complement: the lower half of the words are the numbers from 0 on, and the upper half those below 0.
--- Assumes nothing.
-use Prim.Native.Nat.{ℕ, suc, _-_, _≤_, _<_}
-use mathlib.Core.Path.{_≡_}
+-- Laws of words that stand one behind the other: each is read back at its place, and what follows stands behind them all. Assumes nothing.
+use Prim.Native.Nat.{ℕ, zero, suc, _+_, _*_, _<_}
+use mathlib.Core.Path.{_≡_, refl}
+use mathlib.Core.List.{List, [], _∷_, _++_}
 use native.Mathlib.Omega.{arith}
-use borrow.Author.Tests.{lt-ltb, le-ltb}
-use lib.IntN.{pos, negsuc, _-ℤ_}
-use mir.Syntax.{w32, w64}
-use mir.Val.{toZ, SFits}
-use mir.Facts.{toZ-pos}
-use Rattle.c_forms.specs.Words.{signedIn}
+use lib.ListN.{length, getD}
+use Rattle.buffer.specs.Rows.{each}
+use Rattle.buffer.proofs.LittleLaws.{little-length}
+use Rattle.buffer.proofs.RowLaws.{each-length}
+use Rattle.buffer.proofs.StandLaws.{Stands, stands-behind, number-first, number-behind}
+use Rattle.c_forms.specs.Words.{wordLength, word, words, wordAt}
+use Rattle.c_forms.specs.Fit.{Fits4}
 
-pub signed-low : (w : ℕ) → w < 2147483648 → signedIn w ≡ pos w
-unfolding signedIn
-signed-low w h = rw (lt-ltb w 2147483648 h)
+pub words-length : (vs : List ℕ) → length (words vs) ≡ wordLength * length vs
+words-length vs = each-length word wordLength vs (length vs) 0 refl (λ i h. little-length wordLength (getD vs i 0))
 
-pub signed-high : (w : ℕ) → 2147483648 ≤ w → signedIn w ≡ negsuc (4294967295 - w)
-unfolding signedIn
-signed-high w h = rw (le-ltb w 2147483648 h)
+pub words-stand : (vs : List ℕ) (i : ℕ) {b : List ℕ} {at : ℕ} → i < length vs → Fits4 (getD vs i 0) → Stands (words vs) b at
+    → wordAt b at i ≡ getD vs i 0
+unfolding each
+words-stand [] i h f s = absurd (omega arith)
+words-stand (v ∷ vs) zero {b} {at} h f s = let e : at + wordLength * 0 ≡ at = omega arith in rw e (number-first wordLength v (words vs) f s)
+words-stand (v ∷ vs) (suc i) {b} {at} h f s =
+    let e : at + wordLength * suc i ≡ at + wordLength + wordLength * i = omega arith in
+    rw e (words-stand vs i (omega arith) f (number-behind wordLength v (words vs) (at + wordLength) refl s))
 
--- 2³² taken from a word leaves a number below 0
-pub word-less : (w : ℕ) → w < 4294967296 → toZ w64 w -ℤ pos 4294967296 ≡ negsuc (4294967295 - w)
-word-less w h =
-    let e : 4294967296 - suc w ≡ 4294967295 - w = omega arith in
-    rw (toZ-pos w64 {n = w} (omega arith), lt-ltb w 4294967296 h, e)
-
--- that number fits 32 bits where the word lies in the upper half, and 64 bits always
-pub high-fits : (w : ℕ) → 2147483648 ≤ w → SFits w32 (negsuc (4294967295 - w))
-high-fits w h = record { sfits = omega arith }
-
-pub less-fits : (w : ℕ) → SFits w64 (negsuc (4294967295 - w))
-less-fits w = record { sfits = omega arith }
+pub words-behind : (vs w : List ℕ) {b : List ℕ} {at : ℕ} (to : ℕ) → at + wordLength * length vs ≡ to → Stands (words vs ++ w) b at
+    → Stands w b to
+words-behind vs w to e s = stands-behind (words vs) w (wordLength * length vs) to (words-length vs) e s

@@ -1,13 +1,16 @@
--- A layout as bytes: 1,024 of them. Flip-flops, input cells and output cells of each wrapper chain, and the wrapper chain of each internal chain.
-use Prim.Native.Nat.{ℕ}
+-- A layout as bytes: 1,024 of them. Flip-flops, input cells and output cells of each wrapper chain, and the wrapper chain of each
+-- internal chain.
+use Prim.Native.Nat.{ℕ, _+_, _*_}
 use mathlib.Core.List.{List, _++_}
+use Rattle.buffer.specs.Rows.{each}
+use Rattle.soc.specs.Limits.{chainsMax}
+use Rattle.wrapper.specs.Answers.{widthMax}
 use Rattle.wrapper.specs.declared.laid.WrapperLayout.{WrapperLayout}
-use Rattle.plan_file.specs.Bytes.{each}
-use Rattle.c_forms.specs.Words.{word}
+use Rattle.c_forms.specs.Words.{wordLength, words}
 use Rattle.c_forms.specs.SocForm.{lengthBytes}
 
 abbrev pub layoutLength : ℕ
-layoutLength = 1024
+layoutLength = wordLength * (widthMax * 3 + chainsMax)
 
 unfoldable pub layoutBytes : WrapperLayout → List ℕ
-layoutBytes l = each lengthBytes (l .«flip_flops») ++ each word (l .«input_cells») ++ each word (l .«output_cells») ++ each word (l .«chain_of»)
+layoutBytes l = each lengthBytes (l .«flip_flops») ++ words (l .«input_cells») ++ words (l .«output_cells») ++ words (l .«chain_of»)

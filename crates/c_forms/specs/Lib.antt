@@ -2,3 +2,4 @@ pub mod Words
 pub mod SocForm
 pub mod PlanForm
 pub mod LayoutForm
+pub mod Fit

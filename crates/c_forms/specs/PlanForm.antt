@@ -1,38 +1,70 @@
--- A plan record as bytes: 300 of them.
-use Prim.Native.Nat.{ℕ, _+_}
+-- A plan record as bytes: 300 of them. Each bus and each planned module has its place, spare ones included.
+use Prim.Native.Nat.{ℕ, _+_, _*_}
 use mathlib.Core.Bool.{cond}
-use mathlib.Core.List.{List, _++_}
+use mathlib.Core.List.{List, [], _∷_, _++_}
 use lib.ListN.{length}
 use lib.Dec.{eqb}
+use Rattle.buffer.specs.Rows.{each, rows}
 use Rattle.wrapper.specs.Answers.{wires, cycles}
-use Rattle.plan.specs.Answers.{limitMax, plannedMax, noPlan}
-use Rattle.plan.specs.declared.record.Bus.{Bus}
-use Rattle.plan.specs.declared.record.PlacedModule.{PlacedModule}
-use Rattle.plan.specs.declared.record.BusPlan.{BusPlan}
-use Rattle.plan_file.specs.Bytes.{each}
-use Rattle.c_forms.specs.Words.{word, wordAt, long, longAt, places}
+use Rattle.plan_record.specs.Record.{busPlaces, modulePlaces, noPlan}
+use Rattle.plan_record.specs.declared.record.Bus.{Bus}
+use Rattle.plan_record.specs.declared.record.PlacedModule.{PlacedModule}
+use Rattle.plan_record.specs.declared.record.BusPlan.{BusPlan}
+use Rattle.c_forms.specs.Words.{wordLength, longLength, word, long, longAt, words, wordAt}
+
+-- how many bytes a bus has: 12
+abbrev pub busStride : ℕ
+busStride = wordLength + longLength
+
+-- in a planned module, where its cycles begin, and how many bytes it has: 12 and 20
+abbrev pub cyclesFrom : ℕ
+cyclesFrom = wordLength * 3
+
+abbrev pub placedStride : ℕ
+placedStride = cyclesFrom + longLength
+
+-- in a record, where its time begins, its buses and its planned modules, and how many bytes it has: 16, 24, 60 and 300
+abbrev pub timeFrom : ℕ
+timeFrom = wordLength * 4
+
+abbrev pub busesFrom : ℕ
+busesFrom = timeFrom + longLength
+
+abbrev pub placedFrom : ℕ
+placedFrom = busesFrom + busStride * busPlaces
 
 abbrev pub planLength : ℕ
-planLength = 300
+planLength = placedFrom + placedStride * modulePlaces
 
 -- width, busy
 unfoldable pub busBytes : Bus → List ℕ
 busBytes b = word (b .width .0) ++ long (b .busy .0)
 
 abbrev pub busAt : List ℕ → ℕ → Bus
-busAt b at = record { width = wires (wordAt b at); busy = cycles (longAt b (at + 4)) }
+busAt b at = record { width = wires (wordAt b at 0); busy = cycles (longAt b (at + wordLength)) }
 
 -- number, bus, wires, cycles
+abbrev pub placedWords : PlacedModule → List ℕ
+placedWords m = m .number ∷ m .bus ∷ m .wires .0 ∷ []
+
 unfoldable pub placedBytes : PlacedModule → List ℕ
-placedBytes m = word (m .number) ++ word (m .bus) ++ word (m .wires .0) ++ long (m .cycles .0)
+placedBytes m = words (placedWords m) ++ long (m .cycles .0)
 
 abbrev pub placedAt : List ℕ → ℕ → PlacedModule
 placedAt b at =
-    record { number = wordAt b at; bus = wordAt b (at + 4); wires = wires (wordAt b (at + 8)); cycles = cycles (longAt b (at + 12)) }
+    record {
+      number = wordAt b at 0;
+      bus = wordAt b at 1;
+      wires = wires (wordAt b at 2);
+      cycles = cycles (longAt b (at + cyclesFrom));
+    }
 
 -- W, B, number of buses, number of modules, time; the buses; the planned modules
+abbrev pub countWords : BusPlan → List ℕ
+countWords p = p .wires .0 ∷ p .limit ∷ p .«bus_count» ∷ p .«module_count» ∷ []
+
 unfoldable pub countBytes : BusPlan → List ℕ
-countBytes p = word (p .wires .0) ++ word (p .limit) ++ word (p .«bus_count») ++ word (p .«module_count») ++ long (p .time .0)
+countBytes p = words (countWords p) ++ long (p .time .0)
 
 unfoldable pub planBytes : BusPlan → List ℕ
 planBytes p = countBytes p ++ each busBytes (p .buses) ++ each placedBytes (p .modules)
@@ -40,13 +72,13 @@ planBytes p = countBytes p ++ each busBytes (p .buses) ++ each placedBytes (p .m
 unfoldable pub planAt : List ℕ → BusPlan
 planAt b =
     record {
-      wires = wires (wordAt b 0);
-      limit = wordAt b 4;
-      «bus_count» = wordAt b 8;
-      buses = places (busAt b) 12 limitMax 24;
-      «module_count» = wordAt b 12;
-      modules = places (placedAt b) 20 plannedMax 60;
-      time = cycles (longAt b 16);
+      wires = wires (wordAt b 0 0);
+      limit = wordAt b 0 1;
+      «bus_count» = wordAt b 0 2;
+      buses = rows (busAt b) busStride busPlaces busesFrom;
+      «module_count» = wordAt b 0 3;
+      modules = rows (placedAt b) placedStride modulePlaces placedFrom;
+      time = cycles (longAt b timeFrom);
     }
 
 -- bytes of another length are no record, and the plan that says nothing stands for them: it is not good (12)

@@ -1,83 +1,100 @@
 -- A SOC record as bytes: 16,688 of them. The name and each module, chain and test has its place, spare ones included.
-use Prim.Native.Nat.{ℕ, _+_}
+use Prim.Native.Nat.{ℕ, _+_, _*_}
 use mathlib.Core.Bool.{Bool, cond, _&&_}
-use mathlib.Core.List.{List, _++_}
+use mathlib.Core.List.{List, [], _∷_, _++_}
 use lib.ListN.{length, take, drop}
 use lib.Dec.{leb, eqb}
 use Rattle.units.specs.declared.FlipFlops.{FlipFlops}
+use Rattle.units.specs.Places.{allOf}
+use Rattle.buffer.specs.Rows.{each, rows}
 use Rattle.fields.specs.Names.{nameMax}
 use Rattle.soc.specs.Limits.{modulesMax, chainsMax, testsMax}
-use Rattle.units.specs.Places.{allOf}
 use Rattle.soc.specs.Record.{flipFlops, noSoc}
 use Rattle.soc.specs.declared.record.Test.{Test}
 use Rattle.soc.specs.declared.record.Module.{Module}
 use Rattle.soc.specs.declared.record.Soc.{Soc}
-use Rattle.plan_file.specs.Bytes.{each}
-use Rattle.c_forms.specs.Words.{word, wordAt, signedWord, signedIn, flagWord, flagIn, places}
+use Rattle.c_forms.specs.Words.{wordLength, word, words, wordAt, signedWord, signedIn, flagWord, flagIn}
 
--- how many bytes a test, a module and a record have, and where the modules begin
+-- how many bytes a test has: 16
 abbrev pub testLength : ℕ
-testLength = 16
+testLength = wordLength * 4
+
+-- in a module, where its chains begin, its position and its tests, and how many bytes it has: 20, 276, 288 and 416
+abbrev pub chainsFrom : ℕ
+chainsFrom = wordLength * 5
+
+abbrev pub positionFrom : ℕ
+positionFrom = chainsFrom + wordLength * chainsMax
+
+abbrev pub testsFrom : ℕ
+testsFrom = positionFrom + wordLength * 3
 
 abbrev pub moduleLength : ℕ
-moduleLength = 416
+moduleLength = testsFrom + testLength * testsMax
+
+-- in a record, where its options begin and its modules, and how many bytes it has: 36, 48 and 16,688
+abbrev pub optionsFrom : ℕ
+optionsFrom = wordLength + nameMax
 
 abbrev pub modulesFrom : ℕ
-modulesFrom = 48
+modulesFrom = optionsFrom + wordLength * 3
 
 abbrev pub socLength : ℕ
-socLength = 16688
+socLength = modulesFrom + moduleLength * modulesMax
 
 -- ScanUse, TamUse, patterns, Power
+abbrev pub testWords : Test → List ℕ
+testWords t = flagWord (t .«scan_use») ∷ flagWord (t .«tam_use») ∷ t .patterns ∷ signedWord (t .power) ∷ []
+
 unfoldable pub testBytes : Test → List ℕ
-testBytes t = word (flagWord (t .«scan_use»)) ++ word (flagWord (t .«tam_use»)) ++ word (t .patterns) ++ word (signedWord (t .power))
+testBytes t = words (testWords t)
 
 abbrev pub testAt : List ℕ → ℕ → Test
 testAt b at =
     record {
-      «scan_use» = flagIn (wordAt b at);
-      «tam_use» = flagIn (wordAt b (at + 4));
-      patterns = wordAt b (at + 8);
-      power = signedIn (wordAt b (at + 12));
+      «scan_use» = flagIn (wordAt b at 0);
+      «tam_use» = flagIn (wordAt b at 1);
+      patterns = wordAt b at 2;
+      power = signedIn (wordAt b at 3);
     }
 
 unfoldable pub lengthBytes : FlipFlops → List ℕ
 lengthBytes f = word (f .0)
 
 abbrev pub lengthAt : List ℕ → ℕ → FlipFlops
-lengthAt b at = flipFlops (wordAt b at)
+lengthAt b at = flipFlops (wordAt b at 0)
 
--- level, terminals, number of chains, their lengths, X, Y, number of tests, the tests
-unfoldable pub shapeBytes : Module → List ℕ
-shapeBytes d = word (d .level) ++ word (d .inputs) ++ word (d .outputs) ++ word (d .bidirs) ++ word (d .«chain_count»)
+-- level, terminals, number of chains; their lengths; X, Y, number of tests; the tests
+abbrev pub shapeWords : Module → List ℕ
+shapeWords d = d .level ∷ d .inputs ∷ d .outputs ∷ d .bidirs ∷ d .«chain_count» ∷ []
+
+abbrev pub positionWords : Module → List ℕ
+positionWords d = signedWord (d .x) ∷ signedWord (d .y) ∷ d .«test_count» ∷ []
 
 unfoldable pub moduleBytes : Module → List ℕ
-moduleBytes d =
-    shapeBytes d
-    ++ each lengthBytes (d .chains)
-    ++ word (signedWord (d .x))
-    ++ word (signedWord (d .y))
-    ++ word (d .«test_count»)
-    ++ each testBytes (d .tests)
+moduleBytes d = words (shapeWords d) ++ each lengthBytes (d .chains) ++ words (positionWords d) ++ each testBytes (d .tests)
 
 abbrev pub moduleAt : List ℕ → ℕ → Module
 moduleAt b at =
     record {
-      level = wordAt b at;
-      inputs = wordAt b (at + 4);
-      outputs = wordAt b (at + 8);
-      bidirs = wordAt b (at + 12);
-      «chain_count» = wordAt b (at + 16);
-      chains = places (lengthAt b) 4 chainsMax (at + 20);
-      x = signedIn (wordAt b (at + 276));
-      y = signedIn (wordAt b (at + 280));
-      «test_count» = wordAt b (at + 284);
-      tests = places (testAt b) testLength testsMax (at + 288);
+      level = wordAt b at 0;
+      inputs = wordAt b at 1;
+      outputs = wordAt b at 2;
+      bidirs = wordAt b at 3;
+      «chain_count» = wordAt b at 4;
+      chains = rows (lengthAt b) wordLength chainsMax (at + chainsFrom);
+      x = signedIn (wordAt b (at + positionFrom) 0);
+      y = signedIn (wordAt b (at + positionFrom) 1);
+      «test_count» = wordAt b (at + positionFrom) 2;
+      tests = rows (testAt b) testLength testsMax (at + testsFrom);
     }
 
--- length of the name, the name, Power, XY, number of modules, the modules
+-- length of the name, the name; Power, XY, number of modules; the modules
+abbrev pub optionWords : Soc → List ℕ
+optionWords s = flagWord (s .power) ∷ flagWord (s .xy) ∷ s .«module_count» ∷ []
+
 unfoldable pub headBytes : Soc → List ℕ
-headBytes s = word (s .«name_len») ++ s .name ++ word (flagWord (s .power)) ++ word (flagWord (s .xy)) ++ word (s .«module_count»)
+headBytes s = word (s .«name_len») ++ s .name ++ words (optionWords s)
 
 unfoldable pub socBytes : Soc → List ℕ
 socBytes s = headBytes s ++ each moduleBytes (s .modules)
@@ -85,26 +102,23 @@ socBytes s = headBytes s ++ each moduleBytes (s .modules)
 unfoldable pub socAt : List ℕ → Soc
 socAt b =
     record {
-      «name_len» = wordAt b 0;
-      name = take nameMax (drop 4 b);
-      power = flagIn (wordAt b 36);
-      xy = flagIn (wordAt b 40);
-      «module_count» = wordAt b 44;
-      modules = places (moduleAt b) moduleLength modulesMax modulesFrom;
+      «name_len» = wordAt b 0 0;
+      name = take nameMax (drop wordLength b);
+      power = flagIn (wordAt b optionsFrom 0);
+      xy = flagIn (wordAt b optionsFrom 1);
+      «module_count» = wordAt b optionsFrom 2;
+      modules = rows (moduleAt b) moduleLength modulesMax modulesFrom;
     }
 
--- each flag is 0 or 1
-abbrev pub flagAt : List ℕ → ℕ → Bool
-flagAt b at = leb (wordAt b at) 1
-
-abbrev pub testFlags : List ℕ → ℕ → Bool
-testFlags b at = flagAt b at && flagAt b (at + 4)
+-- each flag is 0 or 1: the first two words of a test, and of the options
+abbrev pub flagsAt : List ℕ → ℕ → Bool
+flagsAt b at = leb (wordAt b at 0) 1 && leb (wordAt b at 1) 1
 
 unfoldable pub moduleFlags : List ℕ → ℕ → Bool
-moduleFlags b at = allOf (testFlags b) (places (λ p. p) testLength testsMax (at + 288))
+moduleFlags b at = allOf (flagsAt b) (rows (λ p. p) testLength testsMax (at + testsFrom))
 
 unfoldable pub socFlags : List ℕ → Bool
-socFlags b = flagAt b 36 && (flagAt b 40 && allOf (moduleFlags b) (places (λ p. p) moduleLength modulesMax modulesFrom))
+socFlags b = flagsAt b optionsFrom && allOf (moduleFlags b) (rows (λ p. p) moduleLength modulesMax modulesFrom)
 
 -- bytes of another length, or with another flag, are no record, and the record that says nothing stands for them: it is not good (14)
 unfoldable pub socIn : List ℕ → Soc

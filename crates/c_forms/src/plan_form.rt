@@ -1,33 +1,52 @@
 // A plan record put into a lent buffer as its bytes. Without the room nothing is put, and the answer is 0.
-use super::word::put_long;
-use super::word::put_word;
-use plan::Bus;
-use plan::BusPlan;
-use plan::PlacedModule;
-ghost use mathlib.Core.Path.{_≡_};
-ghost use Prim.Native.Nat.{_+_, _≤_};
+use super::word::LONG_BYTES;
+use super::word::WORD_BYTES;
+use super::word::put_words;
+use plan_record::BUS_PLACES;
+use plan_record::Bus;
+use plan_record::BusPlan;
+use plan_record::MODULE_PLACES;
+use plan_record::PlacedModule;
+ghost use Prim.Native.Nat.{_+_, _*_, _≤_};
 ghost use lib.ListN.{length};
-ghost use Rattle.buffer.specs.Puts.{Put, putFront, putCount};
-ghost use Rattle.plan_file.specs.Bytes.{each};
-ghost use Rattle.c_forms.specs.PlanForm.{planLength, busBytes, placedBytes, countBytes, planBytes};
+ghost use Rattle.buffer.specs.Rows.{each};
+ghost use Rattle.plan_record.specs.Record.{busPlaces, modulePlaces};
+ghost use Rattle.c_forms.specs.Words.{PutOf, PutFront};
+ghost use Rattle.c_forms.specs.PlanForm.{busStride, placedStride, busesFrom, planLength};
+ghost use Rattle.c_forms.specs.PlanForm.{busBytes, placedBytes, countBytes, planBytes};
 
-pub const PLAN_BYTES: usize = 300;
+// How many bytes a bus has.
+pub(crate) const BUS_STRIDE: usize = WORD_BYTES + LONG_BYTES;
+
+// In a planned module, where its cycles begin, and how many bytes it has.
+pub(crate) const CYCLES_FROM: usize = WORD_BYTES * 3;
+
+pub(crate) const PLACED_STRIDE: usize = CYCLES_FROM + LONG_BYTES;
+
+// In a record, where its time begins, its buses and its planned modules.
+pub(crate) const TIME_FROM: usize = WORD_BYTES * 4;
+
+pub(crate) const BUSES_FROM: usize = TIME_FROM + LONG_BYTES;
+
+pub(crate) const PLACED_FROM: usize = BUSES_FROM + BUS_STRIDE * BUS_PLACES;
+
+pub const PLAN_BYTES: usize = PLACED_FROM + PLACED_STRIDE * MODULE_PLACES;
 
 fn put_bus(buf: &mut [u8], at: usize, b: Bus) -> usize
-    requires { ⌜ at + 12 ≤ length (now buf) ⌝ }
-    ensures { λ r. ⌜ Put (busBytes b) at (now (buf .entry)) (now (buf .exit)) r × (length (busBytes b) ≡ 12) ⌝ }
+    requires { ⌜ at + busStride ≤ length (now buf) ⌝ }
+    ensures { λ r. ⌜ PutOf busStride (busBytes b) at (now (buf .entry)) (now (buf .exit)) r ⌝ }
 {
-    let a = put_word(&mut *buf, at, b.width.0 as u64);
-    put_long(&mut *buf, a, b.busy.0)
+    let a = buffer::put_u32(&mut *buf, at, b.width.0 as u64);
+    buffer::put_u64(&mut *buf, a, b.busy.0)
 }
 
 fn put_buses(buf: &mut [u8], at: usize, p: BusPlan) -> usize
-    requires { ⌜ at + 36 ≤ length (now buf) ⌝ }
-    ensures { λ r. ⌜ Put (each busBytes (p .buses)) at (now (buf .entry)) (now (buf .exit)) r × (length (each busBytes (p .buses)) ≡ 36) ⌝ }
+    requires { ⌜ at + busStride * busPlaces ≤ length (now buf) ⌝ }
+    ensures { λ r. ⌜ PutOf (busStride * busPlaces) (each busBytes (p .buses)) at (now (buf .entry)) (now (buf .exit)) r ⌝ }
 {
     let mut e = at;
     let mut i: usize = 0;
-    while i < 3 {
+    while i < BUS_PLACES {
         let b = p.buses[i];
         e = put_bus(&mut *buf, e, b);
         i += 1;
@@ -36,22 +55,21 @@ fn put_buses(buf: &mut [u8], at: usize, p: BusPlan) -> usize
 }
 
 fn put_placed(buf: &mut [u8], at: usize, m: PlacedModule) -> usize
-    requires { ⌜ at + 20 ≤ length (now buf) ⌝ }
-    ensures { λ r. ⌜ Put (placedBytes m) at (now (buf .entry)) (now (buf .exit)) r × (length (placedBytes m) ≡ 20) ⌝ }
+    requires { ⌜ at + placedStride ≤ length (now buf) ⌝ }
+    ensures { λ r. ⌜ PutOf placedStride (placedBytes m) at (now (buf .entry)) (now (buf .exit)) r ⌝ }
 {
-    let a = put_word(&mut *buf, at, m.number as u64);
-    let b = put_word(&mut *buf, a, m.bus as u64);
-    let c = put_word(&mut *buf, b, m.wires.0 as u64);
-    put_long(&mut *buf, c, m.cycles.0)
+    let w = [m.number as u64, m.bus as u64, m.wires.0 as u64];
+    let a = put_words(&mut *buf, at, &w);
+    buffer::put_u64(&mut *buf, a, m.cycles.0)
 }
 
 fn put_modules(buf: &mut [u8], at: usize, p: BusPlan) -> usize
-    requires { ⌜ at + 240 ≤ length (now buf) ⌝ }
-    ensures { λ r. ⌜ Put (each placedBytes (p .modules)) at (now (buf .entry)) (now (buf .exit)) r × (length (each placedBytes (p .modules)) ≡ 240) ⌝ }
+    requires { ⌜ at + placedStride * modulePlaces ≤ length (now buf) ⌝ }
+    ensures { λ r. ⌜ PutOf (placedStride * modulePlaces) (each placedBytes (p .modules)) at (now (buf .entry)) (now (buf .exit)) r ⌝ }
 {
     let mut e = at;
     let mut i: usize = 0;
-    while i < 12 {
+    while i < MODULE_PLACES {
         let m = p.modules[i];
         e = put_placed(&mut *buf, e, m);
         i += 1;
@@ -60,18 +78,21 @@ fn put_modules(buf: &mut [u8], at: usize, p: BusPlan) -> usize
 }
 
 fn put_counts(buf: &mut [u8], at: usize, p: BusPlan) -> usize
-    requires { ⌜ at + 24 ≤ length (now buf) ⌝ }
-    ensures { λ r. ⌜ Put (countBytes p) at (now (buf .entry)) (now (buf .exit)) r × (length (countBytes p) ≡ 24) ⌝ }
+    requires { ⌜ at + busesFrom ≤ length (now buf) ⌝ }
+    ensures { λ r. ⌜ PutOf busesFrom (countBytes p) at (now (buf .entry)) (now (buf .exit)) r ⌝ }
 {
-    let a = put_word(&mut *buf, at, p.wires.0 as u64);
-    let b = put_word(&mut *buf, a, p.limit as u64);
-    let c = put_word(&mut *buf, b, p.bus_count as u64);
-    let d = put_word(&mut *buf, c, p.module_count as u64);
-    put_long(&mut *buf, d, p.time.0)
+    let w = [
+        p.wires.0 as u64,
+        p.limit as u64,
+        p.bus_count as u64,
+        p.module_count as u64,
+    ];
+    let a = put_words(&mut *buf, at, &w);
+    buffer::put_u64(&mut *buf, a, p.time.0)
 }
 
 pub fn plan_bytes(p: BusPlan, buf: &mut [u8]) -> usize
-    ensures { λ r. ⌜ (r ≡ putCount (planBytes p) (now (buf .entry))) × (now (buf .exit) ≡ putFront (planBytes p) (now (buf .entry))) × (length (planBytes p) ≡ planLength) ⌝ }
+    ensures { λ r. ⌜ PutFront planLength (planBytes p) (now (buf .entry)) (now (buf .exit)) r ⌝ }
 {
     if buf.len() < PLAN_BYTES {
         return 0;

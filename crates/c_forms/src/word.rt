@@ -1,22 +1,20 @@
-// Numbers in bytes: read from a place on, and put at a place.
+// Words of records in bytes: read from a place on, and put at a place; signed numbers and flags in them.
 ghost use mathlib.Core.Path.{_≡_};
-ghost use Prim.Native.Nat.{_+_, _≤_, _<_};
+ghost use Prim.Native.Nat.{_+_, _*_, _≤_};
 ghost use lib.ListN.{length};
-ghost use Rattle.buffer.specs.Puts.{Put};
-ghost use Rattle.c_forms.specs.Words.{word, wordAt, long, longAt, signedWord, signedIn};
+ghost use Rattle.c_forms.specs.Words.{wordLength, wordAt, signedWord, signedIn, flagWord, PutWords};
 
-pub(crate) fn word_at(b: &[u8], at: usize) -> u32
-    requires { ⌜ at + 4 ≤ length (now b) ⌝ }
-    ensures { λ r. ⌜ r ≡ wordAt (now (b .entry)) at ⌝ }
-{
-    b[at] as u32 + 256 * (b[at + 1] as u32 + 256 * (b[at + 2] as u32 + 256 * b[at + 3] as u32))
-}
+// How many bytes a word has, and a long one.
+pub(crate) const WORD_BYTES: usize = 4;
 
-pub(crate) fn long_at(b: &[u8], at: usize) -> u64
-    requires { ⌜ at + 8 ≤ length (now b) ⌝ }
-    ensures { λ r. ⌜ r ≡ longAt (now (b .entry)) at ⌝ }
+pub(crate) const LONG_BYTES: usize = 8;
+
+// The i-th word of those from a place on.
+pub(crate) fn word_at(b: &[u8], at: usize, i: usize) -> u32
+    requires { ⌜ at + wordLength * i ≤ length (now b) ⌝ }
+    ensures { λ r. ⌜ r ≡ wordAt (now (b .entry)) at i ⌝ }
 {
-    word_at(b, at) as u64 + 4294967296 * word_at(b, at + 4) as u64
+    buffer::u32_at(b, at + WORD_BYTES * i)
 }
 
 pub(crate) fn signed_in(w: u32) -> i32
@@ -37,24 +35,22 @@ pub(crate) fn signed_word(z: i32) -> u64
     z as u64
 }
 
-// The lowest 4 bytes of v.
-pub(crate) fn put_word(buf: &mut [u8], at: usize, v: u64) -> usize
-    requires { ⌜ at + 4 ≤ length (now buf) ⌝ }
-    ensures { λ r. ⌜ Put (word v) at (now (buf .entry)) (now (buf .exit)) r ⌝ }
+pub(crate) fn flag_word(f: bool) -> u64
+    ensures { λ r. ⌜ r ≡ flagWord f ⌝ }
 {
-    let w = [
-        (v % 256) as u8,
-        (v / 256 % 256) as u8,
-        (v / 65536 % 256) as u8,
-        (v / 16777216 % 256) as u8,
-    ];
-    buffer::put_bytes(&mut *buf, at, &w)
+    if f { 1 } else { 0 }
 }
 
-pub(crate) fn put_long(buf: &mut [u8], at: usize, v: u64) -> usize
-    requires { ⌜ at + 8 ≤ length (now buf) ⌝ }
-    ensures { λ r. ⌜ Put (long v) at (now (buf .entry)) (now (buf .exit)) r ⌝ }
+// The lowest 4 bytes of each number.
+pub(crate) fn put_words(buf: &mut [u8], at: usize, list: &[u64]) -> usize
+    requires { ⌜ at + wordLength * length (now list) ≤ length (now buf) ⌝ }
+    ensures { λ r. ⌜ PutWords (now (list .entry)) at (now (buf .entry)) (now (buf .exit)) r ⌝ }
 {
-    let a = put_word(&mut *buf, at, v);
-    put_word(&mut *buf, a, v / 4294967296)
+    let mut e = at;
+    let mut i: usize = 0;
+    while i < list.len() {
+        e = buffer::put_u32(&mut *buf, e, list[i]);
+        i += 1;
+    }
+    e
 }

@@ -1,24 +1,21 @@
 -- `c_forms::plan_form::put_bus` meets its contract: busy is put behind the width. Assumes nothing.
 use borrow.Author.Needs.{needs}
 use native.Mathlib.Omega.{arith}
-use Prim.Native.Nat.{_≤_}
-use lib.ListN.{length}
-use Rattle.plan_file.specs.Bytes.{little}
+use Rattle.buffer.proofs.LittleLaws.{little-length}
+use Rattle.c_forms.specs.Words.{long}
 use Rattle.c_forms.specs.PlanForm.{busBytes}
-use Rattle.c_forms.proofs.FormLaws.{bus-length}
-use Rattle.buffer.proofs.PutLaws.{put-then}
+use Rattle.c_forms.proofs.PutOfLaws.{first-put, next-put}
 use Rattle.c_forms.proofs.plan_form.put_bus.Statement.{statement}
 use Rattle.c_forms.proofs.plan_form.put_bus.Tie as tie
 
-cast-put-word : tie.Need-cast-put-word
-cast-put-word c = search needs
+cast-put-u32 : tie.Need-cast-put-u32
+cast-put-u32 c = search needs
 
-put-word-requires : tie.Need-put-word-requires
-put-word-requires c κs = search needs
+put-u32-requires : tie.Need-put-u32-requires
+put-u32-requires c κs = search needs
 
-put-long-requires : tie.Need-put-long-requires
-unfolding little
-put-long-requires c κs = omega arith
+put-u64-requires : tie.Need-put-u64-requires
+put-u64-requires c κs = search needs
 
 same-length : tie.Need-same-length
 same-length c = search needs
@@ -29,15 +26,15 @@ returns c =
     let k2 = c .before .before in
     let k1 = k2 .before .before .before .before in
     let s = k1 .before .before .before .before in
-    let h : s .args .at ≤ length (s .args .buf .now) = omega (arith, s .pre) in
-    (put-then h (k1 .put-word .ensures) (k2 .put-long .ensures), bus-length (s .args .b))
+    let w = first-put (little-length _ _) (omega (arith, s .pre)) (k1 .put-u32 .ensures) in
+    next-put (long (s .args .b .busy .0)) (little-length _ _) (s .pre) w (k2 .put-u64 .ensures)
 
 pub put-bus-spec : {M : Type 1} → statement M
 put-bus-spec =
     tie.close
     (tie.spec
-    cast-put-word
-    put-word-requires
-    put-long-requires
+    cast-put-u32
+    put-u32-requires
+    put-u64-requires
     same-length
     returns)

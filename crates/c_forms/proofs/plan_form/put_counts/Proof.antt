@@ -1,39 +1,26 @@
--- `c_forms::plan_form::put_counts` meets its contract: each figure is put behind the one before it. Assumes nothing.
+-- `c_forms::plan_form::put_counts` meets its contract: the time is put behind the other figures. Assumes nothing.
 use borrow.Author.Needs.{needs}
-use native.Mathlib.Omega.{arith}
-use Prim.Native.Nat.{_≤_}
-use lib.ListN.{length}
-use Rattle.plan_file.specs.Bytes.{little}
+use Rattle.buffer.proofs.LittleLaws.{little-length}
+use Rattle.c_forms.specs.Words.{long}
 use Rattle.c_forms.specs.PlanForm.{countBytes}
-use Rattle.c_forms.proofs.FormLaws.{count-length}
-use Rattle.buffer.proofs.PutLaws.{put-then}
+use Rattle.c_forms.proofs.PutOfLaws.{next-put}
 use Rattle.c_forms.proofs.plan_form.put_counts.Statement.{statement}
 use Rattle.c_forms.proofs.plan_form.put_counts.Tie as tie
 
-cast-put-word : tie.Need-cast-put-word
-cast-put-word c = search needs
+cast-t6 : tie.Need-cast-t6
+cast-t6 c = search needs
 
-put-word-requires : tie.Need-put-word-requires
-put-word-requires c κs = search needs
+cast-t7 : tie.Need-cast-t7
+cast-t7 c = search needs
 
-cast-put-word-2 : tie.Need-cast-put-word-2
-cast-put-word-2 c = search needs
+slice-aggregate-put-words : tie.Need-slice-aggregate-put-words
+slice-aggregate-put-words c = search needs
 
-put-word-requires-2 : tie.Need-put-word-requires-2
-unfolding little
-put-word-requires-2 c κs = omega arith
+put-words-requires : tie.Need-put-words-requires
+put-words-requires c κs = search needs
 
-put-word-requires-3 : tie.Need-put-word-requires-3
-unfolding little
-put-word-requires-3 c κs = omega arith
-
-put-word-requires-4 : tie.Need-put-word-requires-4
-unfolding little
-put-word-requires-4 c κs = omega arith
-
-put-long-requires : tie.Need-put-long-requires
-unfolding little
-put-long-requires c κs = omega arith
+put-u64-requires : tie.Need-put-u64-requires
+put-u64-requires c κs = search needs
 
 same-length : tie.Need-same-length
 same-length c = search needs
@@ -41,25 +28,19 @@ same-length c = search needs
 returns : tie.Need-returns
 unfolding countBytes
 returns c =
-    let k5 = c .before .before in
-    let k4 = k5 .before .before .before .before in
-    let k3 = k4 .before .before .before .before in
-    let k2 = k3 .before .before .before .before in
-    let k1 = k2 .before .before .before .before .before in
-    let s = k1 .before .before .before .before in
-    let h : s .args .at ≤ length (s .args .buf .now) = omega (arith, s .pre) in
-    (put-then h (put-then h (put-then h (put-then h (k1 .put-word .ensures) (k2 .put-word2 .ensures)) (k3 .put-word3 .ensures)) (k4 .put-word4 .ensures)) (k5 .put-long .ensures), count-length (s .args .p))
+    let k2 = c .before .before in
+    let k1 = k2 .before .before .before .before in
+    let s = k1 .before .before .before .before .before .before in
+    next-put (long (s .args .p .time .0)) (little-length _ _) (s .pre) (k1 .put-words .ensures) (k2 .put-u64 .ensures)
 
 pub put-counts-spec : {M : Type 1} → statement M
 put-counts-spec =
     tie.close
     (tie.spec
-    cast-put-word
-    put-word-requires
-    cast-put-word-2
-    put-word-requires-2
-    put-word-requires-3
-    put-word-requires-4
-    put-long-requires
+    cast-t6
+    cast-t7
+    slice-aggregate-put-words
+    put-words-requires
+    put-u64-requires
     same-length
     returns)

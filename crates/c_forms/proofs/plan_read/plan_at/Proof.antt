@@ -28,8 +28,8 @@ cast-t9 c = search needs
 modules-at-requires : tie.Need-modules-at-requires
 modules-at-requires c κs = search needs
 
-long-at-requires : tie.Need-long-at-requires
-long-at-requires c κs = search needs
+u64-at-requires : tie.Need-u64-at-requires
+u64-at-requires c κs = search needs
 
 returns : tie.Need-returns
 unfolding planAt
@@ -44,7 +44,7 @@ returns c =
       d .buses-at .ensures,
       m .before .word-at4 .ensures,
       m .modules-at .ensures,
-      c .long-at .ensures,
+      c .u64-at .ensures,
     )
 
 pub plan-at-spec : {M : Type 1} → statement M
@@ -59,5 +59,5 @@ plan-at-spec =
     word-at-requires-4
     cast-t9
     modules-at-requires
-    long-at-requires
+    u64-at-requires
     returns)

@@ -1,30 +1,40 @@
--- `c_forms::soc_form::put_head` meets its contract: each part is put behind the one before it, and the name has 32 bytes. Assumes nothing.
+-- `c_forms::soc_form::put_head` meets its contract: each part is put behind the one before it, and the name has all its bytes. Assumes
+-- nothing.
 use borrow.Author.Needs.{needs}
 use native.Mathlib.Omega.{arith}
-use Prim.Native.Nat.{_≤_}
 use mathlib.Core.Path.{_≡_}
+use mathlib.Core.List.{_++_}
 use lib.ListN.{length, length-map}
-use Rattle.buffer.specs.Puts.{Put}
-use Rattle.plan_file.specs.Bytes.{little}
-use Rattle.c_forms.specs.SocForm.{headBytes}
-use Rattle.c_forms.proofs.FormLaws.{head-length}
-use Rattle.buffer.proofs.PutLaws.{put-is, put-then}
+use Rattle.buffer.proofs.LittleLaws.{little-length}
+use Rattle.fields.specs.Names.{nameMax}
+use Rattle.c_forms.specs.Words.{word, PutOf}
+use Rattle.c_forms.specs.SocForm.{optionsFrom, headBytes}
+use Rattle.c_forms.proofs.PutOfLaws.{first-put, next-put, then-put}
 use Rattle.c_forms.proofs.soc_form.put_head.Statement.{statement}
 use Rattle.c_forms.proofs.soc_form.put_head.Tie as tie
 
-len : (s : tie.Start) → length (s .args .s .name) ≡ 32
+len : (s : tie.Start) → length (s .args .s .name) ≡ nameMax
 len s = simp length-map at (s .good .1 .1 .0 .1 .1 .1 .0 .1 .0 .1)
 
--- the name is put whole
-named : (k : tie.After-put-bytes) → let a = k .before .before .before .before .before in
-    Put (a .before .before .before .before .args .s .name) (a .put-word .result) (a .put-word .last .0) (k .put-bytes .last .0) (k .put-bytes .result)
-unfolding little
+-- the length of the name, and the name
+named : (k : tie.After-put-bytes) →
+    let s = k .before .before .before .before .before .before .before .before .before .before .before in
+    PutOf optionsFrom (word (s .args .s .«name_len») ++ s .args .s .name) (s .args .at) (s .args .buf .now) (k .put-bytes .last .0)
+    (k .put-bytes .result)
 named k =
     let a = k .before .before .before .before .before in
-    put-is (omega (arith, len (a .before .before .before .before), a .put-word .ensures .behind)) (k .put-bytes .ensures)
+    let s = a .before .before .before .before .before .before in
+    next-put (s .args .s .name) (len s) (omega (arith, s .pre))
+    (first-put (little-length _ _) (omega (arith, s .pre)) (a .put-u32 .ensures)) (k .put-bytes .ensures)
 
-put-word-requires : tie.Need-put-word-requires
-put-word-requires c κs = search needs
+flag-word-requires : tie.Need-flag-word-requires
+flag-word-requires c κs = search needs
+
+flag-word-requires-2 : tie.Need-flag-word-requires-2
+flag-word-requires-2 c κs = search needs
+
+put-u32-requires : tie.Need-put-u32-requires
+put-u32-requires c κs = search needs
 
 slice-aggregate-put-bytes : tie.Need-slice-aggregate-put-bytes
 slice-aggregate-put-bytes c = search needs
@@ -32,26 +42,15 @@ slice-aggregate-put-bytes c = search needs
 put-bytes-requires : tie.Need-put-bytes-requires
 put-bytes-requires c κs = search needs
 
-put-flag-requires : tie.Need-put-flag-requires
-unfolding little
-put-flag-requires c κs =
-    let k = c .before .before .before in
-    let a = k .before .before .before .before .before in
-    omega (arith, named k .behind, len (a .before .before .before .before))
+slice-aggregate-put-words : tie.Need-slice-aggregate-put-words
+slice-aggregate-put-words c = search needs
 
-put-flag-requires-2 : tie.Need-put-flag-requires-2
-unfolding little
-put-flag-requires-2 c κs =
-    let k = c .before .before .before .before .before .before .before in
-    let a = k .before .before .before .before .before in
-    omega (arith, named k .behind, len (a .before .before .before .before))
-
-put-word-requires-2 : tie.Need-put-word-requires-2
-unfolding little
-put-word-requires-2 c κs =
-    let k = c .before .before .before .before .before .before .before .before .before .before .before in
-    let a = k .before .before .before .before .before in
-    omega (arith, named k .behind, len (a .before .before .before .before))
+put-words-requires : tie.Need-put-words-requires
+put-words-requires c κs =
+    let k = c .before .before .before .before in
+    let n = named k in
+    let s = k .before .before .before .before .before .before .before .before .before .before .before in
+    omega (arith, n .put .behind, n .long, s .pre, k .put-bytes .kept .0, k .before .before .before .before .before .put-u32 .kept .0)
 
 same-length : tie.Need-same-length
 same-length c = search needs
@@ -59,24 +58,23 @@ same-length c = search needs
 returns : tie.Need-returns
 unfolding headBytes
 returns c =
-    let k5 = c .before .before in
-    let k4 = k5 .before .before .before .before in
-    let k3 = k4 .before .before .before .before in
-    let k2 = k3 .before .before .before .before in
-    let k1 = k2 .before .before .before .before .before in
-    let s = k1 .before .before .before .before in
-    let h : s .args .at ≤ length (s .args .buf .now) = omega (arith, s .pre) in
-    (put-then h (put-then h (put-then h (put-then h (k1 .put-word .ensures) (named k2)) (k3 .put-flag .ensures)) (k4 .put-flag2 .ensures)) (k5 .put-word2 .ensures), head-length (s .args .s) (len s))
+    let k = c .before .before in
+    let n = k .before .before .before .before .before in
+    let f = n .before .before .before .before .before .before .before in
+    let s = f .before .before .before .before in
+    let o = rw (f .before .flag-word .ensures, f .flag-word2 .ensures) at (k .put-words .ensures) in
+    then-put (omega (arith, s .pre)) (named n) o
 
 pub put-head-spec : {M : Type 1} → statement M
 put-head-spec =
     tie.close
     (tie.spec
-    put-word-requires
+    flag-word-requires
+    flag-word-requires-2
+    put-u32-requires
     slice-aggregate-put-bytes
     put-bytes-requires
-    put-flag-requires
-    put-flag-requires-2
-    put-word-requires-2
+    slice-aggregate-put-words
+    put-words-requires
     same-length
     returns)

@@ -1,28 +1,30 @@
--- `c_forms::soc_form::put_lengths` meets its contract. The loop's invariant: the first `i` lengths are put. The measure is what is left of them.
--- Assumes nothing.
+-- `c_forms::soc_form::put_lengths` meets its contract. The loop's invariant: the first `i` lengths are put. The measure is what is left
+-- of them. Assumes nothing.
 use borrow.Author.Needs.{needs}
 use native.Mathlib.Omega.{arith}
 use Prim.Native.Nat.{_-_, _≤_}
-use mathlib.Core.Path.{_≡_}
+use mathlib.Core.Path.{_≡_, refl}
 use lib.ListN.{length}
+use Rattle.buffer.proofs.RowLaws.{Run, run-none}
+use Rattle.soc.specs.Limits.{chainsMax}
 use Rattle.soc.specs.Record.{flipFlops}
+use Rattle.c_forms.specs.Words.{wordLength}
 use Rattle.c_forms.specs.SocForm.{lengthBytes}
-use Rattle.c_forms.proofs.FormLaws.{word-length}
-use Rattle.c_forms.proofs.EachLaws.{Run, run-none, run-more, run-all}
+use Rattle.c_forms.proofs.PutOfLaws.{run-word, run-put}
 use Rattle.c_forms.proofs.soc_form.put_lengths.Statement.{statement}
 use Rattle.c_forms.proofs.soc_form.put_lengths.Tie as tie
 
 abbrev Inv-loop : tie.InvT-loop
-Inv-loop buf₀ at list e₀ i₀ buf e i = (i ≤ 64) × Run lengthBytes 4 list at buf₀ i buf e
+Inv-loop buf₀ at list e₀ i₀ buf e i = (i ≤ chainsMax) × Run lengthBytes wordLength list at buf₀ i buf e
 
 abbrev μ-loop : tie.MeasureT-loop
-μ-loop buf₀ at list e₀ i₀ buf e i = 64 - i
+μ-loop buf₀ at list e₀ i₀ buf e i = chainsMax - i
 
-len : (s : tie.Start Inv-loop μ-loop) → length (s .args .t3) ≡ 64
+len : (s : tie.Start Inv-loop μ-loop) → length (s .args .t3) ≡ chainsMax
 len s = search needs
 
 loop-holds : tie.Need-loop-holds Inv-loop μ-loop
-loop-holds c = (omega arith, run-none lengthBytes 4 _ _ _)
+loop-holds c = (omega arith, run-none lengthBytes wordLength _ _ _)
 
 mul-f : tie.Need-mul-f Inv-loop μ-loop
 mul-f c = search needs
@@ -30,11 +32,11 @@ mul-f c = search needs
 array-copy-out-f : tie.Need-array-copy-out-f Inv-loop μ-loop
 array-copy-out-f c = search needs
 
-cast-put-word : tie.Need-cast-put-word Inv-loop μ-loop
-cast-put-word c = search needs
+cast-put-u32 : tie.Need-cast-put-u32 Inv-loop μ-loop
+cast-put-u32 c = search needs
 
-put-word-requires : tie.Need-put-word-requires Inv-loop μ-loop
-put-word-requires c κs = let l = c .before .before .before .before in omega (arith, l .loop .inv .1 .behind, l .loop .inv .1 .kept, l .before .before .pre)
+put-u32-requires : tie.Need-put-u32-requires Inv-loop μ-loop
+put-u32-requires c κs = search needs
 
 add-i : tie.Need-add-i Inv-loop μ-loop
 add-i c = search needs
@@ -47,14 +49,17 @@ unfolding lengthBytes
 loop-again c =
     let k = c .before .before in
     let l = k .before .before .before .before .before in
-    let s = l .before .before in
-    (omega arith, run-more lengthBytes 4 (s .args .t3) (flipFlops 0) (omega (arith, len s)) (omega (arith, s .pre)) (l .loop .inv .1) (k .put-word .kept .0) (word-length _) (k .put-word .ensures))
+    let s = l .before .before in (
+      omega arith,
+      run-word lengthBytes (s .args .t3) _ (flipFlops 0) refl (omega (arith, len s)) (omega (arith, len s, s .pre))
+          (l .loop .inv .1) (k .put-u32 .ensures),
+    )
 
 same-length : tie.Need-same-length Inv-loop μ-loop
 same-length c = c .before .loop .inv .1 .kept
 
 returns : tie.Need-returns Inv-loop μ-loop
-returns c = let l = c .before in run-all lengthBytes 4 _ 64 (len (l .before .before)) (omega arith) (l .loop .inv .1)
+returns c = let l = c .before in run-put lengthBytes wordLength _ chainsMax (len (l .before .before)) (omega arith) (l .loop .inv .1)
 
 pub put-lengths-spec : {M : Type 1} → statement M
 put-lengths-spec =
@@ -65,8 +70,8 @@ put-lengths-spec =
     loop-holds
     mul-f
     array-copy-out-f
-    cast-put-word
-    put-word-requires
+    cast-put-u32
+    put-u32-requires
     add-i
     loop-less
     loop-again

@@ -1,36 +1,27 @@
--- `c_forms::soc_form::put_test` meets its contract: each word is put behind the one before it. Assumes nothing.
+-- `c_forms::soc_form::put_test` meets its contract: its words are those of `testWords`, in order. Assumes nothing.
 use borrow.Author.Needs.{needs}
-use native.Mathlib.Omega.{arith}
-use Prim.Native.Nat.{_≤_}
-use mathlib.Core.Path.{_≡_}
-use lib.ListN.{length}
-use mir.Syntax.{w32}
-use mir.Val.{toZ, ofZ}
-use Rattle.plan_file.specs.Bytes.{little}
 use Rattle.soc.proofs.FigureLaws.{figure-back}
 use Rattle.c_forms.specs.SocForm.{testBytes}
-use Rattle.c_forms.proofs.FormLaws.{test-length}
-use Rattle.buffer.proofs.PutLaws.{put-then}
 use Rattle.c_forms.proofs.soc_form.put_test.Statement.{statement}
 use Rattle.c_forms.proofs.soc_form.put_test.Tie as tie
 
-put-flag-requires : tie.Need-put-flag-requires
-put-flag-requires c κs = search needs
+flag-word-requires : tie.Need-flag-word-requires
+flag-word-requires c κs = search needs
 
-put-flag-requires-2 : tie.Need-put-flag-requires-2
-unfolding little
-put-flag-requires-2 c κs = omega arith
+flag-word-requires-2 : tie.Need-flag-word-requires-2
+flag-word-requires-2 c κs = search needs
 
-cast-put-word : tie.Need-cast-put-word
-cast-put-word c = search needs
+cast-t7 : tie.Need-cast-t7
+cast-t7 c = search needs
 
-put-word-requires : tie.Need-put-word-requires
-unfolding little
-put-word-requires c κs = omega arith
+signed-word-requires : tie.Need-signed-word-requires
+signed-word-requires c κs = search needs
 
-put-signed-requires : tie.Need-put-signed-requires
-unfolding little
-put-signed-requires c κs = omega arith
+slice-aggregate-put-words : tie.Need-slice-aggregate-put-words
+slice-aggregate-put-words c = search needs
+
+put-words-requires : tie.Need-put-words-requires
+put-words-requires c κs = search needs
 
 same-length : tie.Need-same-length
 same-length c = search needs
@@ -38,23 +29,26 @@ same-length c = search needs
 returns : tie.Need-returns
 unfolding testBytes
 returns c =
-    let k4 = c .before .before in
-    let k3 = k4 .before .before .before .before .before in
-    let k2 = k3 .before .before .before .before .before in
-    let k1 = k2 .before .before .before .before in
-    let s = k1 .before .before .before in
-    let z : toZ w32 (ofZ w32 (s .args .t .power)) ≡ s .args .t .power = figure-back (s .args .t .power) (record { sfits = k4 .before .struct-told .given .1 .1 .1 .0 .1 }) in
-    let h : s .args .at ≤ length (s .args .buf .now) = omega (arith, s .pre) in
-    (put-then h (put-then h (put-then h (k1 .put-flag .ensures) (k2 .put-flag2 .ensures)) (k3 .put-word .ensures)) (rw z at (k4 .put-signed .ensures)), test-length (s .args .t))
+    let k = c .before .before in
+    let g = k .before .before .before in
+    let f = g .before .before .before in
+    let t = f .before .before .before .args .t in
+    rw (
+      f .before .flag-word .ensures,
+      f .flag-word2 .ensures,
+      g .signed-word .ensures,
+      figure-back (t .power) (record { sfits = g .before .struct-told .given .1 .1 .1 .0 .1 }),
+    ) at (k .put-words .ensures)
 
 pub put-test-spec : {M : Type 1} → statement M
 put-test-spec =
     tie.close
     (tie.spec
-    put-flag-requires
-    put-flag-requires-2
-    cast-put-word
-    put-word-requires
-    put-signed-requires
+    flag-word-requires
+    flag-word-requires-2
+    cast-t7
+    signed-word-requires
+    slice-aggregate-put-words
+    put-words-requires
     same-length
     returns)

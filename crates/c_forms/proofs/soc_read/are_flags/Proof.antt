@@ -1,108 +1,27 @@
--- `c_forms::soc_read::are_flags` meets its contract: its tests are those of `socFlags`, in order. The loop's invariant: all flags are good
--- where those of the modules from the i-th on are. The measure is what is left of the modules. Assumes nothing.
+-- `c_forms::soc_read::are_flags` meets its contract: its tests are those of `flagsAt`, in order. Assumes nothing.
 use borrow.Author.Needs.{needs}
-use borrow.Author.Tests.{lt-leb, le-leb, not-true, not-false}
-use native.Mathlib.Omega.{arith}
-use Prim.Native.Nat.{_+_, _-_, _*_, _≤_}
-use mathlib.Core.Path.{_≡_, sym, _∙_}
-use mathlib.Core.Bool.{true}
-use Rattle.soc.specs.Limits.{modulesMax}
-use Rattle.units.specs.Places.{allOf}
+use borrow.Author.Tests.{lt-leb, le-leb}
+use mathlib.Core.Path.{sym}
 use Rattle.units.proofs.TestLaws.{and-stops, and-goes}
-use Rattle.c_forms.specs.Words.{places}
-use Rattle.c_forms.specs.SocForm.{moduleLength, modulesFrom, flagAt, moduleFlags, socFlags}
-use Rattle.c_forms.proofs.PlaceLaws.{all-places-step, all-places-fails, all-places-end}
 use Rattle.c_forms.proofs.soc_read.are_flags.Statement.{statement}
 use Rattle.c_forms.proofs.soc_read.are_flags.Tie as tie
 
-abbrev Inv-loop : tie.InvT-loop
-Inv-loop b i₀ i =
-    (i ≤ modulesMax) × (socFlags b ≡ allOf (moduleFlags b) (places (λ p. p) moduleLength (modulesMax - i) (modulesFrom + moduleLength * i)))
-
-abbrev μ-loop : tie.MeasureT-loop
-μ-loop b i₀ i = modulesMax - i
-
-word-at-requires : tie.Need-word-at-requires Inv-loop μ-loop
+word-at-requires : tie.Need-word-at-requires
 word-at-requires c κs = search needs
 
-returns : tie.Need-returns Inv-loop μ-loop
-unfolding socFlags
+returns : tie.Need-returns
 returns c =
     let w = c .before .word-at in
     sym (and-stops _ _ (rw (w .ensures) at (lt-leb (w .result) 1 (c .if1 .taken))))
 
--- the first flag is good
-power : (c : tie.Else1 Inv-loop μ-loop) → flagAt (c .before .before .before .args .b .now) 36 ≡ true
-power c = let w = c .before .word-at in rw (w .ensures) at (le-leb (w .result) 1 (c .if1 .left))
-
-word-at-requires-2 : tie.Need-word-at-requires-2 Inv-loop μ-loop
+word-at-requires-2 : tie.Need-word-at-requires-2
 word-at-requires-2 c κs = search needs
 
-returns-2 : tie.Need-returns-2 Inv-loop μ-loop
-unfolding socFlags
+returns-2 : tie.Need-returns-2
 returns-2 c =
-    let w = c .before .word-at2 in
-    sym (and-goes _ _ (power (c .before .before)) ∙ and-stops _ _ (rw (w .ensures) at (lt-leb (w .result) 1 (c .if2 .taken))))
-
-loop-holds : tie.Need-loop-holds Inv-loop μ-loop
-unfolding socFlags
-loop-holds c =
-    let w = c .before .word-at2 in
-    (omega arith, and-goes _ _ (power (c .before .before)) ∙ and-goes _ _ (rw (w .ensures) at (le-leb (w .result) 1 (c .if2 .left))))
-
-mul-are-module-flags : tie.Need-mul-are-module-flags Inv-loop μ-loop
-mul-are-module-flags c = search needs
-
-add-are-module-flags : tie.Need-add-are-module-flags Inv-loop μ-loop
-add-are-module-flags c = search needs
-
-are-module-flags-requires : tie.Need-are-module-flags-requires Inv-loop μ-loop
-are-module-flags-requires c κs = search needs
-
-returns-3 : tie.Need-returns-3 Inv-loop μ-loop
-returns-3 c =
-    let l = c .before .before .before in
-    let b = l .before .before .before .before .before .before .args .b .now in
-    sym (l .loop .inv .1
-    ∙ all-places-fails (moduleFlags b) moduleLength modulesMax (l .loop .i) modulesFrom (omega arith) (sym (c .before .are-module-flags .ensures) ∙ not-true _ (c .if3 .taken)))
-
-add-i : tie.Need-add-i Inv-loop μ-loop
-add-i c = search needs
-
-loop-less : tie.Need-loop-less Inv-loop μ-loop
-loop-less c = search needs
-
-loop-again : tie.Need-loop-again Inv-loop μ-loop
-loop-again c =
-    let l = c .before .before .before in
-    let b = l .before .before .before .before .before .before .args .b .now in (
-      omega arith,
-      l .loop .inv .1
-          ∙ all-places-step (moduleFlags b) moduleLength modulesMax (l .loop .i) modulesFrom (omega arith) (sym (c .before .are-module-flags .ensures) ∙ not-false _ (c .if3 .left)),
-    )
-
-returns-4 : tie.Need-returns-4 Inv-loop μ-loop
-returns-4 c =
-    let l = c .before in
-    let b = l .before .before .before .before .before .before .args .b .now in
-    sym (l .loop .inv .1 ∙ all-places-end (moduleFlags b) moduleLength modulesMax (l .loop .i) _ (omega arith))
+    let e = c .before in
+    let w = e .before .word-at in
+    rw (c .word-at2 .ensures) (sym (and-goes _ _ (rw (w .ensures) at (le-leb (w .result) 1 (e .if1 .left)))))
 
 pub are-flags-spec : {M : Type 1} → statement M
-are-flags-spec =
-    tie.close
-    (tie.spec
-    Inv-loop
-    μ-loop
-    word-at-requires
-    returns
-    word-at-requires-2
-    returns-2
-    loop-holds
-    mul-are-module-flags
-    add-are-module-flags
-    are-module-flags-requires
-    returns-3
-    add-i
-    loop-less
-    loop-again
-    returns-4)
+are-flags-spec = tie.close (tie.spec word-at-requires returns word-at-requires-2 returns-2)

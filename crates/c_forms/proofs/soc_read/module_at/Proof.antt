@@ -4,35 +4,26 @@ use Rattle.soc.proofs.FigureLaws.{figure-back}
 use Rattle.c_forms.proofs.soc_read.module_at.Statement.{statement}
 use Rattle.c_forms.proofs.soc_read.module_at.Tie as tie
 
+add-position : tie.Need-add-position
+add-position c = search needs
+
 word-at-requires : tie.Need-word-at-requires
 word-at-requires c κs = search needs
-
-add-word-at : tie.Need-add-word-at
-add-word-at c = search needs
 
 word-at-requires-2 : tie.Need-word-at-requires-2
 word-at-requires-2 c κs = search needs
 
-add-word-at-2 : tie.Need-add-word-at-2
-add-word-at-2 c = search needs
-
 word-at-requires-3 : tie.Need-word-at-requires-3
 word-at-requires-3 c κs = search needs
-
-add-word-at-3 : tie.Need-add-word-at-3
-add-word-at-3 c = search needs
 
 word-at-requires-4 : tie.Need-word-at-requires-4
 word-at-requires-4 c κs = search needs
 
-add-word-at-4 : tie.Need-add-word-at-4
-add-word-at-4 c = search needs
-
 word-at-requires-5 : tie.Need-word-at-requires-5
 word-at-requires-5 c κs = search needs
 
-cast-t12 : tie.Need-cast-t12
-cast-t12 c = search needs
+cast-t9 : tie.Need-cast-t9
+cast-t9 c = search needs
 
 add-lengths-at : tie.Need-add-lengths-at
 add-lengths-at c = search needs
@@ -40,17 +31,11 @@ add-lengths-at c = search needs
 lengths-at-requires : tie.Need-lengths-at-requires
 lengths-at-requires c κs = search needs
 
-add-word-at-5 : tie.Need-add-word-at-5
-add-word-at-5 c = search needs
-
 word-at-requires-6 : tie.Need-word-at-requires-6
 word-at-requires-6 c κs = search needs
 
 signed-in-requires : tie.Need-signed-in-requires
 signed-in-requires c κs = search needs
-
-add-word-at-6 : tie.Need-add-word-at-6
-add-word-at-6 c = search needs
 
 word-at-requires-7 : tie.Need-word-at-requires-7
 word-at-requires-7 c κs = search needs
@@ -58,14 +43,11 @@ word-at-requires-7 c κs = search needs
 signed-in-requires-2 : tie.Need-signed-in-requires-2
 signed-in-requires-2 c κs = search needs
 
-add-word-at-7 : tie.Need-add-word-at-7
-add-word-at-7 c = search needs
-
 word-at-requires-8 : tie.Need-word-at-requires-8
 word-at-requires-8 c κs = search needs
 
-cast-t23 : tie.Need-cast-t23
-cast-t23 c = search needs
+cast-t17 : tie.Need-cast-t17
+cast-t17 c = search needs
 
 add-tests-at : tie.Need-add-tests-at
 add-tests-at c = search needs
@@ -100,27 +82,21 @@ pub module-at-spec : {M : Type 1} → statement M
 module-at-spec =
     tie.close
     (tie.spec
+    add-position
     word-at-requires
-    add-word-at
     word-at-requires-2
-    add-word-at-2
     word-at-requires-3
-    add-word-at-3
     word-at-requires-4
-    add-word-at-4
     word-at-requires-5
-    cast-t12
+    cast-t9
     add-lengths-at
     lengths-at-requires
-    add-word-at-5
     word-at-requires-6
     signed-in-requires
-    add-word-at-6
     word-at-requires-7
     signed-in-requires-2
-    add-word-at-7
     word-at-requires-8
-    cast-t23
+    cast-t17
     add-tests-at
     tests-at-requires
     returns)

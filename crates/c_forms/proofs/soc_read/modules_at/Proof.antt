@@ -1,20 +1,20 @@
--- `c_forms::soc_read::modules_at` meets its contract. The loop's invariant: the array holds what is read at the first i places. The measure
--- is what is left of the array. Assumes nothing.
+-- `c_forms::soc_read::modules_at` meets its contract. The loop's invariant: the array holds what is read at the first i places. The
+-- measure is what is left of the array. Assumes nothing.
 use borrow.Author.Needs.{needs}
 use native.Mathlib.Omega.{arith}
 use Prim.Native.Nat.{_-_, _≤_}
 use mathlib.Core.Path.{_≡_, _∙_}
 use Rattle.units.specs.Places.{padded}
+use Rattle.buffer.specs.Rows.{rows}
+use Rattle.buffer.proofs.RowLaws.{filled-none, filled-step, filled-end}
 use Rattle.soc.specs.Limits.{modulesMax}
 use Rattle.soc.specs.Record.{noModule}
-use Rattle.c_forms.specs.Words.{places}
 use Rattle.c_forms.specs.SocForm.{moduleLength, modulesFrom, moduleAt}
-use Rattle.c_forms.proofs.PlaceLaws.{filled-none, filled-step, filled-end}
 use Rattle.c_forms.proofs.soc_read.modules_at.Statement.{statement}
 use Rattle.c_forms.proofs.soc_read.modules_at.Tie as tie
 
 abbrev Inv-loop : tie.InvT-loop
-Inv-loop b list₀ i₀ list i = (i ≤ modulesMax) × (list ≡ padded modulesMax noModule (places (moduleAt b) moduleLength i modulesFrom))
+Inv-loop b list₀ i₀ list i = (i ≤ modulesMax) × (list ≡ padded modulesMax noModule (rows (moduleAt b) moduleLength i modulesFrom))
 
 abbrev μ-loop : tie.MeasureT-loop
 μ-loop b list₀ i₀ list i = modulesMax - i
@@ -23,8 +23,11 @@ no-module-requires : tie.Need-no-module-requires Inv-loop μ-loop
 no-module-requires c κs = search needs
 
 loop-holds : tie.Need-loop-holds Inv-loop μ-loop
-loop-holds c =
-    (omega arith, rw (c .no-module .ensures) (filled-none modulesMax noModule (moduleAt (c .before .before .args .b .now)) moduleLength modulesFrom))
+loop-holds c = (
+  omega arith,
+  rw (c .no-module .ensures) (filled-none modulesMax noModule
+      (moduleAt (c .before .before .args .b .now)) moduleLength modulesFrom),
+)
 
 mul-module-at : tie.Need-mul-module-at Inv-loop μ-loop
 mul-module-at c = search needs
@@ -50,16 +53,17 @@ loop-less c = search needs
 loop-again : tie.Need-loop-again Inv-loop μ-loop
 loop-again c =
     let l = c .before .before in
-    let b = l .before .before .before .args .b .now in (
+    let s = l .before .before .before in (
       omega arith,
-      rw (l .loop .inv .1) (filled-step modulesMax noModule _ (moduleAt b) moduleLength (l .loop .i) modulesFrom (omega arith) (c .module-at .ensures)),
+      rw (l .loop .inv .1) (filled-step modulesMax noModule _ (moduleAt (s .args .b .now)) moduleLength (l .loop .i) modulesFrom
+          (omega arith) (c .module-at .ensures)),
     )
 
 returns : tie.Need-returns Inv-loop μ-loop
 returns c =
     let l = c .before in
-    let b = l .before .before .before .args .b .now in
-    l .loop .inv .1 ∙ filled-end modulesMax noModule (moduleAt b) moduleLength (l .loop .i) modulesFrom (omega arith)
+    let s = l .before .before .before in
+    l .loop .inv .1 ∙ filled-end modulesMax noModule (moduleAt (s .args .b .now)) moduleLength (l .loop .i) modulesFrom (omega arith)
 
 pub modules-at-spec : {M : Type 1} → statement M
 modules-at-spec =

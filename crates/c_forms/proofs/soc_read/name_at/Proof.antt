@@ -4,22 +4,23 @@ use borrow.Author.Needs.{needs}
 use native.Mathlib.Omega.{arith}
 use Prim.Native.Nat.{_+_, _-_, _*_, _≤_}
 use mathlib.Core.Path.{_≡_, ap, _∙_}
-use Rattle.fields.specs.Names.{nameMax}
 use Rattle.units.specs.Places.{padded}
-use Rattle.plan_file.specs.Files.{byte}
-use Rattle.c_forms.specs.Words.{places}
-use Rattle.c_forms.proofs.PlaceLaws.{filled-none, filled-step, filled-end, places-bytes}
+use Rattle.buffer.specs.Little.{byte}
+use Rattle.buffer.specs.Rows.{rows}
+use Rattle.buffer.proofs.RowLaws.{filled-none, filled-step, filled-end, rows-bytes}
+use Rattle.fields.specs.Names.{nameMax}
+use Rattle.c_forms.specs.Words.{wordLength}
 use Rattle.c_forms.proofs.soc_read.name_at.Statement.{statement}
 use Rattle.c_forms.proofs.soc_read.name_at.Tie as tie
 
 abbrev Inv-loop : tie.InvT-loop
-Inv-loop b name₀ i₀ name i = (i ≤ nameMax) × (name ≡ padded nameMax 0 (places (byte b) 1 i 4))
+Inv-loop b name₀ i₀ name i = (i ≤ nameMax) × (name ≡ padded nameMax 0 (rows (byte b) 1 i wordLength))
 
 abbrev μ-loop : tie.MeasureT-loop
 μ-loop b name₀ i₀ name i = nameMax - i
 
 loop-holds : tie.Need-loop-holds Inv-loop μ-loop
-loop-holds c = (omega arith, filled-none nameMax 0 (byte (c .args .b .now)) 1 4)
+loop-holds c = (omega arith, filled-none nameMax 0 (byte (c .args .b .now)) 1 wordLength)
 
 add-name : tie.Need-add-name Inv-loop μ-loop
 add-name c = search needs
@@ -40,14 +41,14 @@ loop-again : tie.Need-loop-again Inv-loop μ-loop
 loop-again c =
     let l = c .before .before in
     let b = l .before .args .b .now in
-    let e : l .loop .i + 4 ≡ 4 + 1 * l .loop .i = omega arith in
-    (omega arith, rw (l .loop .inv .1) (filled-step nameMax 0 _ (byte b) 1 (l .loop .i) 4 (omega arith) (ap (byte b) e)))
+    let e : l .loop .i + wordLength ≡ wordLength + 1 * l .loop .i = omega arith in
+    (omega arith, rw (l .loop .inv .1) (filled-step nameMax 0 _ (byte b) 1 (l .loop .i) wordLength (omega arith) (ap (byte b) e)))
 
 returns : tie.Need-returns Inv-loop μ-loop
 returns c =
     let l = c .before in
     let b = l .before .args .b .now in
-    l .loop .inv .1 ∙ filled-end nameMax 0 (byte b) 1 (l .loop .i) 4 (omega arith) ∙ places-bytes b nameMax 4 (omega arith)
+    l .loop .inv .1 ∙ filled-end nameMax 0 (byte b) 1 (l .loop .i) wordLength (omega arith) ∙ rows-bytes b nameMax wordLength (omega arith)
 
 pub name-at-spec : {M : Type 1} → statement M
 name-at-spec =

@@ -16,8 +16,8 @@ returns : tie.Need-returns
 unfolding socIn
 returns c = rw (ne-eqb (length (c .before .before .before .args .b .now)) socLength (c .before .if1 .taken), c .no-soc .ensures)
 
-are-flags-requires : tie.Need-are-flags-requires
-are-flags-requires c κs = search needs
+are-soc-flags-requires : tie.Need-are-soc-flags-requires
+are-soc-flags-requires c κs = search needs
 
 no-soc-requires-2 : tie.Need-no-soc-requires-2
 no-soc-requires-2 c κs = search needs
@@ -27,7 +27,7 @@ unfolding socIn
 returns-2 c =
     let e = c .before .before .before in
     let b = e .before .before .args .b .now in
-    let t : socFlags b ≡ false = sym (c .before .before .are-flags .ensures) ∙ not-true _ (c .before .if2 .taken) in
+    let t : socFlags b ≡ false = sym (c .before .before .are-soc-flags .ensures) ∙ not-true _ (c .before .if2 .taken) in
     rw (eq-eqb (length b) socLength (e .if1 .left), t, c .no-soc2 .ensures)
 
 soc-at-requires : tie.Need-soc-at-requires
@@ -38,7 +38,7 @@ unfolding socIn
 returns-3 c =
     let e = c .before .before .before in
     let b = e .before .before .args .b .now in
-    let t : socFlags b ≡ true = sym (c .before .before .are-flags .ensures) ∙ not-false _ (c .before .if2 .left) in
+    let t : socFlags b ≡ true = sym (c .before .before .are-soc-flags .ensures) ∙ not-false _ (c .before .if2 .left) in
     rw (eq-eqb (length b) socLength (e .if1 .left), t, c .soc-at .ensures)
 
 pub soc-in-spec : {M : Type 1} → statement M
@@ -47,7 +47,7 @@ soc-in-spec =
     (tie.spec
     no-soc-requires
     returns
-    are-flags-requires
+    are-soc-flags-requires
     no-soc-requires-2
     returns-2
     soc-at-requires

@@ -7,20 +7,11 @@ use Rattle.c_forms.proofs.soc_read.test_at.Tie as tie
 word-at-requires : tie.Need-word-at-requires
 word-at-requires c κs = search needs
 
-add-word-at : tie.Need-add-word-at
-add-word-at c = search needs
-
 word-at-requires-2 : tie.Need-word-at-requires-2
 word-at-requires-2 c κs = search needs
 
-add-word-at-2 : tie.Need-add-word-at-2
-add-word-at-2 c = search needs
-
 word-at-requires-3 : tie.Need-word-at-requires-3
 word-at-requires-3 c κs = search needs
-
-add-word-at-3 : tie.Need-add-word-at-3
-add-word-at-3 c = search needs
 
 word-at-requires-4 : tie.Need-word-at-requires-4
 word-at-requires-4 c κs = search needs
@@ -45,11 +36,8 @@ test-at-spec =
     tie.close
     (tie.spec
     word-at-requires
-    add-word-at
     word-at-requires-2
-    add-word-at-2
     word-at-requires-3
-    add-word-at-3
     word-at-requires-4
     signed-in-requires
     returns)

@@ -5,16 +5,16 @@ use native.Mathlib.Omega.{arith}
 use Prim.Native.Nat.{_-_, _≤_}
 use mathlib.Core.Path.{_≡_, _∙_}
 use Rattle.units.specs.Places.{padded}
+use Rattle.buffer.specs.Rows.{rows}
+use Rattle.buffer.proofs.RowLaws.{filled-none, filled-step, filled-end}
 use Rattle.soc.specs.Limits.{testsMax}
 use Rattle.soc.specs.Record.{noTest}
-use Rattle.c_forms.specs.Words.{places}
 use Rattle.c_forms.specs.SocForm.{testLength, testAt}
-use Rattle.c_forms.proofs.PlaceLaws.{filled-none, filled-step, filled-end}
 use Rattle.c_forms.proofs.soc_read.tests_at.Statement.{statement}
 use Rattle.c_forms.proofs.soc_read.tests_at.Tie as tie
 
 abbrev Inv-loop : tie.InvT-loop
-Inv-loop b at list₀ i₀ list i = (i ≤ testsMax) × (list ≡ padded testsMax noTest (places (testAt b) testLength i at))
+Inv-loop b at list₀ i₀ list i = (i ≤ testsMax) × (list ≡ padded testsMax noTest (rows (testAt b) testLength i at))
 
 abbrev μ-loop : tie.MeasureT-loop
 μ-loop b at list₀ i₀ list i = testsMax - i
@@ -23,8 +23,11 @@ no-test-requires : tie.Need-no-test-requires Inv-loop μ-loop
 no-test-requires c κs = search needs
 
 loop-holds : tie.Need-loop-holds Inv-loop μ-loop
-loop-holds c =
-    (omega arith, rw (c .no-test .ensures) (filled-none testsMax noTest (testAt (c .before .before .args .b .now)) testLength (c .before .before .args .at)))
+loop-holds c = (
+  omega arith,
+  rw (c .no-test .ensures) (filled-none testsMax noTest (testAt (c .before .before .args .b .now)) testLength
+      (c .before .before .args .at)),
+)
 
 mul-test-at : tie.Need-mul-test-at Inv-loop μ-loop
 mul-test-at c = search needs
@@ -52,7 +55,8 @@ loop-again c =
     let l = c .before .before in
     let s = l .before .before .before in (
       omega arith,
-      rw (l .loop .inv .1) (filled-step testsMax noTest _ (testAt (s .args .b .now)) testLength (l .loop .i) (s .args .at) (omega arith) (c .test-at .ensures)),
+      rw (l .loop .inv .1) (filled-step testsMax noTest _ (testAt (s .args .b .now)) testLength (l .loop .i) (s .args .at) (omega arith)
+          (c .test-at .ensures)),
     )
 
 returns : tie.Need-returns Inv-loop μ-loop

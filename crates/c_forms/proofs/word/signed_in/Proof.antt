@@ -8,7 +8,7 @@ use lib.IntN.{pos, negsuc, _-ℤ_}
 use mir.Syntax.{w32, w64}
 use mir.Val.{toZ, ofZ}
 use mir.Facts.{toZ-pos, toZ-ofZ}
-use Rattle.c_forms.proofs.WordLaws.{signed-low, signed-high, word-less, high-fits, less-fits}
+use Rattle.c_forms.proofs.SignedLaws.{signed-low, signed-high, word-less, high-fits, less-fits}
 use Rattle.c_forms.proofs.word.signed_in.Statement.{statement}
 use Rattle.c_forms.proofs.word.signed_in.Tie as tie
 

@@ -6,7 +6,7 @@ use lib.Signed.{ltZ}
 use mir.Syntax.{w32}
 use mir.Val.{toZ, ofZ}
 use Rattle.soc.proofs.FigureLaws.{figure-back}
-use Rattle.c_forms.proofs.SignLaws.{wide, wide-back, word-sum, word-fits, word-bits, word-cast, above-word, above-cast}
+use Rattle.c_forms.proofs.SignedLaws.{wide, wide-back, word-sum, word-fits, word-bits, word-cast, above-word, above-cast}
 use Rattle.c_forms.proofs.word.signed_word.Statement.{statement}
 use Rattle.c_forms.proofs.word.signed_word.Tie as tie
 

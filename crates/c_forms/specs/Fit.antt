@@ -1,5 +1,5 @@
--- Figures that fit their words, 4 bytes or 8, in a plan record and in a SOC record: where they do, the bytes say all of the record.
--- Assumes nothing.
+-- Figures that fit their words, 4 bytes or 8, in a plan record and in a SOC record: where they do, the bytes say all of the record, and a
+-- good record's figures do.
 use Prim.Native.Nat.{ℕ, _<_}
 use lib.ListN.{length, getD}
 use mir.Syntax.{w32}
@@ -9,10 +9,10 @@ use Rattle.soc.specs.Record.{flipFlops, noTest, noModule}
 use Rattle.soc.specs.declared.record.Test.{Test}
 use Rattle.soc.specs.declared.record.Module.{Module}
 use Rattle.soc.specs.declared.record.Soc.{Soc}
-use Rattle.plan.specs.Answers.{noBus, noPlaced}
-use Rattle.plan.specs.declared.record.Bus.{Bus}
-use Rattle.plan.specs.declared.record.PlacedModule.{PlacedModule}
-use Rattle.plan.specs.declared.record.BusPlan.{BusPlan}
+use Rattle.plan_record.specs.Record.{noBus, noPlaced}
+use Rattle.plan_record.specs.declared.record.Bus.{Bus}
+use Rattle.plan_record.specs.declared.record.PlacedModule.{PlacedModule}
+use Rattle.plan_record.specs.declared.record.BusPlan.{BusPlan}
 
 -- a figure of 4 bytes, and one of 8
 abbrev pub Fits4 : ℕ → Type 0

@@ -18,7 +18,8 @@ use Rattle.soc.proofs.record.Module as module-type
 use Rattle.soc.proofs.record.Soc as soc-type
 
 -- what is so of each value that is held is so of each value in an array that is held
-each-held : {A B : Type 0} (to : A → B) (own : B → List Val → Fml) (P : A → Type 0) → ((x : A) (u : Val) → shadow (own (to x) (u ∷ [])) → P x)
+each-held : {A B : Type 0} (to : A → B) (own : B → List Val → Fml) (P : A → Type 0)
+    → ((x : A) (u : Val) → shadow (own (to x) (u ∷ [])) → P x)
     → (xs : List A) (us : List Val) → shadow (each B own (map to xs) us) → (z : A) (i : ℕ) → i < length xs → P (getD xs i z)
 each-held to own P h [] us s z i l = absurd (omega arith)
 each-held to own P h (x ∷ xs) [] s z i l = absurd s
@@ -38,5 +39,6 @@ held-soc s vs h =
     record {
       name = simp length-map at (h .1 .1 .1 .0 .1 .0 .1);
       modules = n;
-      each = λ i l. each-held (module-type.the-type .to) (module-type.the-field .row .own) SizedModule held-module (s .modules) (m .0) (m .1 .1) noModule i (omega arith);
+      each = λ i l. each-held (module-type.the-type .to) (module-type.the-field .row .own) SizedModule held-module (s .modules) (m .0)
+          (m .1 .1) noModule i (omega arith);
     }
