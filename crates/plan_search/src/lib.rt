@@ -5,5 +5,8 @@ mod place;
 mod widths;
 
 pub use busy::busy_of;
+pub use place::ROW_PLACES;
+pub use place::SEARCH_BUSES;
+pub use place::SEARCH_MODULES;
 pub use widths::Found;
 pub use widths::search;
