@@ -1,5 +1,5 @@
--- `plan::entry::buses_of` meets its contract. The loop's invariant: the list holds the records of the first b buses, and behind them no bus. The
--- measure is what is left of the buses. Assumes nothing.
+-- `plan::entry::buses_of` meets its contract. The loop's invariant: the list holds the records of the first b buses, and behind them no
+-- bus. The measure is what is left of the buses. Assumes nothing.
 use borrow.Author.Needs.{needs}
 use native.Mathlib.Omega.{arith}
 use Prim.Native.Nat.{_+_, _-_, _≤_, _<_}
