@@ -17,14 +17,14 @@ use Rattle.soc.specs.Planned.{plannedOf, plannedIs}
 use Rattle.soc.specs.declared.planned.Planned.{Planned}
 use Rattle.soc.specs.declared.record.Soc.{Soc}
 use Rattle.units.proofs.PlaceLaws.{padded-take, padded-set, padded-at}
-use Rattle.wrapper.specs.Answers.{wires, cycles}
+use Rattle.wrapper.specs.Answers.{widthMax, wires, cycles}
 use Rattle.plan_rules.specs.Plans.{Plan, IsPlan, sum, busyFrom, busies, timeOf}
 use Rattle.plan_rules.specs.Listed.{bestPlan}
 use Rattle.plan_rules.proofs.Demand.{best-first}
 use Rattle.plan_record.specs.Record.{busPlaces, modulePlaces, noBus, noPlaced, busRecords, moduleRecords, planRecord}
 use Rattle.plan_record.proofs.RecordLaws.{length-records}
-use Rattle.plan_search.specs.Search.{tableTime, foundOf}
-use Rattle.plan.specs.Answers.{timeIn, wiresIn, bestFor, recordOf}
+use Rattle.plan_search.specs.Search.{searchBuses, searchModules, tableTime, foundOf}
+use Rattle.plan.specs.Answers.{limitMax, timeIn, wiresIn, bestFor, recordOf}
 use Rattle.plan.specs.Records.{IsFound, busesIs, placedAt, placedFrom, modulesIs}
 use Rattle.plan.specs.Tables.{TablesAre}
 use Rattle.plan_record.specs.declared.record.Bus.{Bus}
@@ -126,19 +126,19 @@ module _ {W B n : ℕ} {p : Plan} (r : IsPlan W B n p) where
   width-in j h = (r .wide j h, omega (arith, width-most (p .widths) j, r .wires))
 
   -- what was found keeps the limits of a plan
-  found-is : (time : ℕ → ℕ → ℕ) → W ≤ 64 → B ≤ 3 → IsFound (foundOf time p) n
+  found-is : (time : ℕ → ℕ → ℕ) → W ≤ widthMax → B ≤ limitMax → IsFound (foundOf time p) n
   found-is time h k = record {
     few = omega (arith, r .limit);
-    wide = λ b l. rw (padded-at 3 0 (p .widths) b) (width-in b l .0, omega (arith, width-in b l .1));
-    placed = λ i l. rw (padded-at 12 0 (p .buses) i) (r .low i l, r .high i l);
+    wide = λ b l. rw (padded-at searchBuses 0 (p .widths) b) (width-in b l .0, omega (arith, width-in b l .1));
+    placed = λ i l. rw (padded-at searchModules 0 (p .buses) i) (r .low i l, r .high i l);
   }
 
   module _ {s : Soc} {t : Tables} (a : TablesAre s W n t) where
     buses-are : busesIs (tableTime (t .cycles)) (foundOf (tableTime (t .cycles)) p) n ≡ padded busPlaces noBus (busRecords (p .widths) (busies (timeIn s) (p .buses) 1 (p .widths)))
     unfolding busesIs
     buses-are =
-        let e : take n (padded 12 0 (p .buses)) ≡ p .buses = rw (← r .placed) (padded-take 12 0 (p .buses)) in
-        rw (padded-take 3 0 (p .widths), e, busies-same (a .cycles-are) r)
+        let e : take n (padded searchModules 0 (p .buses)) ≡ p .buses = rw (← r .placed) (padded-take searchModules 0 (p .buses)) in
+        rw (padded-take searchBuses 0 (p .widths), e, busies-same (a .cycles-are) r)
 
     modules-from : (time : ℕ → ℕ → ℕ) (i : ℕ) (bs : List ℕ) → i + length bs ≤ n → ((j : ℕ) → j < length bs → (1 ≤ getD bs j 0) × (getD bs j 0 ≤ length (p .widths)))
         → placedFrom (plannedIs (plannedOf s)) t (foundOf time p) i bs ≡ moduleRecords (plannedOf s) (timeIn s) (wiresIn s) (p .widths) i bs
@@ -151,7 +151,7 @@ module _ {W B n : ℕ} {p : Plan} (r : IsPlan W B n p) where
         let k : i < n = omega arith in
         rw (
           padded-at modulesMax 0 (plannedOf s) i,
-          padded-at 3 0 (p .widths) (b - 1),
+          padded-at searchBuses 0 (p .widths) (b - 1),
           a .cycles-are i (getD (p .widths) (b - 1) 0) k (v .0) (v .1),
           a .wires-are i (getD (p .widths) (b - 1) 0) k (v .0) (v .1),
           modules-from time (suc i) bs (omega arith) (λ j g. q (suc j) (omega arith)),
@@ -160,14 +160,14 @@ module _ {W B n : ℕ} {p : Plan} (r : IsPlan W B n p) where
     modules-are : (time : ℕ → ℕ → ℕ) → n ≡ length (plannedOf s) → modulesIs (plannedIs (plannedOf s)) t (foundOf time p) ≡ padded modulePlaces noPlaced (moduleRecords (plannedOf s) (timeIn s) (wiresIn s) (p .widths) 0 (p .buses))
     unfolding modulesIs
     modules-are time count =
-        let e : take (length (plannedOf s)) (padded 12 0 (p .buses)) ≡ p .buses = rw (← count, ← r .placed) (padded-take 12 0 (p .buses)) in
+        let e : take (length (plannedOf s)) (padded searchModules 0 (p .buses)) ≡ p .buses = rw (← count, ← r .placed) (padded-take searchModules 0 (p .buses)) in
         rw (e, modules-from time 0 (p .buses) (omega (arith, r .placed)) (λ j g. (r .low j (omega (arith, r .placed)), r .high j (omega (arith, r .placed)))))
 
 -- the plan that the search finds over the tables of the planned modules
 module _ {s : Soc} {W B : ℕ} {t : Tables} {p : Planned} {f : Found}
     (a : TablesAre s W (length (plannedOf s)) t) (numbers : p ≡ plannedIs (plannedOf s))
     (found : f ≡ foundOf (tableTime (t .cycles)) (bestPlan (tableTime (t .cycles)) W B (p .count)))
-    (some : 1 ≤ W) (narrow : W ≤ 64) (limit : 1 ≤ B) (few : B ≤ 3) where
+    (some : 1 ≤ W) (narrow : W ≤ widthMax) (limit : 1 ≤ B) (few : B ≤ limitMax) where
   count-is : p .count ≡ length (plannedOf s)
   count-is = ap (λ x. x .count) numbers
 
@@ -184,7 +184,7 @@ module _ {s : Soc} {W B : ℕ} {t : Tables} {p : Planned} {f : Found}
 
   pub record-is : {buses : List Bus} {modules : List PlacedModule} → buses ≡ busesIs (tableTime (t .cycles)) f (p .count) → modules ≡ modulesIs p t f
       → _≡_ {A = BusPlan}
-      (record { wires = wires W; limit = B; «bus_count» = f .count; buses = buses; «module_count» = p .count; modules = modules; time = cycles (f .time) })
+      (record { wires = wires W; limit = B; «bus_count» = f .count; buses = buses; «module_count» = p .count; modules = modules; time = f .time })
       (recordOf s W B (bestFor s W B))
   unfolding planRecord
   record-is u v =

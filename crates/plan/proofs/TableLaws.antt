@@ -13,16 +13,16 @@ use Rattle.soc.specs.Planned.{isPlanned, plannedFrom, plannedOf}
 use Rattle.soc.specs.Rules.{goodSoc}
 use Rattle.soc.specs.declared.record.Module.{Module}
 use Rattle.soc.specs.declared.record.Soc.{Soc}
-use Rattle.wrapper.specs.Answers.{moduleTimesAnswer}
+use Rattle.wrapper.specs.Answers.{widthMax, moduleTimesAnswer}
 use Rattle.wrapper.proofs.BestLaws.{time-falls}
 use Rattle.wrapper.proofs.PromisedTimes.{time-most, times-at, wires-at, times-past}
 use Rattle.plan_rules.specs.Plans.{Plan, IsPlan, sum, busyFrom, busies, largest, timeOf}
 use Rattle.plan_rules.specs.Listed.{plans, firstLeast, firstOf, bestPlan, bestOf}
 use Rattle.plan_rules.proofs.ListedLaws.{sound}
-use Rattle.plan.specs.Answers.{plannedModule, timeIn, wiresIn}
+use Rattle.plan.specs.Answers.{limitMax, plannedMax, plannedModule, timeIn, wiresIn}
 use Rattle.wrapper.specs.Maxima.{moduleTimeMax}
-use Rattle.plan_search.specs.Search.{tableTime, IsTable}
-use Rattle.plan.specs.Tables.{TimesStand, TablesAre}
+use Rattle.plan_search.specs.Search.{searchBuses, searchModules, rowPlaces, tableTime, IsTable}
+use Rattle.plan.specs.Tables.{tablePlaces, TimesStand, TablesAre}
 use Rattle.plan.specs.declared.tables.Tables.{Tables}
 
 below-or : (a b : ℕ) → (a < b) ⊎ (b ≤ a)
@@ -65,7 +65,7 @@ time-fall s i v w h k = time-falls (plannedModule s i) v w h k
 
 -- the tables hold the times of the planned modules: a table to search over
 module _ {s : Soc} {W n : ℕ} {t : Tables} (a : TablesAre s W n t) (good : goodSoc s ≡ true) (count : n ≡ length (plannedOf s)) where
-  row-most : (i j : ℕ) → i < n → j < 64 → getD (t .cycles) (i * 64 + j) 0 ≤ moduleTimeMax
+  row-most : (i j : ℕ) → i < n → j < rowPlaces → getD (t .cycles) (i * rowPlaces + j) 0 ≤ moduleTimeMax
   row-most i j h k = ⊎-elim
       (λ l.
       let e : suc j - 1 ≡ j = omega arith in
@@ -76,60 +76,75 @@ module _ {s : Soc} {W n : ℕ} {t : Tables} (a : TablesAre s W n t) (good : good
   table-most : (j : ℕ) → getD (t .cycles) j 0 ≤ moduleTimeMax
   table-most j = ⊎-elim
       (λ h.
-      let p : j / 64 * 64 + j % 64 ≡ j = omega arith in
-      rw p at (row-most (j / 64) (j % 64) (omega arith) (omega arith)))
+      let p : j / rowPlaces * rowPlaces + j % rowPlaces ≡ j = omega arith in
+      rw p at (row-most (j / rowPlaces) (j % rowPlaces) (omega arith) (omega arith)))
       (λ h. rw (a .spare j h) (omega arith))
-      (below-or j (n * 64))
+      (below-or j (n * rowPlaces))
 
-  row-falls : (i v w : ℕ) → i < n → 1 ≤ v → v ≤ w → w ≤ 64 → tableTime (t .cycles) i w ≤ tableTime (t .cycles) i v
+  row-falls : (i v w : ℕ) → i < n → 1 ≤ v → v ≤ w → w ≤ rowPlaces → tableTime (t .cycles) i w ≤ tableTime (t .cycles) i v
   row-falls i v w h k o p = ⊎-elim
       (λ l. rw (a .past i (w - 1) h (omega arith) (omega arith)) (omega arith))
       (λ l. rw (a .cycles-are i w h (omega arith) l, a .cycles-are i v h k (omega arith)) (time-fall s i v w k o))
       (below-or W w)
 
-  pub table-is : length (t .cycles) ≡ 768 → n ≤ 12 → IsTable (t .cycles) n
-  table-is l m = record { long = omega arith; times = λ i w. omega (arith, table-most (i * 64 + (w - 1))); falls = row-falls }
+  pub table-is : length (t .cycles) ≡ tablePlaces → n ≤ plannedMax → IsTable (t .cycles) n
+  table-is l m = record {
+    few = m;
+    long = omega arith;
+    times = λ i w. omega (arith, table-most (i * rowPlaces + (w - 1)));
+    falls = row-falls;
+  }
+
+-- a table has a place for each width of the wrapper layer, and the search has room for as many buses and modules as the planner takes
+pub row-width : rowPlaces ≡ widthMax
+row-width = refl
+
+pub limit-searched : limitMax ≤ searchBuses
+limit-searched = omega arith
+
+pub planned-searched : plannedMax ≤ searchModules
+planned-searched = omega arith
 
 -- no times stand in the tables yet, and what the wrapper layer answers for one planned module more does
-pub tables-none : (s : Soc) (W : ℕ) → TablesAre s W 0 (record { cycles = replicate 768 0; wires = replicate 768 0 })
+pub tables-none : (s : Soc) (W : ℕ) → TablesAre s W 0 (record { cycles = replicate tablePlaces 0; wires = replicate tablePlaces 0 })
 tables-none s W =
     record {
       cycles-are = λ i w h k l. absurd (omega arith);
       wires-are = λ i w h k l. absurd (omega arith);
       past = λ i j h k l. absurd (omega arith);
-      spare = λ j h. replicate-at 768 0 j;
+      spare = λ j h. replicate-at tablePlaces 0 j;
     }
 
-module _ (s : Soc) (W k : ℕ) {t r : Tables} (good : goodSoc s ≡ true) (h : k < length (plannedOf s)) (low : 1 ≤ W) (high : W ≤ 64)
+module _ (s : Soc) (W k : ℕ) {t r : Tables} (good : goodSoc s ≡ true) (h : k < length (plannedOf s)) (low : 1 ≤ W) (high : W ≤ widthMax)
     (b : TimesStand t k (moduleTimesAnswer s (getD (plannedOf s) k 0) W .times) r) where
   there : getD (plannedOf s) k 0 < s .«module_count»
   there = planned-number s k h .0
 
-  cycles-here : (w : ℕ) → 1 ≤ w → w ≤ W → getD (r .cycles) (k * 64 + (w - 1)) 0 ≡ timeIn s k w
+  cycles-here : (w : ℕ) → 1 ≤ w → w ≤ W → getD (r .cycles) (k * rowPlaces + (w - 1)) 0 ≡ timeIn s k w
   unfolding timeIn
   cycles-here w l m =
       b .cycles-here (w - 1) (omega arith) ∙ ap (λ c. c .0) (times-at s (getD (plannedOf s) k 0) good there W low high w l m)
 
-  wires-here : (w : ℕ) → 1 ≤ w → w ≤ W → getD (r .wires) (k * 64 + (w - 1)) 0 ≡ wiresIn s k w
+  wires-here : (w : ℕ) → 1 ≤ w → w ≤ W → getD (r .wires) (k * rowPlaces + (w - 1)) 0 ≡ wiresIn s k w
   unfolding wiresIn
   wires-here w l m =
       b .wires-here (w - 1) (omega arith) ∙ ap (λ c. c .0) (wires-at s (getD (plannedOf s) k 0) good there W low high w l m)
 
-  past-here : (j : ℕ) → W ≤ j → j < 64 → getD (r .cycles) (k * 64 + j) 0 ≡ 0
+  past-here : (j : ℕ) → W ≤ j → j < rowPlaces → getD (r .cycles) (k * rowPlaces + j) 0 ≡ 0
   past-here j l m = b .cycles-here j m ∙ ap (λ c. c .0) (times-past s (getD (plannedOf s) k 0) good there W low high j l)
 
   pub tables-more : TablesAre s W k t → TablesAre s W (k + 1) r
   tables-more a =
       record {
         cycles-are = λ i w l.
-            below-more (λ j. 1 ≤ w → w ≤ W → getD (r .cycles) (j * 64 + (w - 1)) 0 ≡ timeIn s j w) k
-            (λ j l m n. b .cycles-else (j * 64 + (w - 1)) .0 (omega arith) ∙ a .cycles-are j w l m n) (cycles-here w) i l;
+            below-more (λ j. 1 ≤ w → w ≤ W → getD (r .cycles) (j * rowPlaces + (w - 1)) 0 ≡ timeIn s j w) k
+            (λ j l m n. b .cycles-else (j * rowPlaces + (w - 1)) .0 (omega arith) ∙ a .cycles-are j w l m n) (cycles-here w) i l;
         wires-are = λ i w l.
-            below-more (λ j. 1 ≤ w → w ≤ W → getD (r .wires) (j * 64 + (w - 1)) 0 ≡ wiresIn s j w) k
-            (λ j l m n. b .wires-else (j * 64 + (w - 1)) .0 (omega arith) ∙ a .wires-are j w l m n) (wires-here w) i l;
+            below-more (λ j. 1 ≤ w → w ≤ W → getD (r .wires) (j * rowPlaces + (w - 1)) 0 ≡ wiresIn s j w) k
+            (λ j l m n. b .wires-else (j * rowPlaces + (w - 1)) .0 (omega arith) ∙ a .wires-are j w l m n) (wires-here w) i l;
         past = λ i x l.
-            below-more (λ j. W ≤ x → x < 64 → getD (r .cycles) (j * 64 + x) 0 ≡ 0) k
-            (λ j l m n. b .cycles-else (j * 64 + x) .0 (omega arith) ∙ a .past j x l m n) (past-here x) i l;
+            below-more (λ j. W ≤ x → x < rowPlaces → getD (r .cycles) (j * rowPlaces + x) 0 ≡ 0) k
+            (λ j l m n. b .cycles-else (j * rowPlaces + x) .0 (omega arith) ∙ a .past j x l m n) (past-here x) i l;
         spare = λ j l. b .cycles-else j .1 (omega arith) ∙ a .spare j (omega arith);
       }
 

@@ -1,4 +1,4 @@
--- How the parts of a plan record are made from what the search found.
+-- How the parts of a plan record are made from what the search found (document 01, "The plan").
 use Prim.Native.Nat.{ℕ, zero, suc, _+_, _-_, _*_, _≤_, _<_}
 use mathlib.Core.Path.{_≡_}
 use mathlib.Core.List.{List, [], _∷_}
@@ -12,6 +12,7 @@ use Rattle.plan_record.specs.declared.record.Bus.{Bus}
 use Rattle.plan_record.specs.declared.record.PlacedModule.{PlacedModule}
 use Rattle.plan.specs.Answers.{limitMax}
 use Rattle.plan.specs.declared.tables.Tables.{Tables}
+use Rattle.plan_search.specs.Search.{rowPlaces}
 use Rattle.plan_search.specs.declared.widths.Found.{Found}
 
 -- the counts, widths and bus numbers of what was found keep their limits
@@ -30,8 +31,8 @@ placedAt p t f i b =
     record {
       number = getD (p .numbers) i 0;
       bus = b;
-      wires = wires (getD (t .wires) (i * widthMax + (getD (f .widths) (b - 1) 0 - 1)) 0);
-      cycles = cycles (getD (t .cycles) (i * widthMax + (getD (f .widths) (b - 1) 0 - 1)) 0);
+      wires = wires (getD (t .wires) (i * rowPlaces + (getD (f .widths) (b - 1) 0 - 1)) 0);
+      cycles = cycles (getD (t .cycles) (i * rowPlaces + (getD (f .widths) (b - 1) 0 - 1)) 0);
     }
 
 unfoldable pub placedFrom : Planned → Tables → Found → ℕ → List ℕ → List PlacedModule

@@ -1,5 +1,8 @@
-// The first planner: refusals 14, 7, 8, 9, 10 in that order; then the tables of times, the search over them, and the record of what it finds.
+// The first planner (document 01, "The plan" and "Refusal numbers"): refusals 14, 7, 8, 9, 10 in that order; then the tables of times, the
+// search over them, and the record of what it finds.
 use super::answer::PlanAnswer;
+use super::limits::LIMIT_MAX;
+use super::limits::PLANNED_MAX;
 use super::tables::Tables;
 use super::tables::tables_of;
 use plan_record::BUS_PLACES;
@@ -11,6 +14,7 @@ use plan_record::no_bus;
 use plan_record::no_placed;
 use plan_record::no_plan;
 use plan_search::Found;
+use plan_search::ROW_PLACES;
 use plan_search::busy_of;
 use plan_search::search;
 use soc::Planned;
@@ -20,20 +24,11 @@ use units::Refusal;
 use units::Wires;
 use wrapper::WIDTH_MAX;
 ghost use mathlib.Core.Path.{_≡_};
-ghost use mathlib.Core.Bool.{true};
 ghost use Prim.Native.Nat.{_≤_};
-ghost use lib.ListN.{length};
-ghost use Rattle.soc.specs.Planned.{plannedOf, plannedIs};
 ghost use Rattle.plan_search.specs.Search.{tableTime, IsTable};
-ghost use Rattle.wrapper.specs.Answers.{widthMax};
 ghost use Rattle.plan.specs.Answers.{limitMax, plannedMax, refusedPlan, bestFor, recordOf, planAnswer};
 ghost use Rattle.plan.specs.Records.{IsFound, busesIs, modulesIs};
-ghost use Rattle.soc.specs.Rules.{goodSoc};
-
-// The most buses and the most planned modules that this planner takes.
-pub const LIMIT_MAX: u32 = 3;
-
-pub const PLANNED_MAX: usize = 12;
+ghost use Rattle.plan.specs.Tables.{Plannable};
 
 fn refused_plan(n: u8) -> PlanAnswer
     ensures { λ r. ⌜ r ≡ refusedPlan n ⌝ }
@@ -46,17 +41,17 @@ fn refused_plan(n: u8) -> PlanAnswer
 
 // The buses of the plan that was found.
 fn buses_of(table: &[u64], f: Found, n: usize) -> [Bus; BUS_PLACES]
-    requires { ⌜ IsTable (now table) n × (n ≤ plannedMax) × IsFound f n ⌝ }
+    requires { ⌜ IsTable (now table) n × IsFound f n ⌝ }
     ensures { λ r. ⌜ r ≡ busesIs (tableTime (now (table .entry))) f n ⌝ }
 {
     let mut list = [no_bus(); BUS_PLACES];
     let mut b: usize = 0;
     while b < f.count {
-        let w = f.widths[b];
+        let w = Wires(f.widths[b]);
         let buses = f.buses;
         list[b] = Bus {
-            width: Wires(w as u32),
-            busy: Cycles(busy_of(table, buses, n, b as u64 + 1, w)),
+            width: w,
+            busy: busy_of(table, buses, n, b + 1, w),
         };
         b += 1;
     }
@@ -74,8 +69,8 @@ fn modules_of(p: Planned, t: Tables, f: Found) -> [PlacedModule; MODULE_PLACES]
     while i < n {
         let number = p.numbers[i];
         let bus = f.buses[i] as usize;
-        let w = f.widths[bus - 1] as usize;
-        let at = i * 64 + (w - 1);
+        let w = Wires(f.widths[bus - 1]);
+        let at = i * ROW_PLACES + (w.0 as usize - 1);
         list[i] = PlacedModule {
             number,
             bus,
@@ -89,15 +84,15 @@ fn modules_of(p: Planned, t: Tables, f: Found) -> [PlacedModule; MODULE_PLACES]
 
 // The plan for W wires and limit B, where nothing is refused.
 fn found_plan(s: Soc, p: Planned, wires: Wires, limit: u32) -> BusPlan
-    requires { ⌜ (goodSoc s ≡ true) × (p ≡ plannedIs (plannedOf s)) × (1 ≤ length (plannedOf s)) × (length (plannedOf s) ≤ plannedMax) × (1 ≤ wires .0) × (wires .0 ≤ widthMax) × (1 ≤ limit) × (limit ≤ limitMax) ⌝ }
+    requires { ⌜ Plannable s p (wires .0) × (1 ≤ limit) × (limit ≤ limitMax) ⌝ }
     ensures { λ r. ⌜ r ≡ recordOf s (wires .0) limit (bestFor s (wires .0) limit) ⌝ }
 {
     let t = tables_of(s, p, wires);
     let cycles = t.cycles;
     let n = p.count;
-    let w = wires.0 as u64;
     let b = limit as usize;
-    let f = search(&cycles, w, b, n);
+    let f = search(&cycles, wires, b, n);
+    let time = f.time;
     BusPlan {
         wires,
         limit,
@@ -105,7 +100,7 @@ fn found_plan(s: Soc, p: Planned, wires: Wires, limit: u32) -> BusPlan
         buses: buses_of(&cycles, f, n),
         module_count: n,
         modules: modules_of(p, t, f),
-        time: Cycles(f.time),
+        time,
     }
 }
 

@@ -1,47 +1,47 @@
-// The times and wires of all planned modules at all widths up to W, each computed once.
+// The times and wires of all planned modules at all widths up to W, each computed once (document 01, "The plan" over "The wrapper rule").
+use super::limits::TABLE_PLACES;
+use plan_search::ROW_PLACES;
 use soc::Planned;
 use soc::Soc;
 use units::Wires;
 use wrapper::Times;
-ghost use mathlib.Core.Path.{_≡_};
-ghost use mathlib.Core.Bool.{true};
-ghost use Prim.Native.Nat.{_≤_, _<_};
+ghost use Prim.Native.Nat.{_<_};
 ghost use lib.ListN.{length};
-ghost use Rattle.soc.specs.Rules.{goodSoc};
-ghost use Rattle.soc.specs.Planned.{plannedOf, plannedIs};
-ghost use Rattle.plan.specs.Tables.{TablesAre, TimesStand};
+ghost use Rattle.soc.specs.Planned.{plannedOf};
+ghost use Rattle.plan.specs.Answers.{plannedMax};
+ghost use Rattle.plan.specs.Tables.{Plannable, TablesAre, TimesStand};
 
-// 64 places for each planned module, one for each width.
+// A row of places for each planned module, with a place for each width.
 pub struct Tables {
-    pub cycles: [u64; 768],
-    pub wires: [u32; 768],
+    pub cycles: [u64; TABLE_PLACES],
+    pub wires: [u32; TABLE_PLACES],
 }
 
 // The tables with the times of the planned module k.
 fn with_times(t: Tables, k: usize, times: Times) -> Tables
-    requires { ⌜ k < 12 ⌝ }
+    requires { ⌜ k < plannedMax ⌝ }
     ensures { λ r. ⌜ TimesStand t k times r ⌝ }
 {
     let mut cycles = t.cycles;
     let mut wires = t.wires;
     let mut j: usize = 0;
-    while j < 64 {
+    while j < ROW_PLACES {
         let c = times.cycles[j];
         let v = times.wires[j];
-        cycles[k * 64 + j] = c.0;
-        wires[k * 64 + j] = v.0;
+        cycles[k * ROW_PLACES + j] = c.0;
+        wires[k * ROW_PLACES + j] = v.0;
         j += 1;
     }
     Tables { cycles, wires }
 }
 
 pub(crate) fn tables_of(s: Soc, p: Planned, w: Wires) -> Tables
-    requires { ⌜ (goodSoc s ≡ true) × (p ≡ plannedIs (plannedOf s)) × (length (plannedOf s) ≤ 12) × (1 ≤ w .0) × (w .0 ≤ 64) ⌝ }
+    requires { ⌜ Plannable s p (w .0) ⌝ }
     ensures { λ r. ⌜ TablesAre s (w .0) (length (plannedOf s)) r ⌝ }
 {
     let mut t = Tables {
-        cycles: [0u64; 768],
-        wires: [0u32; 768],
+        cycles: [0u64; TABLE_PLACES],
+        wires: [0u32; TABLE_PLACES],
     };
     let n = p.count;
     let mut k: usize = 0;

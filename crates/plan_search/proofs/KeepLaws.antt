@@ -12,7 +12,8 @@ use borrow.Author.Tests.{ltb-true, lt-ltb, le-ltb}
 use Rattle.plan_rules.specs.Plans.{Plan, timeOf}
 use Rattle.plan_rules.specs.Listed.{placements, plan, firstLeast, firstOf}
 use Rattle.plan_rules.proofs.ListedLaws.{placements-sound}
-use Rattle.plan_search.specs.Search.{tableTime, timeOn, Ready, Placed, Best, keepPlans, keepAll, held, IsTable, AreWidths, Buffers, Searched}
+use Rattle.plan_search.specs.Search.{tableTime, keepPlans, keepAll, held, noneBelow}
+use Rattle.plan_search.specs.Search.{Ready, Placed, Best, IsTable, AreWidths, Buffers, Searched}
 use Rattle.plan_search.proofs.PlaceLaws.{ready-first, placed-first}
 
 module _ (time : Plan → ℕ) where
@@ -84,7 +85,7 @@ module _ (t ws loads buses best found : List ℕ) (held-now : Buffers (length ws
   on = map (plan ws) (placements (length buses) (length ws))
 
   -- none of them takes less than the best
-  pub searched-none : ((bs : List ℕ) → length bs ≡ length buses → ((i : ℕ) → i < length buses → (1 ≤ getD bs i 0) × (getD bs i 0 ≤ length ws)) → getD best 0 0 ≤ timeOn t ws bs)
+  pub searched-none : noneBelow t ws (length buses) (getD best 0 0)
       → Searched (length ws) t on (length buses) best found loads buses best found
   searched-none h = record {
     is = sym (keep-plans-none (timeOf (tableTime t)) (held best found) on no-less);
@@ -99,8 +100,8 @@ module _ (t ws loads buses best found : List ℕ) (held-now : Buffers (length ws
           subst (λ (q : Plan). getD best 0 0 ≤ timeOf (tableTime t) q) (u .2) (h (u .0) (s .placed) (λ i k. (s .low i k, s .high i k)))
 
   -- before the first module is placed
-  pub ready-on : IsTable t (length buses) → AreWidths ws → length buses ≤ 39 → 1 ≤ getD best 0 0 → Ready t ws 0 0 loads buses best
-  ready-on table widths few some = rw (held-now .empty) (ready-first (table .long) (table .times) (widths .wide) few some (held-now .room))
+  pub ready-on : IsTable t (length buses) → AreWidths ws → 1 ≤ getD best 0 0 → Ready t ws 0 0 loads buses best
+  ready-on table widths some = rw (held-now .empty) (ready-first (table .long) (table .times) (widths .wide) (table .few) some (held-now .room))
 
   -- all of them were tried
   module _ (loads′ buses′ best′ : List ℕ) (tried : Placed t ws 0 loads loads′ buses buses′ best best′) (same-buses : length buses′ ≡ length buses) (same-best : length best′ ≡ length best) where

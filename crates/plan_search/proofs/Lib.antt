@@ -5,3 +5,4 @@ pub mod WidthLaws
 pub mod OverLaws
 pub mod SoughtLaws
 pub mod BusyLaws
+pub mod CopyLaws

@@ -11,7 +11,7 @@ use lib.ListN.{length, getD, take, drop, set, length-set, drop-of-length-le}
 use lib.Seq.{getD-set-same, getD-set-other, getD-take, take-suc-set, set-split, take-take, take-at, length-take-le}
 use Rattle.plan_rules.specs.Plans.{Plan, timeOf}
 use Rattle.plan_rules.specs.Listed.{upward, widthLists, placements, plan, plansOn}
-use Rattle.plan_search.specs.Search.{tableTime, keepPlans, held, AreWidths, Buffers, Widening, Searched, plansBehind}
+use Rattle.plan_search.specs.Search.{rowPlaces, tableTime, keepPlans, held, AreWidths, Buffers, Widening, Searched, plansBehind}
 use Rattle.plan_search.proofs.WidthLaws.{upward-next, upward-end, starts, width-lists-one, width-lists-more, plans-on-append, plans-on-one}
 use Rattle.plan_search.proofs.KeepLaws.{keep-plans-append}
 
@@ -44,7 +44,7 @@ module _ (ws vs : List ℕ) (at low left w : ℕ) (widening : Widening at low le
       (eq-or-lt-of-le k)
 
   -- the last width takes what is left
-  pub widths-last : at + 1 ≡ length ws → w ≤ 64 → AreWidths (set vs at w)
+  pub widths-last : at + 1 ≡ length ws → w ≤ rowPlaces → AreWidths (set vs at w)
   widths-last e h = record {
     some = simp length-set (omega arith);
     few = simp length-set (omega (arith, widening .few));

@@ -8,7 +8,7 @@ use lib.ListN.{length, getD, take, set, replicate, length-set}
 use lib.Seq.{take-suc-set, take-set-le, take-take, take-length, length-take-le, set-set, set-getD}
 use Rattle.plan_rules.specs.Plans.{busies, largest, timeOf}
 use Rattle.plan_rules.specs.Listed.{upward, placements}
-use Rattle.plan_search.specs.Search.{keepAll, timeOn, tableTime, timeBound, TimeIn, Ready, Placed}
+use Rattle.plan_search.specs.Search.{searchModules, rowPlaces, keepAll, timeOn, tableTime, timeBound, TimeIn, Ready, Placed}
 use Rattle.plan_rules.proofs.BusyLaws.{largest-grows, length-busies, busies-one, busies-most, largest-set, busies-none, largest-zeros}
 use Rattle.plan_search.proofs.SearchLaws.{keep-append, keep-none, keep-one, upward-step, upward-end, tries, placements-more}
 
@@ -149,8 +149,8 @@ module _ {t ws : List ℕ} {i top : ℕ} {loads₀ buses₀ best₀ : List ℕ} 
         }
 
 -- no module is placed: the loads are zeros
-pub ready-first : {t ws buses best : List ℕ} → length buses * 64 ≤ length t → ((j w : ℕ) → tableTime t j w ≤ timeBound)
-    → ((b : ℕ) → b < length ws → (1 ≤ getD ws b 0) × (getD ws b 0 ≤ 64)) → length buses ≤ 39 → 0 < getD best 0 0 → length best ≡ length buses + 1
+pub ready-first : {t ws buses best : List ℕ} → length buses * rowPlaces ≤ length t → ((j w : ℕ) → tableTime t j w ≤ timeBound)
+    → ((b : ℕ) → b < length ws → (1 ≤ getD ws b 0) × (getD ws b 0 ≤ rowPlaces)) → length buses ≤ searchModules → 0 < getD best 0 0 → length best ≡ length buses + 1
     → Ready t ws 0 0 (replicate (length ws) 0) buses best
 ready-first {t} {ws} p q h m b l = record {
   table = p;

@@ -10,7 +10,8 @@ use lib.Seq.{getD-take, length-take-le, length-front, take-at}
 use Rattle.plan_rules.specs.Plans.{Plan, busies, largest, timeOf}
 use Rattle.plan_rules.specs.Listed.{upward, widthLists, plan, plansOn, plans, bestPlan, bestOf}
 use Rattle.plan_rules.proofs.ListedLaws.{some}
-use Rattle.plan_search.specs.Search.{tableTime, timeBound, noTime, Best, keepPlans, held, IsTable, Buffers, Widening, Searched, plansBehind}
+use Rattle.plan_search.specs.Search.{searchBuses, searchModules, rowPlaces, tableTime, timeBound, noTime, keepPlans, held, plansBehind}
+use Rattle.plan_search.specs.Search.{Best, IsTable, Buffers, Widening, OverWidths, Searched}
 use Rattle.plan_rules.proofs.BusyLaws.{busies-most}
 use Rattle.plan_search.proofs.KeepLaws.{timed, keep-plans-append, keep-plans-first}
 use Rattle.plan_search.proofs.WidthLaws.{upward-next, upward-end}
@@ -32,23 +33,27 @@ module _ (t : List ℕ) (wires limit n : ℕ) where
   pub record Sought (widths loads buses best found : List ℕ) (c : ℕ) : Type 0 where
     pub from : 1 ≤ c
     pub upto : c ≤ limit + 1
-    pub widths-room : length widths ≡ 3
-    pub empty : loads ≡ replicate 3 0
-    pub buses-room : length buses ≡ 12
-    pub best-room : length best ≡ 13
-    pub found-room : length found ≡ 4
-    pub count : getD found 0 0 < 4
+    pub widths-room : length widths ≡ searchBuses
+    pub empty : loads ≡ replicate searchBuses 0
+    pub buses-room : length buses ≡ searchModules
+    pub best-room : length best ≡ searchModules + 1
+    pub found-room : length found ≡ searchBuses + 1
+    pub count : getD found 0 0 ≤ searchBuses
     pub is : timed time (bestPlan (tableTime t) wires limit n) ≡ keepPlans time (held (take (n + 1) best) found) (upward (min limit wires - (c - 1)) c plansWith)
 
   -- every time is below what is held at first
-  first-below : IsTable t n → n ≤ 12 → time (plan (wires ∷ []) (replicate n 1)) < noTime
+  first-below : IsTable t n → time (plan (wires ∷ []) (replicate n 1)) < noTime
   unfolding timeOf busies largest
-  first-below table few = omega (arith, busies-most (tableTime t) timeBound (table .times) 1 0 (wires ∷ []) (replicate n 1), length-replicate {A = ℕ} n 1)
+  first-below table =
+      let most = busies-most (tableTime t) timeBound (table .times) 1 0 (wires ∷ []) (replicate n 1) in
+      omega (arith, most, length-replicate {A = ℕ} n 1, table .few)
 
-  pub sought-first : (widths loads buses best found : List ℕ) → IsTable t n → n ≤ 12 → 1 ≤ wires → 1 ≤ limit
-      → length widths ≡ 3 → loads ≡ replicate 3 0 → length buses ≡ 12 → length best ≡ 13 → length found ≡ 4 → getD found 0 0 ≡ 0 → getD best 0 0 ≡ noTime → Sought widths loads buses best found 1
+  pub sought-first : (widths loads buses best found : List ℕ) → IsTable t n → 1 ≤ wires → 1 ≤ limit
+      → length widths ≡ searchBuses → loads ≡ replicate searchBuses 0 → length buses ≡ searchModules
+      → length best ≡ searchModules + 1 → length found ≡ searchBuses + 1 → getD found 0 0 ≡ 0 → getD best 0 0 ≡ noTime
+      → Sought widths loads buses best found 1
   unfolding bestOf plans
-  sought-first widths loads buses best found table few w b e1 e2 e3 e4 e5 e6 e7 = record {
+  sought-first widths loads buses best found table w b e1 e2 e3 e4 e5 e6 e7 = record {
     from = omega arith;
     upto = omega arith;
     widths-room = e1;
@@ -68,7 +73,8 @@ module _ (t : List ℕ) (wires limit n : ℕ) where
           let z : min limit wires - (1 - 1) ≡ min limit wires = omega arith in
           let e : upward (min limit wires) 1 plansWith ≡ plan (wires ∷ []) (replicate n 1) ∷ upward (min limit wires - 1) 2 plansWith = some wires limit n w b in
           let h : b0 .time ≡ noTime = getD-take (n + 1) best 0 0 (omega arith) ∙ e7 in
-          rw (z, e) (sym (keep-plans-first time b0 (plan (wires ∷ []) (replicate n 1)) (upward (min limit wires - 1) 2 plansWith) (omega (arith, first-below table few))))
+          let later = upward (min limit wires - 1) 2 plansWith in
+          rw (z, e) (sym (keep-plans-first time b0 (plan (wires ∷ []) (replicate n 1)) later (omega (arith, first-below table))))
 
   module _ (widths loads buses best found : List ℕ) (c : ℕ) (sought : Sought widths loads buses best found c) where
     plans-step : c ≤ limit → c ≤ wires → upward (min limit wires - (c - 1)) c plansWith ≡ plansWith c ++ upward (min limit wires - (c + 1 - 1)) (c + 1) plansWith
@@ -82,23 +88,22 @@ module _ (t : List ℕ) (wires limit n : ℕ) where
         let e : min limit wires - (c - 1) ≡ 0 = ⊎-elim (λ l. omega arith) (λ l. omega arith) h in
         sym (sought .is ∙ rw (upward-end plansWith (min limit wires - (c - 1)) c e))
 
-    module _ (table : IsTable t n) (few : n ≤ 12) (wide : wires ≤ 64) (most : limit ≤ 3) (h : c ≤ limit) (k : c ≤ wires) where
+    module _ (table : IsTable t n) (wide : wires ≤ rowPlaces) (most : limit ≤ searchBuses) (h : c ≤ limit) (k : c ≤ wires) where
       widths-lent : length (take c widths) ≡ c
       widths-lent = length-take-le c widths (omega (arith, sought .widths-room))
 
       buses-lent : length (take n buses) ≡ n
-      buses-lent = length-take-le n buses (omega (arith, sought .buses-room))
+      buses-lent = length-take-le n buses (omega (arith, sought .buses-room, table .few))
 
       best-lent : length (take (n + 1) best) ≡ n + 1
-      best-lent = length-take-le (n + 1) best (omega (arith, sought .best-room))
+      best-lent = length-take-le (n + 1) best (omega (arith, sought .best-room, table .few))
 
       loads-lent : take c loads ≡ replicate c 0
-      loads-lent = rw (sought .empty) (take-replicate c 3 0 (omega arith))
+      loads-lent = rw (sought .empty) (take-replicate c searchBuses 0 (omega arith))
 
       -- what the search with c buses asks of the parts that it is lent
-      pub lent : IsTable t (length (take n buses)) × Widening 0 1 wires (take c widths) × (length (take n buses) ≤ 39)
-          × Buffers (length (take c widths)) (length (take n buses)) (take c loads) (take n buses) (take (n + 1) best) found
-      lent = (rw buses-lent table, widening, omega (arith, buses-lent), buffers)
+      pub lent : OverWidths t 0 1 wires (take c widths) (take c loads) (take n buses) (take (n + 1) best) found
+      lent = record { table = rw buses-lent table; widening = widening; buffers = buffers }
         where
           widening : Widening 0 1 wires (take c widths)
           widening =

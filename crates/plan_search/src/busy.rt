@@ -1,21 +1,25 @@
-// The busy figure of a bus of the plan that was found.
+// The busy figure of a bus of the plan that was found (document 01, "The plan": "A bus is busy for the sum of its modules' times").
+use super::place::SEARCH_MODULES;
 use super::place::time_at;
+use units::Cycles;
+use units::Wires;
 ghost use mathlib.Core.Path.{_≡_};
 ghost use Prim.Native.Nat.{_≤_};
 ghost use lib.ListN.{take};
 ghost use Rattle.plan_rules.specs.Plans.{busyFrom};
-ghost use Rattle.plan_search.specs.Search.{tableTime, IsTable};
+ghost use Rattle.plan_search.specs.Search.{rowPlaces, tableTime, IsTable};
 
 // How long bus b, from 1, of width w is busy.
-pub fn busy_of(table: &[u64], buses: [u64; 12], n: usize, b: u64, w: u64) -> u64
-    requires { ⌜ IsTable (now table) n × (n ≤ 12) × (1 ≤ w) × (w ≤ 64) ⌝ }
-    ensures { λ r. ⌜ r ≡ busyFrom (tableTime (now (table .entry))) 0 b w (take n buses) ⌝ }
+pub fn busy_of(table: &[u64], buses: [u64; SEARCH_MODULES], n: usize, b: usize, w: Wires) -> Cycles
+    requires { ⌜ IsTable (now table) n × (1 ≤ w .0) × (w .0 ≤ rowPlaces) ⌝ }
+    ensures { λ r. ⌜ r .0 ≡ busyFrom (tableTime (now (table .entry))) 0 b (w .0) (take n buses) ⌝ }
 {
-    let mut sum: u64 = 0;
+    let mut sum = Cycles(0);
     let mut i: usize = 0;
     while i < n {
-        if buses[i] == b {
-            sum += time_at(table, i, w);
+        if buses[i] as usize == b {
+            let t = time_at(table, i, w);
+            sum.0 += t.0;
         }
         i += 1;
     }

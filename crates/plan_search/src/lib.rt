@@ -1,9 +1,12 @@
-// The search for the first plan of least time (document 01, "The plan") over a table of times: width lists in their order, and on each the placements in
-// theirs. It knows numbers alone. What it shows is for the planner above it, which asks it for good tables only.
+// The search for the first plan of least time (document 01, "The plan") over a table of times: width lists in their order, and on each the
+// placements in theirs. It knows numbers alone. What it shows is for the planner above it, which asks it for good tables only.
 mod busy;
 mod place;
 mod widths;
 
 pub use busy::busy_of;
+pub use place::ROW_PLACES;
+pub use place::SEARCH_BUSES;
+pub use place::SEARCH_MODULES;
 pub use widths::Found;
 pub use widths::search;

@@ -1,43 +1,44 @@
--- `plan::entry::buses_of` meets its contract. The loop's invariant: the list holds the records of the first b buses, and behind them no bus. The measure
--- is what is left of the buses. Assumes nothing.
+-- `plan::entry::buses_of` meets its contract. The loop's invariant: the list holds the records of the first b buses, and behind them no
+-- bus. The measure is what is left of the buses. Assumes nothing.
 use borrow.Author.Needs.{needs}
 use native.Mathlib.Omega.{arith}
-use Prim.Native.Nat.{_-_, _≤_, _<_}
-use mathlib.Core.Path.{_≡_, sym, _∙_}
-use lib.ListN.{length, take}
+use Prim.Native.Nat.{_+_, _-_, _≤_, _<_}
+use mathlib.Core.Path.{_≡_, sym, ap, _∙_}
+use lib.ListN.{length, getD, take}
 use Rattle.units.specs.Places.{padded}
 use Rattle.units.proofs.PlaceLaws.{padded-none}
-use Rattle.plan_search.specs.Search.{tableTime}
+use Rattle.wrapper.specs.Answers.{cycles}
+use Rattle.plan_rules.specs.Plans.{busyFrom}
+use Rattle.plan_search.specs.Search.{searchBuses, tableTime}
 use Rattle.plan_record.specs.Record.{busPlaces, noBus}
 use Rattle.plan.proofs.EntryLaws.{busFront, front-none, front-fill, front-all}
 use Rattle.plan.proofs.entry.buses_of.Statement.{statement}
 use Rattle.plan.proofs.entry.buses_of.Tie as tie
 
 abbrev Inv-loop : tie.InvT-loop
-Inv-loop table n f list₀ b₀ list b = (b ≤ f .count) × (list ≡ padded busPlaces noBus (busFront (tableTime table) (take n (f .buses)) (f .widths) b))
+Inv-loop table n f list₀ b₀ list b =
+    (b ≤ f .count) × (list ≡ padded busPlaces noBus (busFront (tableTime table) (take n (f .buses)) (f .widths) b))
 
 abbrev μ-loop : tie.MeasureT-loop
 μ-loop table n f list₀ b₀ list b = f .count - b
 
-len : (c : tie.Start Inv-loop μ-loop) → length (c .args .t2 .widths) ≡ 3
+len : (c : tie.Start Inv-loop μ-loop) → length (c .args .t2 .widths) ≡ searchBuses
 len c = search needs
 
 no-bus-requires : tie.Need-no-bus-requires Inv-loop μ-loop
 no-bus-requires c κs = search needs
 
 loop-holds : tie.Need-loop-holds Inv-loop μ-loop
-loop-holds c = (omega arith, rw (c .no-bus .ensures, front-none (tableTime (c .before .before .args .table .now)) (take (c .before .before .args .n) (c .before .before .args .t2 .buses)) (c .before .before .args .t2 .widths)) (sym (padded-none busPlaces noBus)))
+loop-holds c =
+    let a = c .before .before .args in
+    let none = front-none (tableTime (a .table .now)) (take (a .n) (a .t2 .buses)) (a .t2 .widths) in
+    (omega arith, rw (c .no-bus .ensures, none) (sym (padded-none busPlaces noBus)))
 
-mul-w : tie.Need-mul-w Inv-loop μ-loop
-mul-w c = search needs
+mul-t10 : tie.Need-mul-t10 Inv-loop μ-loop
+mul-t10 c = search needs
 
-element-copy-out-w : tie.Need-element-copy-out-w Inv-loop μ-loop
-element-copy-out-w c = search needs
-
-cast-t15 : tie.Need-cast-t15 Inv-loop μ-loop
-cast-t15 c =
-    let s = c .before .before .before .before .before .before in
-    omega (arith, s .pre .2 .wide (c .before .before .before .loop .b) (c .before .before .loop-test .taken) .1)
+element-copy-out-t14 : tie.Need-element-copy-out-t14 Inv-loop μ-loop
+element-copy-out-t14 c = search needs
 
 add-busy-of : tie.Need-add-busy-of Inv-loop μ-loop
 add-busy-of c = search needs
@@ -45,8 +46,8 @@ add-busy-of c = search needs
 busy-of-requires : tie.Need-busy-of-requires Inv-loop μ-loop
 busy-of-requires c κs =
     let s = c .before .before .before .before .before .before in
-    let w = s .pre .2 .wide (c .before .before .before .loop .b) (c .before .before .loop-test .taken) in
-    (s .pre .0, s .pre .1, w .0, w .1)
+    let w = s .pre .1 .wide (c .before .before .before .loop .b) (c .before .before .loop-test .taken) in
+    (s .pre .0, w .0, w .1)
 
 mul-list : tie.Need-mul-list Inv-loop μ-loop
 mul-list c = search needs
@@ -67,10 +68,11 @@ loop-again c =
     let b = l .loop .b in
     let f = s .args .t2 in
     let h : b < f .count = c .before .before .before .loop-test .taken in
-    let m : b < length (f .widths) = omega (arith, len s, s .pre .2 .few) in (
-      omega arith,
-      rw (c .busy-of .ensures) (front-fill (tableTime (s .args .table .now)) (take (s .args .n) (f .buses)) (f .widths) b (l .loop .list) m (omega (arith, s .pre .2 .few)) (l .loop .inv .1)),
-    )
+    let m : b < length (f .widths) = omega (arith, len s, s .pre .1 .few) in
+    let time = tableTime (s .args .table .now) in
+    let bs = take (s .args .n) (f .buses) in
+    let e : c .busy-of .result ≡ cycles (busyFrom time 0 (b + 1) (getD (f .widths) b 0) bs) = ap cycles (c .busy-of .ensures) in
+    (omega arith, rw e (front-fill time bs (f .widths) b (l .loop .list) m (omega (arith, s .pre .1 .few)) (l .loop .inv .1)))
 
 returns : tie.Need-returns Inv-loop μ-loop
 returns c =
@@ -87,9 +89,8 @@ buses-of-spec =
     μ-loop
     no-bus-requires
     loop-holds
-    mul-w
-    element-copy-out-w
-    cast-t15
+    mul-t10
+    element-copy-out-t14
     add-busy-of
     busy-of-requires
     mul-list

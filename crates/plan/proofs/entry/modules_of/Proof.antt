@@ -1,14 +1,17 @@
--- `plan::entry::modules_of` meets its contract. The loop's invariant: the list holds the first i placed modules, and behind them no module. The measure is
--- what is left of the modules. Assumes nothing.
+-- `plan::entry::modules_of` meets its contract. The loop's invariant: the list holds the first i placed modules, and behind them no
+-- module. The measure is what is left of the modules. Assumes nothing.
 use borrow.Author.Needs.{needs}
 use native.Mathlib.Omega.{arith}
-use Prim.Native.Nat.{_+_, _-_, _*_, _≤_, _<_}
+use Prim.Native.Nat.{ℕ, _+_, _-_, _*_, _≤_, _<_}
 use mathlib.Core.Path.{_≡_, sym, _∙_}
 use lib.ListN.{length, getD, take}
 use Rattle.units.specs.Places.{padded}
 use Rattle.units.proofs.PlaceLaws.{padded-none}
 use Rattle.plan_record.specs.Record.{modulePlaces, noPlaced}
+use Rattle.wrapper.specs.Answers.{widthMax}
+use Rattle.plan_search.specs.Search.{searchModules, rowPlaces}
 use Rattle.plan.specs.Records.{placedFrom}
+use Rattle.plan.specs.Tables.{tablePlaces}
 use Rattle.plan.proofs.EntryLaws.{placed-none, placed-fill, placed-all}
 use Rattle.plan.proofs.entry.modules_of.Statement.{statement}
 use Rattle.plan.proofs.entry.modules_of.Tie as tie
@@ -19,27 +22,34 @@ Inv-loop p t f list₀ n i₀ list i = (i ≤ n) × (list ≡ padded modulePlace
 abbrev μ-loop : tie.MeasureT-loop
 μ-loop p t f list₀ n i₀ list i = n - i
 
-buses-length : (c : tie.Start Inv-loop μ-loop) → length (c .args .t3 .buses) ≡ 12
+buses-length : (c : tie.Start Inv-loop μ-loop) → length (c .args .t3 .buses) ≡ searchModules
 buses-length c = search needs
 
--- the module's bus is one of the plan's
-bus-in : (c : tie.In-loop Inv-loop μ-loop) → (1 ≤ getD (c .before .before .before .args .t3 .buses) (c .before .loop .i) 0) × (getD (c .before .before .before .args .t3 .buses) (c .before .loop .i) 0 ≤ c .before .before .before .args .t3 .count)
+-- the bus of the module that a turn places, and that bus's width
+abbrev bus : (c : tie.In-loop Inv-loop μ-loop) → ℕ
+bus c = getD (c .before .before .before .args .t3 .buses) (c .before .loop .i) 0
+
+abbrev width : (c : tie.In-loop Inv-loop μ-loop) → ℕ
+width c = getD (c .before .before .before .args .t3 .widths) (bus c - 1) 0
+
+-- the bus is one of the plan's
+bus-in : (c : tie.In-loop Inv-loop μ-loop) → (1 ≤ bus c) × (bus c ≤ c .before .before .before .args .t3 .count)
 bus-in c = c .before .before .before .pre .1 .placed (c .before .loop .i) (c .loop-test .taken)
 
 -- and its width one of the widths
-width-in : (c : tie.In-loop Inv-loop μ-loop)
-    → (1 ≤ getD (c .before .before .before .args .t3 .widths) (getD (c .before .before .before .args .t3 .buses) (c .before .loop .i) 0 - 1) 0)
-    × (getD (c .before .before .before .args .t3 .widths) (getD (c .before .before .before .args .t3 .buses) (c .before .loop .i) 0 - 1) 0 ≤ 64)
-width-in c = c .before .before .before .pre .1 .wide (getD (c .before .before .before .args .t3 .buses) (c .before .loop .i) 0 - 1) (omega (arith, bus-in c))
+width-in : (c : tie.In-loop Inv-loop μ-loop) → (1 ≤ width c) × (width c ≤ widthMax)
+width-in c = c .before .before .before .pre .1 .wide (bus c - 1) (omega (arith, bus-in c))
 
-place-in : (c : tie.In-loop Inv-loop μ-loop) → c .before .loop .i * 64 + (getD (c .before .before .before .args .t3 .widths) (getD (c .before .before .before .args .t3 .buses) (c .before .loop .i) 0 - 1) 0 - 1) < 768
+place-in : (c : tie.In-loop Inv-loop μ-loop) → c .before .loop .i * rowPlaces + (width c - 1) < tablePlaces
 place-in c = omega (arith, width-in c, c .before .before .before .pre .0, c .loop-test .taken)
 
 no-placed-requires : tie.Need-no-placed-requires Inv-loop μ-loop
 no-placed-requires c κs = search needs
 
 loop-holds : tie.Need-loop-holds Inv-loop μ-loop
-loop-holds c = (omega arith, rw (c .no-placed .ensures, placed-none (c .before .args .t1) (c .before .args .t2) (c .before .args .t3)) (sym (padded-none modulePlaces noPlaced)))
+loop-holds c =
+    let a = c .before .args in
+    (omega arith, rw (c .no-placed .ensures, placed-none (a .t1) (a .t2) (a .t3)) (sym (padded-none modulePlaces noPlaced)))
 
 mul-number : tie.Need-mul-number Inv-loop μ-loop
 mul-number c = search needs
@@ -53,35 +63,38 @@ mul-bus c = search needs
 element-copy-out-bus : tie.Need-element-copy-out-bus Inv-loop μ-loop
 element-copy-out-bus c = search needs
 
-sub-w : tie.Need-sub-w Inv-loop μ-loop
-sub-w c = bus-in (c .before .before) .0
+sub-t19 : tie.Need-sub-t19 Inv-loop μ-loop
+sub-t19 c = bus-in (c .before .before) .0
 
-mul-w : tie.Need-mul-w Inv-loop μ-loop
-mul-w c = omega (arith, bus-in (c .before .before), c .before .before .before .before .before .pre .1 .few)
+mul-t16 : tie.Need-mul-t16 Inv-loop μ-loop
+mul-t16 c = omega (arith, bus-in (c .before .before), c .before .before .before .before .before .pre .1 .few)
 
-element-copy-out-w : tie.Need-element-copy-out-w Inv-loop μ-loop
-element-copy-out-w c = omega (arith, bus-in (c .before .before), c .before .before .before .before .before .pre .1 .few)
+element-copy-out-t25 : tie.Need-element-copy-out-t25 Inv-loop μ-loop
+element-copy-out-t25 c = omega (arith, bus-in (c .before .before), c .before .before .before .before .before .pre .1 .few)
 
 mul-at : tie.Need-mul-at Inv-loop μ-loop
 mul-at c = search needs
 
+cast-at : tie.Need-cast-at Inv-loop μ-loop
+cast-at c = search needs
+
 sub-at : tie.Need-sub-at Inv-loop μ-loop
-sub-at c = width-in (c .before .before .before) .0
+sub-at c = width-in (c .before .before .before .before) .0
 
 add-at : tie.Need-add-at Inv-loop μ-loop
-add-at c = omega (arith, place-in (c .before .before .before))
+add-at c = omega (arith, place-in (c .before .before .before .before))
 
 mul-t19 : tie.Need-mul-t19 Inv-loop μ-loop
-mul-t19 c = omega (arith, place-in (c .before .before .before))
+mul-t19 c = omega (arith, place-in (c .before .before .before .before))
 
-element-copy-out-t27 : tie.Need-element-copy-out-t27 Inv-loop μ-loop
-element-copy-out-t27 c = place-in (c .before .before .before)
+element-copy-out-t25-2 : tie.Need-element-copy-out-t25-2 Inv-loop μ-loop
+element-copy-out-t25-2 c = place-in (c .before .before .before .before)
 
-mul-t16 : tie.Need-mul-t16 Inv-loop μ-loop
-mul-t16 c = omega (arith, place-in (c .before .before .before .before))
+mul-t16-2 : tie.Need-mul-t16-2 Inv-loop μ-loop
+mul-t16-2 c = omega (arith, place-in (c .before .before .before .before .before))
 
 element-copy-out-t22 : tie.Need-element-copy-out-t22 Inv-loop μ-loop
-element-copy-out-t22 c = place-in (c .before .before .before .before)
+element-copy-out-t22 c = place-in (c .before .before .before .before .before)
 
 mul-list : tie.Need-mul-list Inv-loop μ-loop
 mul-list c = search needs
@@ -97,12 +110,13 @@ loop-less c = search needs
 
 loop-again : tie.Need-loop-again Inv-loop μ-loop
 loop-again c =
-    let l = c .before .before .before .before .before .before in
+    let i = c .before .before .before .before .before .before in
+    let l = i .before in
     let s = l .before .before in
-    let h : l .loop .i < s .args .t1 .count = c .before .before .before .before .before .loop-test .taken in (
-      omega arith,
-      placed-fill (s .args .t1) (s .args .t2) (s .args .t3) (l .loop .i) (l .loop .list) (omega (arith, buses-length s, s .pre .0)) (omega (arith, s .pre .0)) (l .loop .inv .1),
-    )
+    let a = s .args in
+    let h : l .loop .i < a .t1 .count = i .loop-test .taken in
+    let b : l .loop .i < length (a .t3 .buses) = omega (arith, buses-length s, s .pre .0) in
+    (omega arith, placed-fill (a .t1) (a .t2) (a .t3) (l .loop .i) (l .loop .list) b (omega (arith, s .pre .0)) (l .loop .inv .1))
 
 returns : tie.Need-returns Inv-loop μ-loop
 returns c =
@@ -123,15 +137,16 @@ modules-of-spec =
     element-copy-out-number
     mul-bus
     element-copy-out-bus
-    sub-w
-    mul-w
-    element-copy-out-w
+    sub-t19
+    mul-t16
+    element-copy-out-t25
     mul-at
+    cast-at
     sub-at
     add-at
     mul-t19
-    element-copy-out-t27
-    mul-t16
+    element-copy-out-t25-2
+    mul-t16-2
     element-copy-out-t22
     mul-list
     array-set-from-list

@@ -112,8 +112,17 @@ found-plan-requires : tie.Need-found-plan-requires
 found-plan-requires c κs =
     let m = c .before .before .before .before .before in
     let e = m .before .before .before in
-    let g = e .before .before .before .before in
-    (good g, m .planned-modules .ensures, rw (count-is m) at (c .before .before .before .if6 .left), rw (count-is m) at (c .before .if7 .left), e .before .before .if2 .left, e .if3 .left, m .before .before .if4 .left, m .before .if5 .left)
+    let g = e .before .before .before .before in (
+      record {
+        good = good g;
+        numbers = m .planned-modules .ensures;
+        most = rw (count-is m) at (c .before .if7 .left);
+        low = e .before .before .if2 .left;
+        narrow = e .if3 .left;
+      },
+      m .before .before .if4 .left,
+      m .before .if5 .left,
+    )
 
 returns-8 : tie.Need-returns-8
 unfolding planAnswer

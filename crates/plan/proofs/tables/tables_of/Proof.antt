@@ -5,6 +5,7 @@ use Prim.Native.Nat.{_-_, _≤_, _<_}
 use mathlib.Core.Path.{_≡_, ap, _∙_}
 use native.Mathlib.Omega.{arith}
 use lib.ListN.{length, getD}
+use Rattle.soc.specs.Limits.{modulesMax}
 use Rattle.soc.specs.Planned.{plannedOf}
 use Rattle.wrapper.proofs.KeptLaws.{good-count}
 use Rattle.units.proofs.PlaceLaws.{padded-at}
@@ -22,7 +23,7 @@ abbrev μ-loop : tie.MeasureT-loop
 
 -- there are as many places in use as planned modules
 count : (c : tie.Start Inv-loop μ-loop) → c .args .t2 .count ≡ length (plannedOf (c .args .s))
-count c = ap (λ p. p .count) (c .pre .1)
+count c = ap (λ p. p .count) (c .pre .numbers)
 
 -- the next one is one of them
 below : (c : tie.In-loop Inv-loop μ-loop) → c .before .loop .k < length (plannedOf (c .before .before .args .s))
@@ -32,28 +33,28 @@ below c = rw (count (c .before .before)) at (c .loop-test .taken)
 number-is : (c : tie.In-loop Inv-loop μ-loop) → getD (c .before .before .args .t2 .numbers) (c .before .loop .k) 0 ≡ getD (plannedOf (c .before .before .args .s)) (c .before .loop .k) 0
 number-is c =
     let a = c .before .before in
-    ap (λ p. getD (p .numbers) (c .before .loop .k) 0) (a .pre .1) ∙ padded-at 40 0 (plannedOf (a .args .s)) (c .before .loop .k)
+    ap (λ p. getD (p .numbers) (c .before .loop .k) 0) (a .pre .numbers) ∙ padded-at modulesMax 0 (plannedOf (a .args .s)) (c .before .loop .k)
 
 loop-holds : tie.Need-loop-holds Inv-loop μ-loop
 loop-holds c = (omega arith, tables-none (c .args .s) (c .args .w .0))
 
 mul-number : tie.Need-mul-number Inv-loop μ-loop
-mul-number c = omega (arith, below c, c .before .before .pre .2)
+mul-number c = omega (arith, below c, c .before .before .pre .most)
 
 element-copy-out-number : tie.Need-element-copy-out-number Inv-loop μ-loop
-element-copy-out-number c = omega (arith, below c, c .before .before .pre .2)
+element-copy-out-number c = omega (arith, below c, c .before .before .pre .most)
 
 cast-module-times : tie.Need-cast-module-times Inv-loop μ-loop
 cast-module-times c =
     let a = c .before .before .before in
     let n = planned-number (a .args .s) (c .before .before .loop .k) (below (c .before)) .0 in
-    rw (number-is (c .before)) (omega (arith, good-count (a .args .s) (a .pre .0)))
+    rw (number-is (c .before)) (omega (arith, good-count (a .args .s) (a .pre .good)))
 
 module-times-requires : tie.Need-module-times-requires Inv-loop μ-loop
 module-times-requires c κs = search needs
 
 with-times-requires : tie.Need-with-times-requires Inv-loop μ-loop
-with-times-requires c κs = let i = c .before .before .before in omega (arith, below i, i .before .before .pre .2)
+with-times-requires c κs = let i = c .before .before .before in omega (arith, below i, i .before .before .pre .most)
 
 add-k : tie.Need-add-k Inv-loop μ-loop
 add-k c = search needs
@@ -71,7 +72,7 @@ loop-again c =
     ap (λ r. r .times) (m .module-times .ensures) ∙ rw (number-is i)
     in
     let r = rw e at (c .with-times .ensures) in
-    (omega arith, tables-more (a .args .s) (a .args .w .0) k (a .pre .0) (below i) (a .pre .3) (a .pre .4) r (i .before .loop .inv .1))
+    (omega arith, tables-more (a .args .s) (a .args .w .0) k (a .pre .good) (below i) (a .pre .low) (a .pre .narrow) r (i .before .loop .inv .1))
 
 returns : tie.Need-returns Inv-loop μ-loop
 returns c =

@@ -1,5 +1,5 @@
 -- `plan::tables::with_times` meets its contract. The loop's invariant: the first `j` times and wires stand in the places of module `k`, and nothing
--- else has changed. The measure is what is left of the 64 widths. Assumes nothing.
+-- else has changed. The measure is what is left of the widths. Assumes nothing.
 use borrow.Author.Needs.{needs}
 use borrow.Author.Count.{below-more}
 use Prim.Native.Nat.{ℕ, _+_, _-_, _*_, _≤_, _<_}
@@ -9,21 +9,24 @@ use native.Mathlib.Omega.{arith}
 use lib.Seq.{getD-set-same, getD-set-other}
 use lib.ListN.{length, length-set, length-map, getD, set}
 use Rattle.wrapper.specs.Answers as answers
+use Rattle.plan_search.specs.Search.{rowPlaces}
+use Rattle.plan.specs.Answers.{plannedMax}
+use Rattle.plan.specs.Tables.{tablePlaces}
 use Rattle.plan.proofs.tables.with_times.Statement.{statement}
 use Rattle.plan.proofs.tables.with_times.Tie as tie
 
 -- the first j values of xs stand from `at` on in what was old, and nothing else has changed
 record Stands {A : Type 0} (f : A → ℕ) (z : A) (at j : ℕ) (xs : List A) (old new : List ℕ) : Type 0 where
-  long : length new ≡ 768
+  long : length new ≡ tablePlaces
   here : (w : ℕ) → w < j → getD new (at + w) 0 ≡ f (getD xs w z)
   front : (i : ℕ) → i < at → getD new i 0 ≡ getD old i 0
   behind : (i : ℕ) → at + j ≤ i → getD new i 0 ≡ getD old i 0
 
 module _ {A : Type 0} {f : A → ℕ} {z : A} {at : ℕ} {xs : List A} {old : List ℕ} where
-  stands-none : length old ≡ 768 → Stands f z at 0 xs old old
+  stands-none : length old ≡ tablePlaces → Stands f z at 0 xs old old
   stands-none l = record { long = l; here = λ w h. absurd (omega arith); front = λ i h. refl; behind = λ i h. refl }
 
-  stands-more : {j : ℕ} {new : List ℕ} → at + j < 768 → Stands f z at j xs old new → Stands f z at (j + 1) xs old (set new (at + j) (f (getD xs j z)))
+  stands-more : {j : ℕ} {new : List ℕ} → at + j < tablePlaces → Stands f z at j xs old new → Stands f z at (j + 1) xs old (set new (at + j) (f (getD xs j z)))
   stands-more {j} {new} l s =
       let v = f (getD xs j z) in
       record {
@@ -38,18 +41,18 @@ module _ {A : Type 0} {f : A → ℕ} {z : A} {at : ℕ} {xs : List A} {old : Li
 
 abbrev Inv-loop : tie.InvT-loop
 Inv-loop k times cycles₀ wires₀ j₀ cycles wires j =
-    (j ≤ 64) × (k < 12)
-    × Stands (λ c. c .0) (answers.cycles 0) (k * 64) j (times .cycles) cycles₀ cycles
-    × Stands (λ c. c .0) (answers.wires 0) (k * 64) j (times .wires) wires₀ wires
+    (j ≤ rowPlaces) × (k < plannedMax)
+    × Stands (λ c. c .0) (answers.cycles 0) (k * rowPlaces) j (times .cycles) cycles₀ cycles
+    × Stands (λ c. c .0) (answers.wires 0) (k * rowPlaces) j (times .wires) wires₀ wires
 
 abbrev μ-loop : tie.MeasureT-loop
-μ-loop k times cycles₀ wires₀ j₀ cycles wires j = 64 - j
+μ-loop k times cycles₀ wires₀ j₀ cycles wires j = rowPlaces - j
 
--- the tables have their 768 places
-len-cycles : (c : tie.Start Inv-loop μ-loop) → length (c .args .t .cycles) ≡ 768
+-- the tables have their places
+len-cycles : (c : tie.Start Inv-loop μ-loop) → length (c .args .t .cycles) ≡ tablePlaces
 len-cycles c = simp length-map at (c .good .0 .1 .1 .0 .1 .0 .1)
 
-len-wires : (c : tie.Start Inv-loop μ-loop) → length (c .args .t .wires) ≡ 768
+len-wires : (c : tie.Start Inv-loop μ-loop) → length (c .args .t .wires) ≡ tablePlaces
 len-wires c = simp length-map at (c .good .0 .1 .1 .1 .0 .1 .0 .1)
 
 loop-holds : tie.Need-loop-holds Inv-loop μ-loop
@@ -101,14 +104,14 @@ loop-again : tie.Need-loop-again Inv-loop μ-loop
 loop-again c =
     let l = c .before .before .before in
     let i = l .loop .inv in
-    let at = l .before .before .before .args .k * 64 + l .loop .j in
-    let m : at < 768 = omega arith in
+    let at = l .before .before .before .args .k * rowPlaces + l .loop .j in
+    let m : at < tablePlaces = omega arith in
     (omega arith, i .1, stands-more m (i .2), stands-more m (i .3))
 
 returns : tie.Need-returns Inv-loop μ-loop
 returns c =
     let i = c .before .loop .inv in
-    let e : c .before .loop .j ≡ 64 = omega arith in
+    let e : c .before .loop .j ≡ rowPlaces = omega arith in
     let x = rw e at (i .2) in
     let y = rw e at (i .3) in
     record {

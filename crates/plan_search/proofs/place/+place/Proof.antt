@@ -6,7 +6,7 @@ use native.Mathlib.Omega.{arith}
 use Prim.Native.Nat.{ℕ, _+_, _-_, _≤_, _<_}
 use mathlib.Core.Path.{_≡_, ap, _∙_}
 use mathlib.Core.Logic.{⊎-elim}
-use Rattle.plan_search.specs.Search.{timeBound}
+use Rattle.plan_search.specs.Search.{searchModules, timeBound}
 use Rattle.plan_search.proofs.PlaceLaws.{Left, length-loads, load-most, time-in, placed-all, left-start, left-end, ready-next, left-tried, left-dropped}
 use lib.ListN.{length, getD, set, length-set}
 use borrow.Fn.Kinds.{In}
@@ -76,17 +76,17 @@ place-loop-holds t c =
     let s = c .before .before .before .before .before .before in
     left-start (s .pre .1) (omega (arith, s .pre .1 .at, c .if1 .left))
 
-place-mul-w : (t : ℕ) → place-lts.Need-mul-w (calls t) (place-at t) place.Post place-Inv-loop place-μ-loop
-place-mul-w t c = search needs
+place-mul-t21 : (t : ℕ) → place-lts.Need-mul-t21 (calls t) (place-at t) place.Post place-Inv-loop place-μ-loop
+place-mul-t21 t c = search needs
 
-place-shared-slice-read-w : (t : ℕ) → place-lts.Need-shared-slice-read-w (calls t) (place-at t) place.Post place-Inv-loop place-μ-loop
-place-shared-slice-read-w t c = search needs
+place-shared-slice-read-t24 : (t : ℕ) → place-lts.Need-shared-slice-read-t24 (calls t) (place-at t) place.Post place-Inv-loop place-μ-loop
+place-shared-slice-read-t24 t c = search needs
 
-place-mul-old : (t : ℕ) → place-lts.Need-mul-old (calls t) (place-at t) place.Post place-Inv-loop place-μ-loop
-place-mul-old t c = search needs
+place-mul-if2 : (t : ℕ) → place-lts.Need-mul-if2 (calls t) (place-at t) place.Post place-Inv-loop place-μ-loop
+place-mul-if2 t c = search needs
 
-place-slice-read-old : (t : ℕ) → place-lts.Need-slice-read-old (calls t) (place-at t) place.Post place-Inv-loop place-μ-loop
-place-slice-read-old t c = in-range t (c .before .before)
+place-slice-read-if2 : (t : ℕ) → place-lts.Need-slice-read-if2 (calls t) (place-at t) place.Post place-Inv-loop place-μ-loop
+place-slice-read-if2 t c = in-range t (c .before .before)
 
 place-time-at-requires : (t : ℕ) → place-lts.Need-time-at-requires (calls t) (place-at t) place.Post place-Inv-loop place-μ-loop
 place-time-at-requires t c κs =
@@ -94,28 +94,29 @@ place-time-at-requires t c κs =
     let s = start t l in
     time-in (s .pre .1) (l .loop .b) (less t l) (c .before .before .loop-test .taken)
 
-place-add-load : (t : ℕ) → place-lts.Need-add-load (calls t) (place-at t) place.Post place-Inv-loop place-μ-loop
-place-add-load t c =
-    let l = c .before .before .before .before in
+place-add-if2 : (t : ℕ) → place-lts.Need-add-if2 (calls t) (place-at t) place.Post place-Inv-loop place-μ-loop
+place-add-if2 t c =
+    let v = c .before .before in
+    let l = v .before .before .before .before in
     let s = start t l in
     let b = l .loop .b in
     let e : getD (l .loop .loads) b 0 ≡ getD (s .args .loads .now) b 0 = ap (λ x. getD x b 0) (l .loop .inv .loads-same) in
     let m = load-most (s .pre .1) b in
-    let u : c .time-at .result ≤ timeBound = rw (c .time-at .ensures) (s .pre .1 .times (s .args .i) (getD (s .args .widths .now) b 0)) in
-    let k : s .args .i ≤ 38 = omega (arith, less t l, s .pre .1 .modules) in
+    let u : v .time-at .result .0 ≤ timeBound = rw (v .time-at .ensures) (s .pre .1 .times (s .args .i) (getD (s .args .widths .now) b 0)) in
+    let k : s .args .i < searchModules = omega (arith, less t l, s .pre .1 .modules) in
     omega (arith, e, m, u, k)
 
 place-larger-requires : (t : ℕ) → place-lts.Need-larger-requires (calls t) (place-at t) place.Post place-Inv-loop place-μ-loop
 place-larger-requires t c κs = search needs
 
-place-slice-read-if2 : (t : ℕ) → place-lts.Need-slice-read-if2 (calls t) (place-at t) place.Post place-Inv-loop place-μ-loop
-place-slice-read-if2 t c = search needs
+place-slice-read-if2-2 : (t : ℕ) → place-lts.Need-slice-read-if2-2 (calls t) (place-at t) place.Post place-Inv-loop place-μ-loop
+place-slice-read-if2-2 t c = search needs
 
 place-mul-loads : (t : ℕ) → place-lts.Need-mul-loads (calls t) (place-at t) place.Post place-Inv-loop place-μ-loop
 place-mul-loads t c = search needs
 
 place-slice-write-loads : (t : ℕ) → place-lts.Need-slice-write-loads (calls t) (place-at t) place.Post place-Inv-loop place-μ-loop
-place-slice-write-loads t c = in-range t (c .before .before .before .before .before .before)
+place-slice-write-loads t c = in-range t (c .before .before .before .before .before .before .before .before .before)
 
 place-add-buses : (t : ℕ) → place-lts.Need-add-buses (calls t) (place-at t) place.Post place-Inv-loop place-μ-loop
 place-add-buses t c = search needs
@@ -131,14 +132,14 @@ place-add-place t c = search needs
 
 place-place-requires : (t : ℕ) → place-lts.Need-place-requires (calls t) (place-at t) place.Post place-Inv-loop place-μ-loop
 place-place-requires t c κs =
-    let g = c .before .before .before .before .before in
-    let l = g .before .before .before .before .before in
+    let g = c .before .before .before .before .before .before in
+    let l = g .before .before .before .before .before .before .before in
     let s = start t l in
     let z : length (set (l .loop .buses) (s .args .i) (l .loop .b + 1)) ≡ length (s .args .buses .now) = length-set (l .loop .buses) (s .args .i) (l .loop .b + 1) ∙ l .loop .inv .buses-length in
     let m : length (set (l .loop .buses) (s .args .i) (l .loop .b + 1)) - (s .args .i + 1) < t = omega (arith, z, less t l, s .pre .0) in (
       m,
       ready-next (s .pre .1) (less t l) (l .loop .inv)
-          (g .before .before .before .before .loop-test .taken) (ap (λ x. getD (l .loop .loads) (l .loop .b) 0 + x) (g .before .time-at .ensures)) (g .larger .ensures) (c .before .before .before .if2 .taken),
+          (g .before .before .before .before .before .before .loop-test .taken) (ap (λ x. getD (l .loop .loads) (l .loop .b) 0 + x) (g .before .before .before .time-at .ensures)) (g .larger .ensures) (c .before .before .before .if2 .taken),
     )
 
 place-mul-loads-2 : (t : ℕ) → place-lts.Need-mul-loads-2 (calls t) (place-at t) place.Post place-Inv-loop place-μ-loop
@@ -147,10 +148,10 @@ place-mul-loads-2 t c = search needs
 place-slice-write-loads-2 : (t : ℕ) → place-lts.Need-slice-write-loads-2 (calls t) (place-at t) place.Post place-Inv-loop place-μ-loop
 place-slice-write-loads-2 t c =
     let p = c .before .before .before .before .before .before in
-    let g = p .before .before .before .before .before .before in
-    let l = g .before .before .before .before .before in
-    let e : length (p .place .last .1 .1 .1 .1 .0) ≡ length (l .loop .loads) = ap length (p .place .ensures .loads-same) ∙ length-set (l .loop .loads) (l .loop .b) (getD (l .loop .loads) (l .loop .b) 0 + g .before .time-at .result) in
-    let h = in-range t (g .before .before .before .before) in
+    let g = p .before .before .before .before .before .before .before in
+    let l = g .before .before .before .before .before .before .before in
+    let e : length (p .place .last .1 .1 .1 .1 .0) ≡ length (l .loop .loads) = ap length (p .place .ensures .loads-same) ∙ length-set (l .loop .loads) (l .loop .b) (getD (l .loop .loads) (l .loop .b) 0 + g .before .before .before .time-at .result .0) in
+    let h = in-range t (g .before .before .before .before .before .before) in
     rw e h
 
 place-add-b : (t : ℕ) → place-lts.Need-add-b (calls t) (place-at t) place.Post place-Inv-loop place-μ-loop
@@ -161,18 +162,18 @@ place-loop-less t c = search needs
 
 place-loop-again : (t : ℕ) → place-lts.Need-loop-again (calls t) (place-at t) place.Post place-Inv-loop place-μ-loop
 place-loop-again t c =
-    let g = c .before .before in
-    let l = g .before .before .before .before .before in
+    let g = c .before .before .before in
+    let l = g .before .before .before .before .before .before .before in
     let s = start t l in
     ⊎-elim
     (λ w.
     rw (w .11, w .12, w .13)
     (left-tried (s .pre .1) (less t l) (l .loop .inv)
-    (g .before .before .before .before .loop-test .taken) (ap (λ x. getD (l .loop .loads) (l .loop .b) 0 + x) (g .before .time-at .ensures)) (g .larger .ensures) (w .4 .ensures) (w .4 .kept .1 .1 .1 .1 .1 .0) (w .4 .kept .1 .1 .1 .1 .1 .1 .0)))
+    (g .before .before .before .before .before .before .loop-test .taken) (ap (λ x. getD (l .loop .loads) (l .loop .b) 0 + x) (g .before .before .before .time-at .ensures)) (g .larger .ensures) (w .4 .ensures) (w .4 .kept .1 .1 .1 .1 .1 .0) (w .4 .kept .1 .1 .1 .1 .1 .1 .0)))
     (λ w.
     rw (w .1, w .2, w .3)
     (left-dropped (s .pre .1) (less t l) (l .loop .inv)
-    (g .before .before .before .before .loop-test .taken) (ap (λ x. getD (l .loop .loads) (l .loop .b) 0 + x) (g .before .time-at .ensures)) (g .larger .ensures) (w .0 .left)))
+    (g .before .before .before .before .before .before .loop-test .taken) (ap (λ x. getD (l .loop .loads) (l .loop .b) 0 + x) (g .before .before .before .time-at .ensures)) (g .larger .ensures) (w .0 .left)))
     (c .if2 .came)
 
 place-same-length-3 : (t : ℕ) → place-lts.Need-same-length-3 (calls t) (place-at t) place.Post place-Inv-loop place-μ-loop
@@ -201,14 +202,14 @@ pub +place-spec : {M : Type 1} → statement M
     (place-same-length-2 t)
     (place-returns t)
     (place-loop-holds t)
-    (place-mul-w t)
-    (place-shared-slice-read-w t)
-    (place-mul-old t)
-    (place-slice-read-old t)
-    (place-time-at-requires t)
-    (place-add-load t)
-    (place-larger-requires t)
+    (place-mul-t21 t)
+    (place-shared-slice-read-t24 t)
+    (place-mul-if2 t)
     (place-slice-read-if2 t)
+    (place-time-at-requires t)
+    (place-add-if2 t)
+    (place-larger-requires t)
+    (place-slice-read-if2-2 t)
     (place-mul-loads t)
     (place-slice-write-loads t)
     (place-add-buses t)

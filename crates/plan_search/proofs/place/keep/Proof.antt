@@ -1,33 +1,28 @@
--- `place::keep` meets its contract. The loop's invariant: up to place i the best holds the time and the bus numbers before i, in as many places as before.
--- Assumes nothing.
+-- `place::keep` meets its contract. The loop's invariant is `Behind`: the bus numbers before i stand behind the time. Assumes nothing.
 use borrow.Author.Needs.{needs}
 use native.Mathlib.Omega.{arith}
-use Prim.Native.Nat.{ℕ, suc, _+_, _-_, _≤_, _<_}
-use mathlib.Core.Path.{_≡_, sym, _∙_}
-use mathlib.Core.List.{List, _∷_}
-use lib.ListN.{length, getD, take, set, length-set}
-use lib.Seq.{take-suc, take-suc-set, take-all, take-length}
-use native.Mathlib.Numerals.{add-one}
+use Prim.Native.Nat.{_+_, _-_}
+use mathlib.Core.Path.{_≡_, _∙_}
+use mathlib.Core.List.{[], append-nil}
+use lib.ListN.{length, drop, set, length-set, drop-of-length-le}
+use lib.Seq.{getD-set-same}
+use Rattle.plan_search.proofs.CopyLaws.{Behind, behind-first, behind-more, behind-all}
 use Rattle.plan_search.proofs.place.keep.Statement.{statement}
 use Rattle.plan_search.proofs.place.keep.Tie as tie
 
-copied : (buses best : List ℕ) (i top : ℕ) → i < length buses → length best ≡ length buses + 1 → take (suc i) best ≡ top ∷ take i buses
-    → take (suc (i + 1)) (set best (i + 1) (getD buses i 0)) ≡ top ∷ take (i + 1) buses
-copied buses best i top h l e =
-    let k : suc i < length best = omega arith in
-    rw (add-one, take-suc-set best (suc i) (getD buses i 0) k, e, take-suc buses i 0 h)
-
 abbrev Inv-loop : tie.InvT-loop
-Inv-loop top buses best₀ i₀ best i = (i ≤ length buses) × (length best ≡ length buses + 1) × (take (suc i) best ≡ top ∷ take i buses)
+Inv-loop buses best₀ i₀ best i = (length best₀ ≡ length buses + 1) × Behind buses best₀ best i
 
 abbrev μ-loop : tie.MeasureT-loop
-μ-loop top buses best₀ i₀ best i = length buses - i
+μ-loop buses best₀ i₀ best i = length buses - i
 
 slice-write-best : tie.Need-slice-write-best Inv-loop μ-loop
 slice-write-best c = search needs
 
 loop-holds : tie.Need-loop-holds Inv-loop μ-loop
-loop-holds c = (omega arith, simp length-set (c .pre), take-suc-set (c .args .best .now) 0 (c .args .top) (omega arith))
+loop-holds c =
+    let r = length-set (c .args .best .now) 0 (c .args .top .0) ∙ c .pre in
+    (r, behind-first (c .args .buses .now) (set (c .args .best .now) 0 (c .args .top .0)) (omega arith))
 
 mul-best : tie.Need-mul-best Inv-loop μ-loop
 mul-best c = search needs
@@ -42,7 +37,9 @@ mul-best-2 : tie.Need-mul-best-2 Inv-loop μ-loop
 mul-best-2 c = search needs
 
 slice-write-best-2 : tie.Need-slice-write-best-2 Inv-loop μ-loop
-slice-write-best-2 c = search needs
+slice-write-best-2 c =
+    let i = c .before .before .loop .inv in
+    omega (arith, i .0, i .1 .same-length, c .before .loop-test .taken)
 
 add-i : tie.Need-add-i Inv-loop μ-loop
 add-i c = search needs
@@ -53,16 +50,22 @@ loop-less c = search needs
 loop-again : tie.Need-loop-again Inv-loop μ-loop
 loop-again c =
     let l = c .before .before .loop in
-    (omega arith, simp length-set (l .inv .1), copied (c .before .before .before .args .buses .now) (l .best) (l .i) (c .before .before .before .args .top) (omega arith) (l .inv .1) (l .inv .2))
+    let a = c .before .before .before .args in
+    let best₀ = set (a .best .now) 0 (a .top .0) in
+    (l .inv .0, behind-more (a .buses .now) best₀ (omega (arith, l .inv .0)) (l .best) (l .i) (l .inv .1) (c .before .loop-test .taken))
 
 same-length : tie.Need-same-length Inv-loop μ-loop
-same-length c = search needs
+same-length c = c .before .loop .inv .1 .same-length ∙ length-set (c .before .before .args .best .now) 0 (c .before .before .args .top .0)
 
 returns : tie.Need-returns Inv-loop μ-loop
 returns c =
     let l = c .before .loop in
-    let e : l .i ≡ length (c .before .before .args .buses .now) = omega arith in
-    sym (take-all (suc (l .i)) (l .best) (omega arith)) ∙ l .inv .2 ∙ rw (e, take-length)
+    let a = c .before .before .args in
+    let best₀ = set (a .best .now) 0 (a .top .0) in
+    let n = length (a .buses .now) + 1 in
+    let d : drop n best₀ ≡ [] = drop-of-length-le best₀ {i = n} (omega (arith, l .inv .0)) in
+    behind-all (a .buses .now) best₀ (omega (arith, l .inv .0)) (l .best) (l .i) (l .inv .1) (c .loop-test .left)
+    ∙ rw (getD-set-same (a .best .now) 0 (a .top .0) 0 (omega (arith, c .before .before .pre)), d, append-nil (a .buses .now))
 
 pub keep-spec : {M : Type 1} → statement M
 keep-spec =

@@ -5,26 +5,31 @@ use Rattle.plan_search.proofs.KeepLaws.{searched-none, ready-on, search
 use Rattle.plan_search.proofs.widths.on_widths.Statement.{statement}
 use Rattle.plan_search.proofs.widths.on_widths.Tie as tie
 
-slice-read-before : tie.Need-slice-read-before
-slice-read-before c = search needs
+slice-read-if2 : tie.Need-slice-read-if2
+slice-read-if2 c = search needs
 
 may-beat-requires : tie.Need-may-beat-requires
 may-beat-requires c κs = search needs
 
 returns : tie.Need-returns
 returns c =
-    let s = c .before .before .before .before .before .before .before .before .before in
+    let m = c .before in
+    let s = m .before .before .before .before .before .before .before .before in
     let a = s .args in
-    searched-none (a .table .now) (a .widths .now) (a .loads .now) (a .buses .now) (a .best .now) (a .found .now) (s .pre .3) (c .before .may-beat .ensures .1 (not-true (c .before .may-beat .result) (c .if1 .taken)))
+    searched-none (a .table .now) (a .widths .now) (a .loads .now) (a .buses .now) (a .best .now) (a .found .now) (s .pre .buffers)
+    (m .may-beat .ensures .1 (not-true (m .may-beat .result) (c .if1 .taken)))
 
 place-requires : tie.Need-place-requires
 place-requires c κs =
-    let s = c .before .before .before .before .before .before .before .before .before .before .before .before in
+    let e = c .before .before .before in
+    let m = e .before in
+    let s = m .before .before .before .before .before .before .before .before in
     let a = s .args in
-    ready-on (a .table .now) (a .widths .now) (a .loads .now) (a .buses .now) (a .best .now) (a .found .now) (s .pre .3) (s .pre .0) (s .pre .1) (s .pre .2) (c .before .before .before .before .may-beat .ensures .0 (not-false (c .before .before .before .before .may-beat .result) (c .before .before .before .if1 .left)))
+    ready-on (a .table .now) (a .widths .now) (a .loads .now) (a .buses .now) (a .best .now) (a .found .now) (s .pre .buffers)
+    (s .pre .table) (s .pre .widths) (m .may-beat .ensures .0 (not-false (m .may-beat .result) (e .if1 .left)))
 
-slice-read-if2 : tie.Need-slice-read-if2
-slice-read-if2 c = search needs
+slice-read-if2-2 : tie.Need-slice-read-if2-2
+slice-read-if2-2 c = search needs
 
 keep-widths-requires : tie.Need-keep-widths-requires
 keep-widths-requires c κs = search needs
@@ -41,14 +46,21 @@ same-length-3 c = search needs
 same-length-4 : tie.Need-same-length-4
 same-length-4 c = search needs
 
+-- the start, seen from behind the call of `place`
+abbrev start : (c : tie.After-place) → tie.Start
+start c = c .before .before .before .before .before .before .before .before .before .before .before .before .before
+
 returns-2 : tie.Need-returns-2
 returns-2 c =
-    let s = c .before .before .before .before .before .before .before .before .before .before .before .before .before .before .before .before .before .before .before .before .before .before .before .before .before in
+    let k = c .before .before in
+    let v = k .before .before .before .before .before .before .before .before .before .before .before in
+    let p = v .place in
+    let s = start v in
     let a = s .args in
-    let p = c .before .before .before .before .before .before .before .before .before .before .before .before .place in
-    searched-less (a .table .now) (a .widths .now) (a .loads .now) (a .buses .now) (a .best .now) (a .found .now) (s .pre .3)
-    (p .last .1 .1 .1 .1 .0) (p .last .1 .1 .1 .1 .1 .0) (p .last .1 .1 .1 .1 .1 .1 .0) (p .ensures) (p .kept .1 .1 .1 .1 .1 .0) (p .kept .1 .1 .1 .1 .1 .1 .0)
-    (c .before .before .keep-widths .last .1 .0) (c .before .before .before .before .if2 .taken) (c .before .before .keep-widths .ensures)
+    searched-less (a .table .now) (a .widths .now) (a .loads .now) (a .buses .now) (a .best .now) (a .found .now) (s .pre .buffers)
+    (p .last .1 .1 .1 .1 .0) (p .last .1 .1 .1 .1 .1 .0) (p .last .1 .1 .1 .1 .1 .1 .0) (p .ensures)
+    (p .kept .1 .1 .1 .1 .1 .0) (p .kept .1 .1 .1 .1 .1 .1 .0)
+    (k .keep-widths .last .1 .0) (k .before .before .if2 .taken) (k .keep-widths .ensures)
 
 same-length-5 : tie.Need-same-length-5
 same-length-5 c = search needs
@@ -61,22 +73,24 @@ same-length-7 c = search needs
 
 returns-3 : tie.Need-returns-3
 returns-3 c =
-    let s = c .before .before .before .before .before .before .before .before .before .before .before .before .before .before .before .before .before .before .before .before .before in
+    let v = c .before .before .before .before .before .before .before .before .before in
+    let p = v .place in
+    let s = start v in
     let a = s .args in
-    let p = c .before .before .before .before .before .before .before .before .place in
-    searched-same (a .table .now) (a .widths .now) (a .loads .now) (a .buses .now) (a .best .now) (a .found .now) (s .pre .3)
-    (p .last .1 .1 .1 .1 .0) (p .last .1 .1 .1 .1 .1 .0) (p .last .1 .1 .1 .1 .1 .1 .0) (p .ensures) (p .kept .1 .1 .1 .1 .1 .0) (p .kept .1 .1 .1 .1 .1 .1 .0)
+    searched-same (a .table .now) (a .widths .now) (a .loads .now) (a .buses .now) (a .best .now) (a .found .now) (s .pre .buffers)
+    (p .last .1 .1 .1 .1 .0) (p .last .1 .1 .1 .1 .1 .0) (p .last .1 .1 .1 .1 .1 .1 .0) (p .ensures)
+    (p .kept .1 .1 .1 .1 .1 .0) (p .kept .1 .1 .1 .1 .1 .1 .0)
     (c .if2 .left)
 
 pub on-widths-spec : {M : Type 1} → statement M
 on-widths-spec =
     tie.close
     (tie.spec
-    slice-read-before
+    slice-read-if2
     may-beat-requires
     returns
     place-requires
-    slice-read-if2
+    slice-read-if2-2
     keep-widths-requires
     same-length
     same-length-2

@@ -1,0 +1,38 @@
+-- Laws of copying a list behind the first place of another, place by place (`Behind`). Assumes nothing.
+use Prim.Native.Nat.{ℕ, suc, _+_, _≤_, _<_}
+use mathlib.Core.Path.{_≡_, refl, sym, ap, _∙_}
+use mathlib.Core.List.{List, _∷_, _++_}
+use native.Mathlib.Omega.{arith}
+use native.Mathlib.Numerals.{add-one}
+use lib.ListN.{length, getD, take, drop, set, length-set, take-append-drop}
+use lib.Seq.{take-suc, take-suc-set, take-length, drop-set-lt, drop-drop}
+
+-- the first i of what is copied stand behind the first place, and all other places are as they were
+pub record Behind (from to₀ to : List ℕ) (i : ℕ) : Type 0 where
+  pub upto : i ≤ length from
+  pub same-length : length to ≡ length to₀
+  pub front : take (suc i) to ≡ getD to₀ 0 0 ∷ take i from
+  pub rest : drop (suc i) to ≡ drop (suc i) to₀
+
+module _ (from to₀ : List ℕ) (room : length from < length to₀) where
+  pub behind-first : Behind from to₀ to₀ 0
+  behind-first = record { upto = omega arith; same-length = refl; front = take-suc to₀ 0 0 (omega arith); rest = refl }
+
+  module _ (to : List ℕ) (i : ℕ) (b : Behind from to₀ to i) where
+    pub behind-more : i < length from → Behind from to₀ (set to (i + 1) (getD from i 0)) (i + 1)
+    behind-more h =
+        let k : suc i < length to = omega (arith, b .same-length) in
+        let q : suc i + 1 ≡ suc (suc i) = omega arith in
+        let r = sym (drop-drop 1 (suc i) to) ∙ ap (drop 1) (b .rest) ∙ drop-drop 1 (suc i) to₀ in
+        let d : drop (suc (suc i)) to ≡ drop (suc (suc i)) to₀ = rw q at r in
+        record {
+          upto = omega arith;
+          same-length = length-set to (i + 1) (getD from i 0) ∙ b .same-length;
+          front = rw (add-one, take-suc-set to (suc i) (getD from i 0) k, b .front, take-suc from i 0 h);
+          rest = rw add-one (drop-set-lt (suc (suc i)) to (suc i) (getD from i 0) (omega arith) ∙ d);
+        }
+
+    pub behind-all : length from ≤ i → to ≡ getD to₀ 0 0 ∷ from ++ drop (length from + 1) to₀
+    behind-all h =
+        let e : i ≡ length from = omega (arith, b .upto) in
+        sym (take-append-drop (suc i) to) ∙ rw (b .front, b .rest, e, take-length from, add-one)
