@@ -5,11 +5,15 @@ pub mod HeadOnly
 pub mod LevelOnly
 pub mod LineBack
 pub mod LineRefuses
+pub mod NotGiven
 pub mod Once
 pub mod PartOnly
 pub mod Refused
+pub mod RefusedLine
 pub mod RoundTrip
+pub mod SameText
 pub mod SecondOnly
+pub mod SpacingLaws
 pub mod SparePlaces
 pub mod TestOnly
 pub mod TextLaws
