@@ -29,8 +29,12 @@ use Rattle.text_lines.specs.Parts.{Whole, refuses, says, whole}
 use Rattle.text_lines.specs.Kinds.{Name, Options, Shape, Second, nameLine, totalLine, optionsLine, levelLine, secondLine, testsLine, testLine}
 use Rattle.text_lines.specs.Written.{givenField, moduleFields, nameFields, totalFields, optionsFields, levelFields, positionFields, testsFields}
 use Rattle.text.proofs.LineBack.{position-says}
-use Rattle.text.proofs.LineOnly.{after-only, NameSays, name-only, TotalSays, total-only, options-only, ShapeSays, level-only, second-only-position, second-only-tests, tests-only, test-only}
-use Rattle.text.proofs.GoodLaws.{good-spare}
+use Rattle.text.proofs.PartOnly.{after-only}
+use Rattle.text.proofs.HeadOnly.{NameSays, name-only, TotalSays, total-only, options-only}
+use Rattle.text.proofs.LevelOnly.{ShapeSays, level-only}
+use Rattle.text.proofs.SecondOnly.{second-only-position, second-only-tests, tests-only}
+use Rattle.text.proofs.TestOnly.{test-only}
+use Rattle.text.proofs.SparePlaces.{good-spare}
 use Rattle.text_reader.specs.Lines.{judged, line, noMore}
 use Rattle.text_reader.specs.Reading.{Body, behind, body, moduleOf, moduleTests, moduleRest, moduleLines, modules, socOf, behindName, soc}
 use Rattle.text_reader.specs.Reading as reading

@@ -28,7 +28,7 @@ use Rattle.text.proofs.LineBack.{name-back, total-back, options-back, l
 use Rattle.text_reader.specs.Lines.{LinesReader, judged, line, noMore}
 use Rattle.text_reader.specs.Reading.{Body, behind, body, tests, moduleOf, moduleTests, moduleRest, moduleLines, modules, socOf, rest, behindName, soc}
 use Rattle.text.specs.Describes.{TestLine, TestLines, PositionPart, ModuleLines, ModulesLines, Describes, fieldsIn}
-use Rattle.text.proofs.GoodLaws.{GoodModule, good-module, GoodSoc, good-soc, AllSized, sized-first, sized-rest, sized-modules, sized-front, modules-padded, tests-padded}
+use Rattle.text.proofs.SparePlaces.{GoodModule, good-module, GoodSoc, good-soc, AllSized, sized-first, sized-rest, sized-modules, sized-front, modules-padded, tests-padded}
 
 -- p reads a from ls, and leaves lines with the fields gs
 pub record Leaves {A : Type 0} (p : LinesReader A) (ls : List Line) (a : A) (gs : List (List (List ℕ))) : Type 0 where
@@ -123,7 +123,7 @@ module _ (power xy : Bool) (m last : ℕ) (d : Module) (z : SizedModule d) (g : 
   module-tests-pass : (ts : List (List (List ℕ))) → TestLines power m 1 (testsOf d) ts → Passes (moduleTests (optionsOf power xy) m (shapeOf d) (bodyOf d)) ts d
   unfolding moduleTests
   module-tests-pass ts r =
-      let n : length (testsOf d) ≡ d .«test_count» = length-take-le (d .«test_count») (d .tests) (omega (arith, z .tests, g .count)) in
+      let n : length (testsOf d) ≡ d .«test_count» = length-take-le (d .«test_count») (d .tests) (omega (arith, z .tests, g .figures .test-count)) in
       let e : moduleOf (shapeOf d) (bodyOf d) (testsOf d) ≡ d = ap (λ l. record {
         level = d .level;
         inputs = d .inputs;
@@ -136,7 +136,7 @@ module _ (power xy : Bool) (m last : ℕ) (d : Module) (z : SizedModule d) (g : 
         «test_count» = d .«test_count»;
         tests = l;
       }) (tests-padded d z g) in
-      let p : Passes (tests (d .«test_count») m power) ts (testsOf d) = rw n at (tests-pass r (g .tests)) in
+      let p : Passes (tests (d .«test_count») m power) ts (testsOf d) = rw n at (tests-pass r (g .figures .tests)) in
       subst (Passes (moduleTests (optionsOf power xy) m (shapeOf d) (bodyOf d)) ts) e
       (made-passes (tests (d .«test_count») m power) (moduleOf (shapeOf d) (bodyOf d)) ts (testsOf d) p)
 
@@ -146,7 +146,7 @@ module _ (power xy : Bool) (m last : ℕ) (d : Module) (z : SizedModule d) (g : 
   module-rest-passes ps ts q r =
       rw (← append-assoc ps (testsFields m d ∷ []) ts)
       (then-passes (body m xy) (moduleTests (optionsOf power xy) m (shapeOf d)) (ps ++ testsFields m d ∷ []) ts (bodyOf d) d
-      (body-passes xy m d ps q (g .position) (g .count))
+      (body-passes xy m d ps q (g .figures .position) (g .figures .test-count))
       (module-tests-pass ts r))
 
   pub module-passes : (ls : List (List (List ℕ))) → ModuleLines power xy m d ls → Passes (moduleLines (optionsOf power xy) m last) ls d
@@ -184,7 +184,7 @@ rest-ends : (s : Soc) (ls : List (List (List ℕ))) → Sized s → GoodSoc s �
 unfolding rest
 rest-ends s ls z g r =
     let o = optionsOf (s .power) (s .xy) in
-    let n : length (modulesOf s) ≡ s .«module_count» = length-take-le (s .«module_count») (s .modules) (omega (arith, z .modules, g .count)) in
+    let n : length (modulesOf s) ≡ s .«module_count» = length-take-le (s .«module_count») (s .modules) (omega (arith, z .modules, g .figures .module-count)) in
     let e : socOf (heldName s) (s .«module_count») o (modulesOf s) ≡ s = ap (λ l. record {
       «name_len» = s .«name_len»;
       name = s .name;
@@ -193,7 +193,7 @@ rest-ends s ls z g r =
       «module_count» = s .«module_count»;
       modules = l;
     }) (modules-padded s z g) in
-    let p : Passes (modules o (s .«module_count») 0 0) ls (modulesOf s) = rw n at (modules-pass r 0 (sized-front (s .«module_count») (s .modules) (sized-modules s z)) (g .modules)) in
+    let p : Passes (modules o (s .«module_count») 0 0) ls (modulesOf s) = rw n at (modules-pass r 0 (sized-front (s .«module_count») (s .modules) (sized-modules s z)) (g .figures .modules)) in
     rw (← append-nil ls)
     (then-ends (modules o (s .«module_count») 0 0) (λ ds. noMore >> give (socOf (heldName s) (s .«module_count») o ds)) ls [] (modulesOf s) s p
     (rw e (no-more-ends s)))
@@ -204,7 +204,7 @@ unfolding behindName
 behind-name-ends s ls z g r =
     let o = optionsOf (s .power) (s .xy) in
     then-ends (line kinds.totalLine) (λ n. line kinds.optionsLine >>= rest (heldName s) n) (totalFields s ∷ []) (optionsFields s ∷ ls) (s .«module_count») s
-    (line-passes kinds.totalLine (totalFields s) (s .«module_count») (total-back s (g .some) (g .count)))
+    (line-passes kinds.totalLine (totalFields s) (s .«module_count») (total-back s (g .some) (g .figures .module-count)))
     (then-ends (line kinds.optionsLine) (rest (heldName s) (s .«module_count»)) (optionsFields s ∷ []) ls o s
     (line-passes kinds.optionsLine (optionsFields s) o (options-back s))
     (rest-ends s ls z g r))

@@ -1,5 +1,6 @@
--- Laws of texts whose lines are refused: the refusal's number is from 3 to 6. What it is for a reading of lines to refuse so, that readings made
--- of such readings do so too, and then one law for each part of a text. Assumes nothing.
+-- Laws of what the line numbers of a text can do to its reading: lines with the same fields are read alike, and where they are refused
+-- the number is the same, 6 with line 0 or from 3 to 5 with the number of a line. What it is for two readings to be alike, that
+-- readings made of such readings are so too, and then one law for each part of a text. Assumes nothing.
 use Prim.Native.Nat.{ℕ, zero, suc, _≤_}
 use mathlib.Core.Path.{_≡_, refl, ap}
 use mathlib.Core.Bool.{Bool}
@@ -11,105 +12,139 @@ use Rattle.units.specs.declared.Refusal.{Refusal}
 use Rattle.fields.specs.Lines.{Line}
 use Rattle.fields.specs.Readers.{no, got, Reader, _>>=_, _>>_, after, each}
 use Rattle.text_lines.specs.Parts.{Whole, refuses, says, whole}
-use Rattle.text_lines.specs.Kinds.{Name, Options, Shape, Second, nameLine, totalLine, optionsLine, levelLine, secondLine, testsLine, testLine}
-use Rattle.text.proofs.LineRefuses.{name-refuses, total-refuses, options-refuses, level-refuses, second-refuses, tests-refuses, test-refuses}
+use Rattle.text_lines.specs.Kinds.{Name, Options, Shape, Second, nameLine, totalLine}
+use Rattle.text_lines.specs.Kinds.{optionsLine, levelLine, secondLine, testsLine, testLine}
+use Rattle.text.proofs.LineRefuses.{name-refuses, total-refuses, options-refuses, level-refuses}
+use Rattle.text.proofs.LineRefuses.{second-refuses, tests-refuses, test-refuses}
 use Rattle.text_reader.specs.Lines.{LinesRead, LinesReader, judged, line, noMore}
 use Rattle.text_reader.specs.Reading.{Body, behind, body, tests, moduleTests, moduleRest, moduleLines, modules, behindName, soc}
 use Rattle.text_reader.specs.Reading as reading
 
--- 3 to 6
-abbrev pub Number : Refusal → Type 0
-Number r = (3 ≤ r .number) × (r .number ≤ 6)
+-- R is what is known of the numbers of two lines that stand for each other
+module _ (R : ℕ → ℕ → Type 0) where
+  -- as many lines, in order with the same fields
+  pub data SameFields : List Line → List Line → Type 0 where
+    none : SameFields [] []
+    more : {l m : Line} {ls ms : List Line} → R (l .number) (m .number) → l .fields ≡ m .fields → SameFields ls ms
+        → SameFields (l ∷ ls) (m ∷ ms)
 
--- a reading refuses only so
-pub record Fair {A : Type 0} (g : LinesRead A) : Type 0 where
-  pub fair : (r : Refusal) → g ≡ no r → Number r
+  pub data Alike {A : Type 0} : LinesRead A → LinesRead A → Type 0 where
+    ended : Alike (no (refused 6 0)) (no (refused 6 0))
+    stopped : {c i j : ℕ} → 3 ≤ c → c ≤ 5 → R i j → Alike (no (refused c i)) (no (refused c j))
+    going : {a : A} {ls ms : List Line} → SameFields ls ms → Alike (got a ls) (got a ms)
 
-abbrev pub FairReader : {A : Type 0} → LinesReader A → Type 0
-FairReader p = (ls : List Line) → Fair (p ls)
+  abbrev pub AlikeReader : {A : Type 0} → LinesReader A → Type 0
+  AlikeReader p = (ls ms : List Line) → SameFields ls ms → Alike (p ls) (p ms)
 
-module _ {A : Type 0} where
-  pub fair-no : (q : Refusal) → Number q → Fair {A = A} (no q)
-  fair-no q h = record { fair = λ r e. let i : q ≡ r = cc in rw i at h }
+  module _ {A B : Type 0} where
+    alike-after : {g h : LinesRead A} {k : A → LinesReader B} → Alike g h → ((a : A) → AlikeReader (k a)) → Alike (after g k) (after h k)
+    unfolding after
+    alike-after ended f = ended
+    alike-after (stopped p q r) f = stopped p q r
+    alike-after (going {a} {ls} {ms} s) f = f a ls ms s
 
-  pub fair-got : (a : A) (ls : List Line) → Fair (got a ls)
-  fair-got a ls = record { fair = λ r e. clash cc }
+    pub alike-bind : {p : LinesReader A} {k : A → LinesReader B} → AlikeReader p → ((a : A) → AlikeReader (k a)) → AlikeReader (p >>= k)
+    alike-bind f h ls ms s = alike-after (f ls ms s) h
 
-module _ {A B : Type 0} where
-  pub fair-after : {g : LinesRead A} {k : A → LinesReader B} → Fair g → ((a : A) → FairReader (k a)) → Fair (after g k)
-  unfolding after
-  fair-after {g = no q} p f = record { fair = λ r h. let e : q ≡ r = cc in p .fair r (ap no e) }
-  fair-after {g = got a ls} p f = f a ls
+    pub alike-then : {p : LinesReader A} {q : LinesReader B} → AlikeReader p → AlikeReader q → AlikeReader (p >> q)
+    alike-then f h ls ms s = alike-after (f ls ms s) (λ _. h)
 
-  pub fair-bind : {p : LinesReader A} {k : A → LinesReader B} → FairReader p → ((a : A) → FairReader (k a)) → FairReader (p >>= k)
-  fair-bind f h ls = fair-after (f ls) h
+  pub alike-give : {A : Type 0} (a : A) → AlikeReader (got a)
+  alike-give a ls ms s = going s
 
-  pub fair-then : {p : LinesReader A} {q : LinesReader B} → FairReader p → FairReader q → FairReader (p >> q)
-  fair-then f h ls = fair-after (f ls) (λ _. h)
+  pub alike-each : {A : Type 0} (n : ℕ) {p : ℕ → LinesReader A} → ((i : ℕ) → AlikeReader (p i)) → (i : ℕ) → AlikeReader (each n p i)
+  unfolding each
+  alike-each zero f i = alike-give []
+  alike-each (suc n) f i = alike-bind (f i) (λ x. alike-bind (alike-each n f (suc i)) (λ xs. alike-give (x ∷ xs)))
 
-pub fair-each : {A : Type 0} (n : ℕ) {p : ℕ → LinesReader A} → ((i : ℕ) → FairReader (p i)) → (i : ℕ) → FairReader (each n p i)
-unfolding each
-fair-each zero f i = fair-got []
-fair-each (suc n) f i = fair-bind (f i) (λ x. fair-bind (fair-each n f (suc i)) (λ xs. fair-got (x ∷ xs)))
+  -- a line of which what is refused is refused with 3 to 5
+  alike-judged : {A : Type 0} {i j : ℕ} {ls ms : List Line} → R i j → SameFields ls ms → (w : Whole A)
+      → ((c : ℕ) → w ≡ refuses c → (3 ≤ c) × (c ≤ 5)) → Alike (judged i ls w) (judged j ms w)
+  unfolding judged
+  alike-judged r s (refuses c) h = let k = h c refl in stopped (k .0) (k .1) r
+  alike-judged r s (says a) h = going s
 
--- a line of which what is refused is refused with 3 to 5
-fair-judged : {A : Type 0} (n : ℕ) (ls : List Line) (w : Whole A) → ((c : ℕ) → w ≡ refuses c → (3 ≤ c) × (c ≤ 5)) → Fair (judged n ls w)
-unfolding judged
-fair-judged n ls (refuses c) h = let k = h c refl in fair-no (refused c n) (omega arith)
-fair-judged n ls (says a) h = fair-got a ls
+  pub alike-line : {A : Type 0} (p : Reader A) → ((fs : List (List ℕ)) (c : ℕ) → whole p fs ≡ refuses c → (3 ≤ c) × (c ≤ 5))
+      → AlikeReader (line p)
+  unfolding line
+  alike-line p h [] [] none = ended
+  alike-line p h (l ∷ ls) (m ∷ ms) (more r e s) = rw e (alike-judged r s (whole p (m .fields)) (h (m .fields)))
 
-pub fair-line : {A : Type 0} (p : Reader A) → ((fs : List (List ℕ)) (c : ℕ) → whole p fs ≡ refuses c → (3 ≤ c) × (c ≤ 5)) → FairReader (line p)
-unfolding line
-fair-line p h [] = fair-no (refused 6 0) (omega arith)
-fair-line p h (l ∷ ls) = fair-judged (l .number) ls (whole p (l .fields)) (h (l .fields))
+  pub alike-no-more : AlikeReader noMore
+  unfolding noMore
+  alike-no-more [] [] none = going none
+  alike-no-more (l ∷ ls) (m ∷ ms) (more r e s) = stopped {c = 3} (omega arith) (omega arith) r
 
-pub fair-no-more : FairReader noMore
-unfolding noMore
-fair-no-more [] = fair-got tt []
-fair-no-more (l ∷ ls) = fair-no (refused 3 (l .number)) (omega arith)
+  -- the parts of a text
 
--- the parts of a text
+  alike-behind : (m : ℕ) (s : Second) → AlikeReader (behind m s)
+  unfolding behind
+  alike-behind m (Second.tests t) = alike-give _
+  alike-behind m (Second.position x y) = alike-bind (alike-line (testsLine m) (tests-refuses m)) (λ t. alike-give _)
 
-fair-behind : (m : ℕ) (s : Second) → FairReader (behind m s)
-unfolding behind
-fair-behind m (Second.tests t) = fair-got _
-fair-behind m (Second.position x y) = fair-bind (fair-line (testsLine m) (tests-refuses m)) (λ t. fair-got _)
+  alike-body : (m : ℕ) (xy : Bool) → AlikeReader (body m xy)
+  unfolding body
+  alike-body m xy = alike-bind (alike-line (secondLine m xy) (second-refuses m xy)) (alike-behind m)
 
-pub fair-body : (m : ℕ) (xy : Bool) → FairReader (body m xy)
-unfolding body
-fair-body m xy = fair-bind (fair-line (secondLine m xy) (second-refuses m xy)) (fair-behind m)
+  alike-tests : (t m : ℕ) (power : Bool) → AlikeReader (tests t m power)
+  alike-tests t m power = alike-each t (λ i. alike-line (testLine m i power) (test-refuses m i power)) 1
 
-pub fair-tests : (t m : ℕ) (power : Bool) → FairReader (tests t m power)
-fair-tests t m power = fair-each t (λ i. fair-line (testLine m i power) (test-refuses m i power)) 1
+  alike-module-tests : (o : Options) (m : ℕ) (s : Shape) (b : Body) → AlikeReader (moduleTests o m s b)
+  unfolding moduleTests
+  alike-module-tests o m s b = alike-bind (alike-tests (b .tests) m (o .power)) (λ ts. alike-give _)
 
-pub fair-module-tests : (o : Options) (m : ℕ) (s : Shape) (b : Body) → FairReader (moduleTests o m s b)
-unfolding moduleTests
-fair-module-tests o m s b = fair-bind (fair-tests (b .tests) m (o .power)) (λ ts. fair-got _)
+  alike-module-rest : (o : Options) (m : ℕ) (s : Shape) → AlikeReader (moduleRest o m s)
+  unfolding moduleRest
+  alike-module-rest o m s = alike-bind (alike-body m (o .xy)) (alike-module-tests o m s)
 
-pub fair-module-rest : (o : Options) (m : ℕ) (s : Shape) → FairReader (moduleRest o m s)
-unfolding moduleRest
-fair-module-rest o m s = fair-bind (fair-body m (o .xy)) (fair-module-tests o m s)
+  alike-module : (o : Options) (m last : ℕ) → AlikeReader (moduleLines o m last)
+  unfolding moduleLines
+  alike-module o m last = alike-bind (alike-line (levelLine m last) (level-refuses m last)) (alike-module-rest o m)
 
-pub fair-module : (o : Options) (m last : ℕ) → FairReader (moduleLines o m last)
-unfolding moduleLines
-fair-module o m last = fair-bind (fair-line (levelLine m last) (level-refuses m last)) (fair-module-rest o m)
+  alike-modules : (o : Options) (n m last : ℕ) → AlikeReader (modules o n m last)
+  unfolding modules
+  alike-modules o zero m last = alike-give []
+  alike-modules o (suc n) m last =
+      alike-bind (alike-module o m last) (λ d. alike-bind (alike-modules o n (suc m) (d .level)) (λ ds. alike-give (d ∷ ds)))
 
-pub fair-modules : (o : Options) (n m last : ℕ) → FairReader (modules o n m last)
-unfolding modules
-fair-modules o zero m last = fair-got []
-fair-modules o (suc n) m last = fair-bind (fair-module o m last) (λ d. fair-bind (fair-modules o n (suc m) (d .level)) (λ ds. fair-got (d ∷ ds)))
+  alike-rest : (name : Name) (n : ℕ) (o : Options) → AlikeReader (reading.rest name n o)
+  unfolding reading.rest
+  alike-rest name n o = alike-bind (alike-modules o n 0 0) (λ ds. alike-then alike-no-more (alike-give _))
 
-pub fair-rest : (name : Name) (n : ℕ) (o : Options) → FairReader (reading.rest name n o)
-unfolding reading.rest
-fair-rest name n o = fair-bind (fair-modules o n 0 0) (λ ds. fair-then fair-no-more (fair-got _))
+  alike-behind-name : (name : Name) → AlikeReader (behindName name)
+  unfolding behindName
+  alike-behind-name name =
+      alike-bind (alike-line totalLine total-refuses) (λ n. alike-bind (alike-line optionsLine options-refuses) (λ o. alike-rest name n o))
 
-pub fair-behind-name : (name : Name) → FairReader (behindName name)
-unfolding behindName
-fair-behind-name name = fair-bind (fair-line totalLine total-refuses) (λ n. fair-bind (fair-line optionsLine options-refuses) (λ o. fair-rest name n o))
+  pub alike-soc : AlikeReader soc
+  unfolding soc
+  alike-soc = alike-bind (alike-line nameLine name-refuses) alike-behind-name
 
-pub fair-soc : FairReader soc
-unfolding soc
-fair-soc = fair-bind (fair-line nameLine name-refuses) fair-behind-name
+-- lines have the same fields as they have themselves
+pub same-self : (P : ℕ → Type 0) (ls : List Line) → ((n : ℕ) → P n) → SameFields (λ i j. P i) ls ls
+same-self P [] h = none
+same-self P (l ∷ ls) h = more (h (l .number)) refl (same-self P ls h)
+
+-- what a reading that refuses says, of the line too
+pub record Refuses (P : ℕ → Type 0) (r : Refusal) : Type 0 where
+  pub least : 3 ≤ r .number
+  pub most : r .number ≤ 6
+  pub last : r .number ≡ 6 → r .line ≡ 0
+  pub others : r .number ≤ 5 → P (r .line)
+
+alike-refuses : (P : ℕ → Type 0) {A : Type 0} {g h : LinesRead A} → Alike (λ i j. P i) g h → (r : Refusal) → g ≡ no r → Refuses P r
+alike-refuses P ended r e =
+    let i : refused 6 0 ≡ r = cc in
+    rw (← i) (record { least = omega arith; most = omega arith; last = λ k. refl; others = λ k. absurd (omega arith) })
+alike-refuses P (stopped {c} {i} p q b) r e =
+    let k : refused c i ≡ r = cc in
+    rw (← k) (record { least = p; most = omega arith; last = λ k. absurd (omega arith); others = λ k. b })
+alike-refuses P (going s) r e = clash cc
+
+pub soc-refuses-so : (P : ℕ → Type 0) (ls : List Line) (r : Refusal) → SameFields (λ i j. P i) ls ls → soc ls ≡ no r → Refuses P r
+soc-refuses-so P ls r s e = alike-refuses P (alike-soc (λ i j. P i) ls ls s) r e
 
 pub soc-refuses : (ls : List Line) (r : Refusal) → soc ls ≡ no r → (3 ≤ r .number) × (r .number ≤ 6)
-soc-refuses ls r h = fair-soc ls .fair r h
+soc-refuses ls r h =
+    let k = soc-refuses-so (λ n. Unit {0}) ls r (same-self (λ n. Unit {0}) ls (λ n. tt)) h in
+    (k .least, k .most)

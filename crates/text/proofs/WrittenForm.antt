@@ -30,7 +30,8 @@ use Rattle.text_lines.specs.Written.{flagField, givenField, lengthField, nameFi
 use Rattle.text.proofs.LineBack.{not-given, good-test, power-says, position-says}
 use Rattle.text.specs.Describes.{PowerPart, TestLines, PositionPart, ModuleLines, ModulesLines, Describes, fieldsIn, fieldLines}
 use Rattle.text_writer.specs.Written.{testLines, positionLines, moduleLinesOf, moduleLinesFrom, socLines, writtenSoc}
-use Rattle.text.proofs.GoodLaws.{good-module, good-soc, good-spare}
+use Rattle.text.proofs.SparePlaces.{good-soc, good-spare}
+use Rattle.soc.proofs.GoodSocLaws.{module-figures, soc-figures}
 
 -- the lines of the written form describe the record
 
@@ -56,7 +57,7 @@ position-described true m d h = let p = position-says (d .x) (d .y) h in inl (re
 module-described : (power xy : Bool) (m last : ℕ) (d : Module) → goodModule power xy m last d ≡ true → ModuleLines power xy m d (moduleLinesOf power xy m d)
 unfolding moduleLinesOf
 module-described power xy m last d h =
-    let g = good-module power xy m last d h in
+    let g = module-figures power xy m last d h in
     record {
       position = positionLines xy m d;
       tests = testLines power m 1 (testsOf d);
@@ -76,7 +77,7 @@ pub written-describes : (s : Soc) → goodSoc s ≡ true → Describes s (socLin
 unfolding socLines
 written-describes s h = record {
   modules = moduleLinesFrom (s .power) (s .xy) 0 (modulesOf s);
-  modules-are = modules-described (s .power) (s .xy) 0 0 (modulesOf s) (good-soc s h .modules);
+  modules-are = modules-described (s .power) (s .xy) 0 0 (modulesOf s) (soc-figures s h .modules);
   lines-are = refl;
   spare = good-spare s h;
 }

@@ -1,1 +1,4 @@
 pub mod Describes
+pub mod LeftOut
+pub mod LineCount
+pub mod Spacing

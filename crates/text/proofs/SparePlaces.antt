@@ -1,5 +1,6 @@
--- Laws of good records as a reader and a writer meet them: the parts of what `goodSoc` and `goodModule` ask for, each by name, that the
--- places no line speaks of hold 0, and that a spare place holds the record with 0 throughout. Assumes nothing.
+-- Laws of the spare places of a good record, as a reader and a writer meet them (document 01, refusal 14: "a spare place in it is not
+-- 0"): the places that no line speaks of hold 0, a spare module or test is the record with 0 throughout, and what stands in the places
+-- in use, with spare ones behind it, is the whole array. Assumes nothing.
 use Prim.Native.Nat.{ℕ, suc, _+_, _-_, _≤_, _<_}
 use mathlib.Core.Path.{_≡_, refl, sym, ap, _∙_}
 use mathlib.Core.Bool.{Bool, true, _&&_, false≢true}
@@ -10,13 +11,13 @@ use lib.Dec.{leb}
 use lib.IntN.{ℤ, pos, negsuc}
 use lib.ListN.{length, getD, take, drop, replicate, length-take, length-drop, take-append-drop}
 use lib.Seq.{getD-take, getD-drop}
-use Rattle.units.specs.declared.FlipFlops.{FlipFlops}
 use Rattle.fields.specs.Names.{nameMax, isName}
 use Rattle.units.proofs.TestLaws.{and-both}
 use Rattle.soc.specs.Limits.{modulesMax, levelMax, chainsMax, testsMax}
 use Rattle.units.specs.Places.{allOf, filled, padded}
 use Rattle.soc.specs.Record.{nameOf, modulesOf, chainsOf, testsOf, flipFlops, noTest, noModule}
 use Rattle.soc.specs.Rules.{none, noneZ, goodLength, spareLength, goodTest, spareTest, levelRule, goodTerminals, goodChains, goodPosition, goodTests, goodModule, goodModules, spareModule, goodName, goodSoc}
+use Rattle.soc.proofs.GoodSocLaws.{ModuleFigures, module-figures, SocFigures, soc-figures}
 use Rattle.soc.specs.Sized.{SizedModule, Sized}
 use Rattle.soc.specs.declared.record.Test.{Test}
 use Rattle.soc.specs.declared.record.Module.{Module}
@@ -25,16 +26,14 @@ use Rattle.units.proofs.PlaceLaws.{padded-none}
 use Rattle.text.specs.Describes.{spareIn, Spare}
 use Rattle.text.proofs.LineBack.{padded-back, spare-length}
 
--- what a good module keeps
+-- what a good module keeps besides the limits of its figures
 pub record GoodModule (power xy : Bool) (m last : ℕ) (d : Module) : Type 0 where
   pub level : leb (d .level) levelMax ≡ true
   pub rule : levelRule m last (d .level) ≡ true
   pub terminals : goodTerminals d ≡ true
   pub chains : goodChains d ≡ true
-  pub position : goodPosition xy (d .x) (d .y) ≡ true
-  pub count : d .«test_count» ≤ testsMax
-  pub tests : allOf (goodTest power) (testsOf d) ≡ true
   pub spare : allOf spareTest (drop (d .«test_count») (d .tests)) ≡ true
+  pub figures : ModuleFigures power xy d
 
 pub good-module : (power xy : Bool) (m last : ℕ) (d : Module) → goodModule power xy m last d ≡ true → GoodModule power xy m last d
 unfolding goodModule goodTests
@@ -43,42 +42,26 @@ good-module power xy m last d h =
     let b = and-both _ _ (a .1) in
     let c = and-both _ _ (b .1) in
     let e = and-both _ _ (c .1) in
-    let f = and-both _ _ (e .1) in
-    let g = and-both _ _ (f .1) in
-    let k = and-both _ _ (g .1) in
-    record {
-      level = a .0;
-      rule = b .0;
-      terminals = c .0;
-      chains = e .0;
-      position = f .0;
-      count = leb-true (d .«test_count») testsMax (g .0);
-      tests = k .0;
-      spare = k .1;
-    }
+    let f = and-both (goodPosition xy (d .x) (d .y)) _ (e .1) in
+    let g = and-both (leb (d .«test_count») testsMax) _ (f .1) in
+    let k = and-both (allOf (goodTest power) (testsOf d)) _ (g .1) in
+    record { level = a .0; rule = b .0; terminals = c .0; chains = e .0; spare = k .1; figures = module-figures power xy m last d h }
 
--- what a good record keeps
+-- what a good record keeps besides the limits of its figures
 pub record GoodSoc (s : Soc) : Type 0 where
   pub name : goodName s ≡ true
   pub some : 1 ≤ s .«module_count»
-  pub count : s .«module_count» ≤ modulesMax
-  pub modules : goodModules (s .power) (s .xy) 0 0 (modulesOf s) ≡ true
   pub spare : allOf spareModule (drop (s .«module_count») (s .modules)) ≡ true
+  pub figures : SocFigures s
 
 pub good-soc : (s : Soc) → goodSoc s ≡ true → GoodSoc s
 unfolding goodSoc
 good-soc s h =
     let a = and-both _ _ h in
     let b = and-both _ _ (a .1) in
-    let c = and-both _ _ (b .1) in
-    let e = and-both _ _ (c .1) in
-    record {
-      name = a .0;
-      some = leb-true 1 (s .«module_count») (b .0);
-      count = leb-true (s .«module_count») modulesMax (c .0);
-      modules = e .0;
-      spare = e .1;
-    }
+    let c = and-both (leb (s .«module_count») modulesMax) _ (b .1) in
+    let e = and-both (goodModules (s .power) (s .xy) 0 0 (modulesOf s)) _ (c .1) in
+    record { name = a .0; some = leb-true 1 (s .«module_count») (b .0); spare = e .1; figures = soc-figures s h }
 
 -- the places that no line speaks of hold 0
 good-spare-in : (power xy : Bool) (m last : ℕ) (d : Module) → goodModule power xy m last d ≡ true → spareIn d ≡ true
@@ -103,10 +86,10 @@ good-spare s h =
     let a = and-both (leb (s .«name_len») nameMax) (isName (nameOf s) && allOf none (drop (s .«name_len») (s .name))) (g .name) in
     let b = and-both (isName (nameOf s)) (allOf none (drop (s .«name_len») (s .name))) (a .1) in
     record {
-      room = leb-true (s .«name_len») nameMax (a .0);
+      room = g .figures .name-len;
       name = b .1;
       modules = g .spare;
-      within = good-spare-each (s .power) (s .xy) 0 0 (modulesOf s) (g .modules);
+      within = good-spare-each (s .power) (s .xy) 0 0 (modulesOf s) (g .figures .modules);
     }
 
 none-z : (z : ℤ) → noneZ z ≡ true → z ≡ pos 0
@@ -199,10 +182,10 @@ unfolding padded
 modules-padded s z g =
     let ds = drop (s .«module_count») (s .modules) in
     let e = z .modules in
-    let k = g .count in
+    let k = g .figures .module-count in
     let m : modulesMax - length (modulesOf s) ≡ length ds = simp (length-take, length-drop) (omega arith) in
     let r = spare-modules ds (sized-back (s .«module_count») (s .modules) (sized-modules s z)) (g .spare) in
     rw (m, ← r) (take-append-drop (s .«module_count») (s .modules))
 
 pub tests-padded : {power xy : Bool} {m last : ℕ} (d : Module) → SizedModule d → GoodModule power xy m last d → padded testsMax noTest (testsOf d) ≡ d .tests
-tests-padded d z g = padded-back spareTest noTest spare-test testsMax (d .«test_count») (d .tests) (z .tests) (g .count) (g .spare)
+tests-padded d z g = padded-back spareTest noTest spare-test testsMax (d .«test_count») (d .tests) (z .tests) (g .figures .test-count) (g .spare)
