@@ -170,7 +170,7 @@ over-widths-requires t c κs =
         table = rw m (s .pre .1 .table);
         widening =
             widening-next (a .widths .now) (l .loop .widths) (a .at) (a .low .0) (a .left .0) (l .loop .w .0)
-            (s .pre .1 .widening) (i .same-count) (i .same-front) (i .from) more (v .if2 .taken);
+            (s .pre .1 .widening) (i .same-count) (i .same-front) (i .from) more (omega (arith, v .if2 .taken));
         buffers = rw (length-set, i .same-count, m) (i .buffers);
       },
     )
@@ -198,7 +198,7 @@ loop-again t c =
     (i .widths) (i .loads) (i .buses) (i .best) (i .found) (i .w .0) (i .inv)
     (o .last .1 .1 .1 .1 .0) (o .last .1 .1 .1 .1 .1 .0) (o .last .1 .1 .1 .1 .1 .1 .0) (o .last .1 .1 .1 .1 .1 .1 .1 .0)
     (o .last .1 .1 .1 .1 .1 .1 .1 .1 .0)
-    (g .if2 .taken) (s .pre .1 .widening .at-most) (o .kept .1 .1 .1 .1 .0) (o .ensures .0) (o .ensures .1)
+    (omega (arith, g .if2 .taken)) (s .pre .1 .widening .at-most) (o .kept .1 .1 .1 .1 .0) (o .ensures .0) (o .ensures .1)
 
 same-length-6 : (t : ℕ) → lts.Need-same-length-6 (calls t) (pre t) reads.Post Inv-loop μ-loop
 same-length-6 t c = c .before .before .before .loop .inv .same-count
@@ -226,7 +226,7 @@ returns-2 t c =
     let i = l .loop in (
       i .inv .same-front,
       over-last (a .table .now) (a .widths .now) (a .at) (a .low .0) (a .left .0) (length (a .buses .now)) (a .best .now) (a .found .now)
-          (i .widths) (i .loads) (i .buses) (i .best) (i .found) (i .w .0) (i .inv) (c .if2 .left),
+          (i .widths) (i .loads) (i .buses) (i .best) (i .found) (i .w .0) (i .inv) (omega (arith, c .if2 .left)),
     )
 
 pub +over-widths-spec : {M : Type 1} → statement M
