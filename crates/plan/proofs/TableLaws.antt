@@ -88,7 +88,12 @@ module _ {s : Soc} {W n : ℕ} {t : Tables} (a : TablesAre s W n t) (good : good
       (below-or W w)
 
   pub table-is : length (t .cycles) ≡ tablePlaces → n ≤ plannedMax → IsTable (t .cycles) n
-  table-is l m = record { few = m; long = omega arith; times = λ i w. omega (arith, table-most (i * rowPlaces + (w - 1))); falls = row-falls }
+  table-is l m = record {
+    few = m;
+    long = omega arith;
+    times = λ i w. omega (arith, table-most (i * rowPlaces + (w - 1)));
+    falls = row-falls;
+  }
 
 -- a table has a place for each width of the wrapper layer, and the search has room for as many buses and modules as the planner takes
 pub row-width : rowPlaces ≡ widthMax

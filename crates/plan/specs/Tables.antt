@@ -1,4 +1,5 @@
--- What the tables of times hold (document 01, "The plan" over "The wrapper rule"): a row for each planned module, with a place for each width.
+-- What the tables of times hold (document 01, "The plan" over "The wrapper rule"): a row for each planned module, with a place for each
+-- width.
 use Prim.Native.Nat.{ℕ, _+_, _-_, _*_, _≤_, _<_}
 use mathlib.Core.Path.{_≡_}
 use mathlib.Core.Bool.{true}

@@ -1,5 +1,5 @@
-// The first planner (document 01, "The plan" and "Refusal numbers"): refusals 14, 7, 8, 9, 10 in that order; then the tables of times, the search
-// over them, and the record of what it finds.
+// The first planner (document 01, "The plan" and "Refusal numbers"): refusals 14, 7, 8, 9, 10 in that order; then the tables of times, the
+// search over them, and the record of what it finds.
 use super::answer::PlanAnswer;
 use super::limits::LIMIT_MAX;
 use super::limits::PLANNED_MAX;

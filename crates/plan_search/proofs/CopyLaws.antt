@@ -23,7 +23,8 @@ module _ (from to₀ : List ℕ) (room : length from < length to₀) where
     behind-more h =
         let k : suc i < length to = omega (arith, b .same-length) in
         let q : suc i + 1 ≡ suc (suc i) = omega arith in
-        let d : drop (suc (suc i)) to ≡ drop (suc (suc i)) to₀ = rw q at (sym (drop-drop 1 (suc i) to) ∙ ap (drop 1) (b .rest) ∙ drop-drop 1 (suc i) to₀) in
+        let r = sym (drop-drop 1 (suc i) to) ∙ ap (drop 1) (b .rest) ∙ drop-drop 1 (suc i) to₀ in
+        let d : drop (suc (suc i)) to ≡ drop (suc (suc i)) to₀ = rw q at r in
         record {
           upto = omega arith;
           same-length = length-set to (i + 1) (getD from i 0) ∙ b .same-length;

@@ -1,5 +1,5 @@
--- The search for the first plan of least time over a table of times (document 01, "The plan"): what its buffers hold, and what each step leaves
--- in them.
+-- The search for the first plan of least time over a table of times (document 01, "The plan"): what its buffers hold, and what each step
+-- leaves in them.
 use Prim.Native.Nat.{ℕ, suc, _+_, _-_, _*_, _≤_, _<_}
 use mathlib.Core.Path.{_≡_}
 use mathlib.Core.Bool.{cond}

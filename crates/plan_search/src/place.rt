@@ -1,5 +1,5 @@
-// Placing the modules on buses of given widths (document 01, "The plan"), in the order of bus numbers from the lowest module. Numbers alone,
-// in lent buffers, so that nothing is copied on the way.
+// Placing the modules on buses of given widths (document 01, "The plan"), in the order of bus numbers from the lowest module. Numbers
+// alone, in lent buffers, so that nothing is copied on the way.
 use units::Cycles;
 use units::Wires;
 ghost use mathlib.Core.Path.{_≡_};
@@ -54,7 +54,8 @@ pub(crate) fn place(
     best: &mut [u64],
 )
     requires { ⌜ Ready (now table) (now widths) i (top .0) (now loads) (now buses) (now best) ⌝ }
-    ensures { λ _. ⌜ Placed (now (table .entry)) (now (widths .entry)) i (now (loads .entry)) (now (loads .exit)) (now (buses .entry)) (now (buses .exit)) (now (best .entry)) (now (best .exit)) ⌝ }
+    ensures { λ _. ⌜ Placed (now (table .entry)) (now (widths .entry)) i
+        (now (loads .entry)) (now (loads .exit)) (now (buses .entry)) (now (buses .exit)) (now (best .entry)) (now (best .exit)) ⌝ }
 {
     if i == buses.len() {
         keep(top, &*buses, &mut *best);

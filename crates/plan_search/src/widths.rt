@@ -1,5 +1,5 @@
-// The width lists in their order, and the search on each (document 01, "The plan"). A list is skipped where no plan on it can beat the best so
-// far: the largest single time at the widest bus, or the sum of such times shared out over the buses, already reaches the best time.
+// The width lists in their order, and the search on each (document 01, "The plan"). A list is skipped where no plan on it can beat the best
+// so far: the largest single time at the widest bus, or the sum of such times shared out over the buses, already reaches the best time.
 use super::place::SEARCH_BUSES;
 use super::place::SEARCH_MODULES;
 use super::place::larger;

@@ -1,5 +1,5 @@
--- `plan::entry::modules_of` meets its contract. The loop's invariant: the list holds the first i placed modules, and behind them no module. The
--- measure is what is left of the modules. Assumes nothing.
+-- `plan::entry::modules_of` meets its contract. The loop's invariant: the list holds the first i placed modules, and behind them no
+-- module. The measure is what is left of the modules. Assumes nothing.
 use borrow.Author.Needs.{needs}
 use native.Mathlib.Omega.{arith}
 use Prim.Native.Nat.{ℕ, _+_, _-_, _*_, _≤_, _<_}

@@ -1,5 +1,5 @@
--- `plan_search::busy::busy_of` meets its contract. The loop's invariant: the sum is the busy figure of the modules before i, and at most the largest time for
--- each of them. The measure is what is left of the modules. Assumes nothing.
+-- `plan_search::busy::busy_of` meets its contract. The loop's invariant: the sum is the busy figure of the modules before i, and at most the
+-- largest time for each of them. The measure is what is left of the modules. Assumes nothing.
 use borrow.Author.Needs.{needs}
 use native.Mathlib.Omega.{arith}
 use Prim.Native.Nat.{_-_, _*_, _≤_, _<_}
@@ -24,7 +24,9 @@ len : (c : tie.Start Inv-loop μ-loop) → length (c .args .t2) ≡ searchModule
 len c = search needs
 
 loop-holds : tie.Need-loop-holds Inv-loop μ-loop
-loop-holds c = (omega arith, busy-none (tableTime (c .before .args .table .now)) (c .before .args .b) (c .before .args .w .0) (c .before .args .t2), omega arith)
+loop-holds c =
+    let a = c .before .args in
+    (omega arith, busy-none (tableTime (a .table .now)) (a .b) (a .w .0) (a .t2), omega arith)
 
 mul-if1 : tie.Need-mul-if1 Inv-loop μ-loop
 mul-if1 c = search needs

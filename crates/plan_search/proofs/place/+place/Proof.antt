@@ -135,11 +135,14 @@ place-place-requires t c κs =
     let g = c .before .before .before .before .before .before in
     let l = g .before .before .before .before .before .before .before in
     let s = start t l in
-    let z : length (set (l .loop .buses) (s .args .i) (l .loop .b + 1)) ≡ length (s .args .buses .now) = length-set (l .loop .buses) (s .args .i) (l .loop .b + 1) ∙ l .loop .inv .buses-length in
-    let m : length (set (l .loop .buses) (s .args .i) (l .loop .b + 1)) - (s .args .i + 1) < t = omega (arith, z, less t l, s .pre .0) in (
+    let b = l .loop .b in
+    let next = set (l .loop .buses) (s .args .i) (b + 1) in
+    let z : length next ≡ length (s .args .buses .now) = length-set (l .loop .buses) (s .args .i) (b + 1) ∙ l .loop .inv .buses-length in
+    let m : length next - (s .args .i + 1) < t = omega (arith, z, less t l, s .pre .0) in
+    let e = ap (λ x. getD (l .loop .loads) b 0 + x) (g .before .before .before .time-at .ensures) in (
       m,
-      ready-next (s .pre .1) (less t l) (l .loop .inv)
-          (g .before .before .before .before .before .before .loop-test .taken) (ap (λ x. getD (l .loop .loads) (l .loop .b) 0 + x) (g .before .before .before .time-at .ensures)) (g .larger .ensures) (c .before .before .before .if2 .taken),
+      ready-next (s .pre .1) (less t l) (l .loop .inv) (g .before .before .before .before .before .before .loop-test .taken)
+          e (g .larger .ensures) (omega (arith, c .before .before .before .if2 .taken)),
     )
 
 place-mul-loads-2 : (t : ℕ) → place-lts.Need-mul-loads-2 (calls t) (place-at t) place.Post place-Inv-loop place-μ-loop

@@ -37,7 +37,9 @@ mul-best-2 : tie.Need-mul-best-2 Inv-loop μ-loop
 mul-best-2 c = search needs
 
 slice-write-best-2 : tie.Need-slice-write-best-2 Inv-loop μ-loop
-slice-write-best-2 c = omega (arith, c .before .before .loop .inv .0, c .before .before .loop .inv .1 .same-length, c .before .loop-test .taken)
+slice-write-best-2 c =
+    let i = c .before .before .loop .inv in
+    omega (arith, i .0, i .1 .same-length, c .before .loop-test .taken)
 
 add-i : tie.Need-add-i Inv-loop μ-loop
 add-i c = search needs
@@ -49,7 +51,8 @@ loop-again : tie.Need-loop-again Inv-loop μ-loop
 loop-again c =
     let l = c .before .before .loop in
     let a = c .before .before .before .args in
-    (l .inv .0, behind-more (a .buses .now) (set (a .best .now) 0 (a .top .0)) (omega (arith, l .inv .0)) (l .best) (l .i) (l .inv .1) (c .before .loop-test .taken))
+    let best₀ = set (a .best .now) 0 (a .top .0) in
+    (l .inv .0, behind-more (a .buses .now) best₀ (omega (arith, l .inv .0)) (l .best) (l .i) (l .inv .1) (c .before .loop-test .taken))
 
 same-length : tie.Need-same-length Inv-loop μ-loop
 same-length c = c .before .loop .inv .1 .same-length ∙ length-set (c .before .before .args .best .now) 0 (c .before .before .args .top .0)
@@ -59,7 +62,8 @@ returns c =
     let l = c .before .loop in
     let a = c .before .before .args in
     let best₀ = set (a .best .now) 0 (a .top .0) in
-    let d : drop (length (a .buses .now) + 1) best₀ ≡ [] = drop-of-length-le best₀ {i = length (a .buses .now) + 1} (omega (arith, l .inv .0)) in
+    let n = length (a .buses .now) + 1 in
+    let d : drop n best₀ ≡ [] = drop-of-length-le best₀ {i = n} (omega (arith, l .inv .0)) in
     behind-all (a .buses .now) best₀ (omega (arith, l .inv .0)) (l .best) (l .i) (l .inv .1) (c .loop-test .left)
     ∙ rw (getD-set-same (a .best .now) 0 (a .top .0) 0 (omega (arith, c .before .before .pre)), d, append-nil (a .buses .now))
 

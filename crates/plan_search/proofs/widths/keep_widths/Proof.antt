@@ -1,4 +1,5 @@
--- `widths::keep_widths` meets its contract. The loop's invariant is `Behind`: the widths before i stand behind their count. Assumes nothing.
+-- `widths::keep_widths` meets its contract. The loop's invariant is `Behind`: the widths before i stand behind their count.
+-- Assumes nothing.
 use borrow.Author.Needs.{needs}
 use native.Mathlib.Omega.{arith}
 use Prim.Native.Nat.{_+_, _-_, _<_}
@@ -40,7 +41,9 @@ mul-found-2 : tie.Need-mul-found-2 Inv-loop μ-loop
 mul-found-2 c = search needs
 
 slice-write-found-2 : tie.Need-slice-write-found-2 Inv-loop μ-loop
-slice-write-found-2 c = omega (arith, c .before .before .loop .inv .0, c .before .before .loop .inv .1 .same-length, c .before .loop-test .taken)
+slice-write-found-2 c =
+    let i = c .before .before .loop .inv in
+    omega (arith, i .0, i .1 .same-length, c .before .loop-test .taken)
 
 add-i : tie.Need-add-i Inv-loop μ-loop
 add-i c = search needs
@@ -66,7 +69,10 @@ returns c =
     let a = c .before .before .args in
     let n = length (a .widths .now) in
     behind-all (a .widths .now) (set (a .found .now) 0 n) (l .inv .0) (l .found) (l .i) (l .inv .1) (c .loop-test .left)
-    ∙ rw (getD-set-same (a .found .now) 0 n 0 (omega (arith, c .before .before .pre .1)), drop-set-lt (n + 1) (a .found .now) 0 n (omega arith))
+    ∙ rw (
+      getD-set-same (a .found .now) 0 n 0 (omega (arith, c .before .before .pre .1)),
+      drop-set-lt (n + 1) (a .found .now) 0 n (omega arith),
+    )
 
 pub keep-widths-spec : {M : Type 1} → statement M
 keep-widths-spec =

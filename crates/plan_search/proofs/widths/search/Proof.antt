@@ -1,5 +1,5 @@
--- `widths::search` meets its contract. The loop's invariant is `Sought`: the best plan is the best of what the buffers hold and of the plans with at
--- least c buses. Assumes nothing.
+-- `widths::search` meets its contract. The loop's invariant is `Sought`: the best plan is the best of what the buffers hold and of the plans
+-- with at least c buses. Assumes nothing.
 use borrow.Author.Needs.{needs}
 use native.Mathlib.Omega.{arith}
 use Prim.Native.Nat.{_+_, _-_, _≤_}
@@ -31,7 +31,8 @@ loop-holds : tie.Need-loop-holds Inv-loop μ-loop
 loop-holds c =
     let s = c .before in
     let a = s .args in
-    sought-first (a .table .now) (a .wires .0) (a .limit) (a .n) _ _ _ _ _ (s .pre .0) (s .pre .1) (s .pre .3) refl refl refl refl refl refl refl
+    sought-first (a .table .now) (a .wires .0) (a .limit) (a .n) _ _ _ _ _ (s .pre .0) (s .pre .1) (s .pre .3)
+    refl refl refl refl refl refl refl
 
 cast-if1 : tie.Need-cast-if1 Inv-loop μ-loop
 cast-if1 c = search needs
@@ -107,7 +108,8 @@ loop-again c =
     let l = i .before .loop in
     let s = i .before .before .before in
     let a = s .args in
-    sought-next (a .table .now) (a .wires .0) (a .limit) (a .n) (l .widths) (l .loads) (l .buses) (l .best) (l .found) (l .c) (l .inv)
+    sought-next (a .table .now) (a .wires .0) (a .limit) (a .n)
+    (l .widths) (l .loads) (l .buses) (l .best) (l .found) (l .c) (l .inv)
     (s .pre .0) (s .pre .2) (s .pre .4) (i .loop-test .taken) (e .if1 .left)
     (o .last .1 .1 .1 .1 .0) (o .last .1 .1 .1 .1 .1 .0) (o .last .1 .1 .1 .1 .1 .1 .0) (o .last .1 .1 .1 .1 .1 .1 .1 .0)
     (o .last .1 .1 .1 .1 .1 .1 .1 .1 .0)
@@ -149,7 +151,8 @@ returns c =
     let a = s .args in
     let l = c .before .before .before .before .loop in
     c .found-in .ensures
-    ∙ ap foundIn (sought-last (a .table .now) (a .wires .0) (a .limit) (a .n) (l .widths) (l .loads) (l .buses) (l .best) (l .found) (l .c) (l .inv)
+    ∙ ap foundIn (sought-last (a .table .now) (a .wires .0) (a .limit) (a .n)
+    (l .widths) (l .loads) (l .buses) (l .best) (l .found) (l .c) (l .inv)
     (⊎-elim (λ w. inl (w .left)) (λ w. inr (w .2 .taken)) (c .before .before .before .loop-test .came)))
 
 pub search-spec : {M : Type 1} → statement M
