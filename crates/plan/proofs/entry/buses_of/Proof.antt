@@ -2,13 +2,13 @@
 -- bus. The measure is what is left of the buses. Assumes nothing.
 use borrow.Author.Needs.{needs}
 use native.Mathlib.Omega.{arith}
-use Prim.Native.Nat.{_+_, _-_, _≤_, _<_}
+use Prim.Native.Nat.{ℕ, _-_, _≤_, _<_}
 use mathlib.Core.Path.{_≡_, sym, ap, _∙_}
-use lib.ListN.{length, getD, take}
+use lib.ListN.{length, take}
 use Rattle.units.specs.Places.{padded}
+use Rattle.units.specs.declared.Cycles.{Cycles}
 use Rattle.units.proofs.PlaceLaws.{padded-none}
 use Rattle.wrapper.specs.Answers.{cycles}
-use Rattle.plan_rules.specs.Plans.{busyFrom}
 use Rattle.plan_search.specs.Search.{searchBuses, tableTime}
 use Rattle.plan_record.specs.Record.{busPlaces, noBus}
 use Rattle.plan.proofs.EntryLaws.{busFront, front-none, front-fill, front-all}
@@ -21,6 +21,10 @@ Inv-loop table n f list₀ b₀ list b =
 
 abbrev μ-loop : tie.MeasureT-loop
 μ-loop table n f list₀ b₀ list b = f .count - b
+
+-- cycles are what their number says
+cycles-of : {r : Cycles} {n : ℕ} → r .0 ≡ n → r ≡ cycles n
+cycles-of e = ap cycles e
 
 len : (c : tie.Start Inv-loop μ-loop) → length (c .args .t2 .widths) ≡ searchBuses
 len c = search needs
@@ -71,8 +75,8 @@ loop-again c =
     let m : b < length (f .widths) = omega (arith, len s, s .pre .1 .few) in
     let time = tableTime (s .args .table .now) in
     let bs = take (s .args .n) (f .buses) in
-    let e : c .busy-of .result ≡ cycles (busyFrom time 0 (b + 1) (getD (f .widths) b 0) bs) = ap cycles (c .busy-of .ensures) in
-    (omega arith, rw e (front-fill time bs (f .widths) b (l .loop .list) m (omega (arith, s .pre .1 .few)) (l .loop .inv .1)))
+    let fill = front-fill time bs (f .widths) b (l .loop .list) m (omega (arith, s .pre .1 .few)) (l .loop .inv .1) in
+    (omega arith, rw (cycles-of (c .busy-of .ensures)) fill)
 
 returns : tie.Need-returns Inv-loop μ-loop
 returns c =
