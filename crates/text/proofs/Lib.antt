@@ -1,5 +1,6 @@
 pub mod Acceptance
 pub mod Accepted
+pub mod BlankLines
 pub mod Described
 pub mod HeadOnly
 pub mod LevelOnly

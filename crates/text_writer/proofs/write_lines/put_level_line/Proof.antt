@@ -1,5 +1,6 @@
 -- `text_writer::write_lines::put_level_line` meets its contract: each call puts what is due behind the call before it. Assumes nothing.
 use borrow.Author.Needs.{needs}
+use native.Mathlib.Omega.{arith}
 use mathlib.Core.List.{[], _∷_, _++_}
 use Rattle.fields.specs.Bytes.{bytes, lf}
 use Rattle.fields.specs.Written.{decimal, writtenLines}
@@ -106,7 +107,7 @@ put-bytes-requires c κs = search needs
 put-lengths-requires : tie.Need-put-lengths-requires
 put-lengths-requires c κs =
     let k = c .before .before .before in
-    (start k .pre .0, due-room (spacedLengths (chainsOf (start k .args .d))) _ (due k))
+    (omega (arith, start k .pre .0), due-room (spacedLengths (chainsOf (start k .args .d))) _ (due k))
 
 slice-aggregate-put-bytes-2 : tie.Need-slice-aggregate-put-bytes-2
 slice-aggregate-put-bytes-2 c = search needs
