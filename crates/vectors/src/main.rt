@@ -1,0 +1,113 @@
+// Runs the product on the texts in data/ and prints what it finds: texts read and written, layouts and times, plans, plan files (document
+// 01, "The SOC text", "The wrapper rule", "The plan", "The plan file"). The file args names the texts, and stdout is what must be printed.
+use plan_files::show_changes;
+use plan_files::show_part;
+use plan_files::show_plan_file;
+use plans::show_plan;
+use plans::show_table_9;
+use texts::show_arguments;
+use texts::show_padded;
+use wrappers::show_layout;
+use wrappers::show_times;
+
+mod lent;
+mod plan_files;
+mod plans;
+mod print;
+mod records;
+mod texts;
+mod wrappers;
+
+// The texts that questions are asked about, by their numbers among the arguments.
+const T1: usize = 1;
+
+const D695: usize = 2;
+
+const CORE_A: usize = 3;
+
+const CORE_6: usize = 4;
+
+const RISING: usize = 5;
+
+const SMALL: usize = 6;
+
+const LARGEST: usize = 7;
+
+const TWO_COPIES: usize = 8;
+
+const TWELVE: usize = 9;
+
+const THIRTEEN: usize = 10;
+
+const NONE: usize = 11;
+
+const REFUSED: usize = 12;
+
+// Beside the texts that the arguments name: the longest, one byte more, and that with a bad byte, which is refused for its length too.
+fn show_texts() {
+    show_arguments();
+    show_padded(T1, b'S', 61440);
+    show_padded(T1, b'S', 61441);
+    show_padded(T1, 1, 61441);
+}
+
+// Core A and Core 6 of p93791 of document 000, a core whose figure rises with the width, small cores, the largest core, no record.
+fn show_wrappers() {
+    show_times(CORE_A, 1, 0, 6);
+    show_layout(CORE_A, 1, 1, 4);
+    show_layout(CORE_A, 1, 2, 4);
+    show_layout(CORE_A, 1, 3, 4);
+    show_layout(CORE_A, 2, 1, 4);
+    show_layout(CORE_A, 1, 1, 65);
+    show_times(CORE_6, 1, 1, 66);
+    show_times(RISING, 1, 9, 15);
+    show_times(SMALL, 1, 1, 2);
+    show_times(SMALL, 2, 1, 4);
+    show_times(SMALL, 3, 1, 2);
+    show_times(SMALL, 4, 1, 2);
+    show_times(LARGEST, 0, 1, 3);
+    show_times(LARGEST, 0, 64, 64);
+    show_times(REFUSED, 0, 1, 1);
+}
+
+// d695 as in document 000, the limits of W and B, document 01's t1 and two copies of its module 1, as many planned modules as may be, too
+// many, none, and no record.
+fn show_plans() {
+    show_table_9(D695);
+    show_plan(D695, 65, 3);
+    show_plan(D695, 0, 3);
+    show_plan(D695, 64, 4);
+    show_plan(D695, 64, 0);
+    show_plan(T1, 4, 1);
+    show_plan(T1, 1, 3);
+    show_plan(T1, 4, 3);
+    show_plan(T1, 4, 2);
+    show_plan(TWO_COPIES, 2, 2);
+    show_plan(TWELVE, 24, 3);
+    show_plan(THIRTEEN, 24, 3);
+    show_plan(NONE, 24, 3);
+    show_plan(REFUSED, 0, 0);
+}
+
+// Buffers that are too short, just long enough and longer; a bad record; the longest file; the file by hand, in parts and with other bytes.
+fn show_plan_files() {
+    show_plan_file(T1, 4, 2, 2, 63);
+    show_plan_file(T1, 4, 2, 2, 64);
+    show_plan_file(T1, 4, 2, 2, 200);
+    show_plan_file(T1, 4, 2, 4, 200);
+    show_plan_file(TWELVE, 24, 3, 3, 200);
+    show_part(0, 64);
+    show_part(0, 63);
+    show_part(12, 64);
+    show_part(0, 16);
+    show_part(0, 15);
+    show_part(0, 0);
+    show_changes();
+}
+
+fn main() {
+    show_texts();
+    show_wrappers();
+    show_plans();
+    show_plan_files();
+}

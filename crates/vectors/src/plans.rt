@@ -1,0 +1,63 @@
+// Prints plans (document 01, "The plan").
+use super::print::BUS;
+use super::print::PLACED;
+use super::print::PLAN;
+use super::print::print_line;
+use super::print::soc_in;
+use plan_record::BusPlan;
+use units::Wires;
+
+fn print_buses(p: BusPlan) {
+    let n = p.bus_count;
+    let mut i: usize = 0;
+    while i < 3 {
+        if i < n {
+            let b = p.buses[i];
+            print_line(BUS, i as u64 + 1, b.width.0 as u64, b.busy.0, 0);
+        }
+        i += 1;
+    }
+}
+
+fn print_placed(p: BusPlan) {
+    let n = p.module_count;
+    let mut i: usize = 0;
+    while i < 12 {
+        if i < n {
+            let m = p.modules[i];
+            print_line(
+                PLACED,
+                m.number as u64,
+                m.bus as u64,
+                m.wires.0 as u64,
+                m.cycles.0,
+            );
+        }
+        i += 1;
+    }
+}
+
+// The plan of the text that is argument i.
+pub fn show_plan(i: usize, w: u32, b: u32) {
+    let answer = plan::plan(soc_in(i), Wires(w), b);
+    let p = answer.plan;
+    print_line(
+        PLAN,
+        w as u64,
+        b as u64,
+        answer.refusal.number as u64,
+        p.time.0,
+    );
+    print_buses(p);
+    print_placed(p);
+}
+
+// Every W of Table 9 of document 000, with limits 2 and 3.
+pub fn show_table_9(i: usize) {
+    let mut w: u32 = 16;
+    while w < 65 {
+        show_plan(i, w, 2);
+        show_plan(i, w, 3);
+        w += 4;
+    }
+}
