@@ -188,4 +188,5 @@ module _ {s : Soc} {W B : ℕ} {t : Tables} {p : Planned} {f : Found}
       (recordOf s W B (bestFor s W B))
   unfolding planRecord
   record-is u v =
-      rw (u, v, found-best, numbers, buses-are best-plan a, modules-are best-plan a (tableTime (t .cycles)) refl, time-same (a .cycles-are) best-plan)
+      let ms = modules-are best-plan a (tableTime (t .cycles)) refl in
+      rw (u, v, found-best, numbers, buses-are best-plan a, ms, time-same (a .cycles-are) best-plan)

@@ -1,5 +1,5 @@
--- Laws of the least figure over the widths 1 to w (`bestTo`) and of a module's time and wires (`moduleBest`): the figure at its wires is its
--- time, no width up to w gives less, every smaller width gives more, and the time does not rise with the width. Assumes nothing.
+-- Laws of the least figure over the widths 1 to w (`bestTo`) and of a module's time and wires (`moduleBest`): the figure at its wires is
+-- its time, no width up to w gives less, every smaller width gives more, and the time does not rise with the width. Assumes nothing.
 use Prim.Native.Nat.{ℕ, zero, suc, _+_, _≤_, _<_, max}
 use mathlib.Core.Path.{_≡_, refl}
 use mathlib.Core.Bool.{Bool, true, false, cond, _&&_, _||_}
@@ -44,7 +44,8 @@ least-at f zero =
     }
 least-at f (suc w) = go (ltb (f (suc (suc w))) (bestTo f (suc w) .cycles)) refl (least-at f w)
   where
-    go : (t : Bool) → ltb (f (suc (suc w))) (bestTo f (suc w) .cycles) ≡ t → LeastAt f (suc w) (bestTo f (suc w)) → LeastAt f (suc (suc w)) (cond t (record { cycles = f (suc (suc w)); wires = suc (suc w) }) (bestTo f (suc w)))
+    go : (t : Bool) → ltb (f (suc (suc w))) (bestTo f (suc w) .cycles) ≡ t → LeastAt f (suc w) (bestTo f (suc w))
+        → LeastAt f (suc (suc w)) (cond t (record { cycles = f (suc (suc w)); wires = suc (suc w) }) (bestTo f (suc w)))
     go true e b =
         record {
           at = refl;
@@ -58,7 +59,9 @@ least-at f (suc w) = go (ltb (f (suc (suc w))) (bestTo f (suc w) .cycles)) refl 
           at = b .at;
           low = b .low;
           high = omega arith;
-          least = up-to-next (λ u. bestTo f (suc w) .cycles ≤ f u) (suc w) (b .least) (ltb-false (f (suc (suc w))) (bestTo f (suc w) .cycles) e);
+          least =
+              up-to-next (λ u. bestTo f (suc w) .cycles ≤ f u) (suc w) (b .least)
+              (ltb-false (f (suc (suc w))) (bestTo f (suc w) .cycles) e);
           first = b .first;
         }
 
@@ -128,21 +131,25 @@ unfolding testTime
 time-patterns d k t = cycles-patterns (scanIn d (t .«scan_use») k) (scanOut d (t .«scan_use») k) (t .patterns)
 
 -- a test on the TAM with at least one pattern makes the sum at least 1
-sum-least : (d : Module) (k : ℕ) (ts : List Test) → anyOf onTam ts ≡ true → ((i : ℕ) → i < length ts → 1 ≤ getD ts i noTest .patterns) → 1 ≤ sumTimes d k ts
+sum-least : (d : Module) (k : ℕ) (ts : List Test) → anyOf onTam ts ≡ true → ((i : ℕ) → i < length ts → 1 ≤ getD ts i noTest .patterns)
+    → 1 ≤ sumTimes d k ts
 unfolding sumTimes anyOf
 sum-least d k [] e p = let z : _≡_ {A = ℕ} 0 1 = cc in omega arith
 sum-least d k (t ∷ ts) e p = go (t .«tam_use») e (λ a. sum-least d k ts a (λ i h. p (suc i) (omega arith)))
   where
-    go : (b : Bool) → (b || anyOf onTam ts) ≡ true → (anyOf onTam ts ≡ true → 1 ≤ sumTimes d k ts) → 1 ≤ cond b (testTime d k t + sumTimes d k ts) (sumTimes d k ts)
+    go : (b : Bool) → (b || anyOf onTam ts) ≡ true → (anyOf onTam ts ≡ true → 1 ≤ sumTimes d k ts)
+        → 1 ≤ cond b (testTime d k t + sumTimes d k ts) (sumTimes d k ts)
     go true e f = omega (arith, time-patterns d k t, p 0 (omega arith))
     go false e f = f e
 
-pub figure-least : (d : Module) (k : ℕ) → isPlanned d ≡ true → ((i : ℕ) → i < length (testsOf d) → 1 ≤ getD (testsOf d) i noTest .patterns) → 1 ≤ figure d k
+pub figure-least : (d : Module) (k : ℕ) → isPlanned d ≡ true → ((i : ℕ) → i < length (testsOf d) → 1 ≤ getD (testsOf d) i noTest .patterns)
+    → 1 ≤ figure d k
 unfolding figure isPlanned
 figure-least d k e p = sum-least d k (testsOf d) e p
 
 -- "a planned module at least 1"
-pub planned-least : (d : Module) (w : ℕ) → isPlanned d ≡ true → ((i : ℕ) → i < length (testsOf d) → 1 ≤ getD (testsOf d) i noTest .patterns) → 1 ≤ w → 1 ≤ moduleBest d w .cycles
+pub planned-least : (d : Module) (w : ℕ) → isPlanned d ≡ true → ((i : ℕ) → i < length (testsOf d) → 1 ≤ getD (testsOf d) i noTest .patterns)
+    → 1 ≤ w → 1 ≤ moduleBest d w .cycles
 planned-least d w e p h = rw (← time-at d w h) (figure-least d (moduleBest d w .wires) e p)
 
 -- the tests of a good module have patterns
@@ -153,7 +160,8 @@ good-least power (t ∷ ts) zero e h =
     leb-true 1 (t .patterns) (and-left (leb 1 (t .patterns)) _ (and-left (goodTest power t) (allOf (goodTest power) ts) e))
 good-least power (t ∷ ts) (suc i) e h = good-least power ts i (and-right (goodTest power t) (allOf (goodTest power) ts) e) (omega arith)
 
-pub good-patterns : (power : Bool) (d : Module) → goodTests power d ≡ true → (i : ℕ) → i < length (testsOf d) → 1 ≤ getD (testsOf d) i noTest .patterns
+pub good-patterns : (power : Bool) (d : Module) → goodTests power d ≡ true → (i : ℕ) → i < length (testsOf d)
+    → 1 ≤ getD (testsOf d) i noTest .patterns
 unfolding goodTests
 good-patterns power d e i h =
     good-least power (testsOf d) i
@@ -166,7 +174,8 @@ unfolding sumTimes anyOf
 sum-none d k [] e = refl
 sum-none d k (t ∷ ts) e = go (t .«tam_use») e (λ a. sum-none d k ts a)
   where
-    go : (b : Bool) → (b || anyOf onTam ts) ≡ false → (anyOf onTam ts ≡ false → sumTimes d k ts ≡ 0) → cond b (testTime d k t + sumTimes d k ts) (sumTimes d k ts) ≡ 0
+    go : (b : Bool) → (b || anyOf onTam ts) ≡ false → (anyOf onTam ts ≡ false → sumTimes d k ts ≡ 0)
+        → cond b (testTime d k t + sumTimes d k ts) (sumTimes d k ts) ≡ 0
     go true e f = let z : _≡_ {A = ℕ} 0 1 = cc in omega arith
     go false e f = f e
 

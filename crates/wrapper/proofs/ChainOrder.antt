@@ -1,5 +1,5 @@
--- Laws of the order in which internal chains are taken: "longest first, equal ones in file order", and that they are the module's chains, each
--- once. Sums over the chains do not depend on the order. Assumes nothing.
+-- Laws of the order in which internal chains are taken: "longest first, equal ones in file order", and that they are the module's chains,
+-- each once. Sums over the chains do not depend on the order. Assumes nothing.
 use Prim.Native.Nat.{ℕ, zero, suc, _+_, _≤_, _<_}
 use mathlib.Core.Path.{_≡_, refl, ap, _∙_}
 use mathlib.Core.Bool.{Bool, true, false, cond}
@@ -7,7 +7,7 @@ use mathlib.Core.List.{List, [], _∷_}
 use mathlib.Core.Logic.{⊎-elim}
 use native.Mathlib.Omega.{arith}
 use native.Mathlib.Nat.{eq-or-lt-of-le}
-use lib.Dec.{ltb, eqb}
+use lib.Dec.{ltb}
 use lib.ListN.{length, getD, drop, drop-of-length-le}
 use lib.Seq.{drop-cons}
 use borrow.Author.Tests.{ltb-true, ltb-false, eq-eqb, ne-eqb}
@@ -51,7 +51,8 @@ module _ (S : Chain → Chain → Type 0) where
   insert-linked c [] s l = (tt, tt)
   insert-linked c (d ∷ ds) s l = go (ltb (c .length) (d .length)) refl (insert-linked c ds (s .1) (l .1))
     where
-      go : (t : Bool) → ltb (c .length) (d .length) ≡ t → Linked (Behind S) (insert c ds) → Linked (Behind S) (cond t (d ∷ insert c ds) (c ∷ d ∷ ds))
+      go : (t : Bool) → ltb (c .length) (d .length) ≡ t → Linked (Behind S) (insert c ds)
+          → Linked (Behind S) (cond t (d ∷ insert c ds) (c ∷ d ∷ ds))
       go true e r =
           let h : c .length < d .length = ltb-true (c .length) (d .length) e in
           (insert-next c d ds (record { falls = omega arith; same = λ q. absurd (omega arith) }) (l .0), r)
@@ -79,14 +80,16 @@ module _ (B : Chain → Chain → Type 0) (on : (a b c : Chain) → B a b → B 
   linked-at (c ∷ cs) zero (suc j) l h k = linked-behind c cs j (l .0) (l .1) (omega arith)
   linked-at (c ∷ cs) (suc i) (suc j) l h k = linked-at cs i j (l .1) (omega arith) (omega arith)
 
-behind-on : (S : Chain → Chain → Type 0) → ((a b c : Chain) → S a b → S b c → S a c) → (a b c : Chain) → Behind S a b → Behind S b c → Behind S a c
+behind-on : (S : Chain → Chain → Type 0) → ((a b c : Chain) → S a b → S b c → S a c) → (a b c : Chain) → Behind S a b → Behind S b c
+    → Behind S a c
 behind-on S on a b c p q =
     record {
       falls = omega arith;
       same = λ e. on a b c (p .same (omega arith)) (q .same (omega arith));
     }
 
-ordered-behind : (S : Chain → Chain → Type 0) → ((a b c : Chain) → S a b → S b c → S a c) → (cs : List Chain) → Pairs S cs → (i j : ℕ) → i < j → j < length (ordered cs) → Behind S (getD (ordered cs) i noChain) (getD (ordered cs) j noChain)
+ordered-behind : (S : Chain → Chain → Type 0) → ((a b c : Chain) → S a b → S b c → S a c) → (cs : List Chain) → Pairs S cs → (i j : ℕ)
+    → i < j → j < length (ordered cs) → Behind S (getD (ordered cs) i noChain) (getD (ordered cs) j noChain)
 ordered-behind S on cs p i j h k = linked-at (Behind S) (behind-on S on) (ordered cs) i j (ordered-linked S cs p) h k
 
 -- "longest first"
@@ -98,7 +101,8 @@ any-pairs : (cs : List Chain) → Pairs (λ c d. Unit {0}) cs
 any-pairs [] = tt
 any-pairs (c ∷ cs) = (each-of (λ d. Unit {0}) (λ d. tt) cs, any-pairs cs)
 
-pub ordered-falls : (cs : List Chain) (i j : ℕ) → i < j → j < length (ordered cs) → getD (ordered cs) j noChain .length ≤ getD (ordered cs) i noChain .length
+pub ordered-falls : (cs : List Chain) (i j : ℕ) → i < j → j < length (ordered cs)
+    → getD (ordered cs) j noChain .length ≤ getD (ordered cs) i noChain .length
 ordered-falls cs i j h k = ordered-behind (λ c d. Unit {0}) (λ a b c p q. tt) cs (any-pairs cs) i j h k .falls
 
 -- "equal ones in file order"
@@ -113,7 +117,9 @@ numbered-pairs i [] = tt
 numbered-pairs i (f ∷ fs) = (numbered-above i (suc i) fs (omega arith), numbered-pairs (suc i) fs)
 
 module _ (n : ℕ) (fs : List FlipFlops) where
-  pub ordered-stable : (i j : ℕ) → i < j → j < length (ordered (numberedFrom n fs)) → getD (ordered (numberedFrom n fs)) j noChain .length ≡ getD (ordered (numberedFrom n fs)) i noChain .length → getD (ordered (numberedFrom n fs)) i noChain .number < getD (ordered (numberedFrom n fs)) j noChain .number
+  pub ordered-stable : (i j : ℕ) → i < j → j < length (ordered (numberedFrom n fs))
+      → getD (ordered (numberedFrom n fs)) j noChain .length ≡ getD (ordered (numberedFrom n fs)) i noChain .length
+      → getD (ordered (numberedFrom n fs)) i noChain .number < getD (ordered (numberedFrom n fs)) j noChain .number
   ordered-stable i j h k =
       ordered-behind (λ c d. c .number < d .number) (λ a b c p q. omega arith) (numberedFrom n fs) (numbered-pairs n fs) i j h k .same
 
@@ -123,7 +129,8 @@ unfolding insert sumOver
 insert-sum g c [] = refl
 insert-sum g c (d ∷ ds) = go (ltb (c .length) (d .length)) (insert-sum g c ds)
   where
-    go : (t : Bool) → sumOver g (insert c ds) ≡ g c + sumOver g ds → sumOver g (cond t (d ∷ insert c ds) (c ∷ d ∷ ds)) ≡ g c + (g d + sumOver g ds)
+    go : (t : Bool) → sumOver g (insert c ds) ≡ g c + sumOver g ds
+        → sumOver g (cond t (d ∷ insert c ds) (c ∷ d ∷ ds)) ≡ g c + (g d + sumOver g ds)
     go true e = omega arith
     go false e = refl
 
@@ -158,13 +165,15 @@ pub numbered-before : (n i : ℕ) (fs : List FlipFlops) → n < i → howMany n 
 unfolding numberedFrom
 numbered-before n i [] h = many-none n
 numbered-before n i (f ∷ fs) h =
-    many-other n (record { number = i; length = f .0 }) (numberedFrom (suc i) fs) (λ e. omega arith) ∙ numbered-before n (suc i) fs (omega arith)
+    many-other n (record { number = i; length = f .0 }) (numberedFrom (suc i) fs) (λ e. omega arith)
+    ∙ numbered-before n (suc i) fs (omega arith)
 
 pub numbered-past : (n i : ℕ) (fs : List FlipFlops) → i + length fs ≤ n → howMany n (numberedFrom i fs) ≡ 0
 unfolding numberedFrom
 numbered-past n i [] h = many-none n
 numbered-past n i (f ∷ fs) h =
-    many-other n (record { number = i; length = f .0 }) (numberedFrom (suc i) fs) (λ e. omega arith) ∙ numbered-past n (suc i) fs (omega arith)
+    many-other n (record { number = i; length = f .0 }) (numberedFrom (suc i) fs) (λ e. omega arith)
+    ∙ numbered-past n (suc i) fs (omega arith)
 
 pub numbered-once : (n i : ℕ) (fs : List FlipFlops) → i ≤ n → n < i + length fs → howMany n (numberedFrom i fs) ≡ 1
 unfolding numberedFrom

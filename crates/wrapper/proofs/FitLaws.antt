@@ -10,7 +10,7 @@ use lib.Dec.{leb, ltb}
 use lib.ListN.{length, getD, drop, set, replicate, length-set, drop-of-length-le}
 use lib.Seq.{drop-cons}
 use borrow.Author.Count.{below-more}
-use borrow.Author.Tests.{ltb-true, ltb-false, leb-true, lt-ltb, le-ltb, le-leb, lt-leb}
+use borrow.Author.Tests.{ltb-true, ltb-false, leb-true, leb-false, lt-ltb, le-ltb, le-leb, lt-leb}
 use Rattle.wrapper.specs.Fit.{longest, total, better, bestFrom, goes, placed, withCells}
 
 -- what both ways have, the answer has
@@ -33,13 +33,13 @@ longest-at [] i = omega arith
 longest-at (x ∷ l) zero = omega arith
 longest-at (x ∷ l) (suc i) = omega (arith, longest-at l i)
 
-longest-set : (l : List ℕ) (i v : ℕ) → longest (set l i v) ≤ max (longest l) v
+pub longest-set : (l : List ℕ) (i v : ℕ) → longest (set l i v) ≤ max (longest l) v
 unfolding longest
 longest-set [] i v = omega arith
 longest-set (x ∷ l) zero v = omega arith
 longest-set (x ∷ l) (suc i) v = omega (arith, longest-set l i v)
 
-set-longest : (l : List ℕ) (i v : ℕ) → getD l i 0 ≤ v → longest l ≤ longest (set l i v)
+pub set-longest : (l : List ℕ) (i v : ℕ) → getD l i 0 ≤ v → longest l ≤ longest (set l i v)
 unfolding longest
 set-longest [] i v h = omega arith
 set-longest (x ∷ l) zero v h = omega arith
@@ -137,7 +137,8 @@ unfolding withCells
 cells-grow zero l i = omega arith
 cells-grow (suc n) l i = omega (arith, placed-grow 1 l i, cells-grow n (placed 1 l) i)
 
--- of an order by which one place is better than another: not both are, and what is better than one is better than each that is no better than it
+-- of an order by which one place is better than another: not both are, and what is better than one is better than each that is no better
+-- than it
 pub record Ranks (b : ℕ → ℕ → Bool) : Type 0 where
   pub one : (x y : ℕ) → b x y ≡ true → b y x ≡ false
   pub over : (x y z : ℕ) → b x z ≡ false → b x y ≡ true → b z y ≡ true
@@ -161,7 +162,9 @@ module _ (b : ℕ → ℕ → Bool) (r : Ranks b) (l : List ℕ) where
   first-found : (g j : ℕ) → FirstBest b l g j → b (getD l g 0) (getD l j 0) ≡ true → FirstBest b l j (suc j)
   first-found g j f e =
       record {
-        none = up-to (λ k. b (getD l j 0) (getD l k 0) ≡ false) j (λ k h. r .one (getD l k 0) (getD l j 0) (less k h)) (ranks-self b r (getD l j 0));
+        none =
+            up-to (λ k. b (getD l j 0) (getD l k 0) ≡ false) j (λ k h. r .one (getD l k 0) (getD l j 0) (less k h))
+            (ranks-self b r (getD l j 0));
         first = less;
       }
     where
@@ -240,17 +243,29 @@ unfolding better
 shorter n m x y h k = simp (lt-leb (x + n) m h, lt-leb (y + n) m k)
 
 -- "to the wrapper chain that becomes fullest without passing the longest wrapper chain of that moment", the first of several
-pub goes-fullest : (n : ℕ) (l : List ℕ) (j : ℕ) → j < length l → getD l j 0 + n ≤ longest l → (getD l (goes n l) 0 + n ≤ longest l) × (getD l j 0 ≤ getD l (goes n l) 0) × (j < goes n l → getD l j 0 < getD l (goes n l) 0)
+pub goes-fullest : (n : ℕ) (l : List ℕ) (j : ℕ) → j < length l → getD l j 0 + n ≤ longest l
+    → (getD l (goes n l) 0 + n ≤ longest l) × (getD l j 0 ≤ getD l (goes n l) 0) × (j < goes n l → getD l j 0 < getD l (goes n l) 0)
 goes-fullest n l j h k =
     let f = goes-best n l (omega arith) in
     let w = fits-both n (longest l) (getD l (goes n l) 0) (getD l j 0) k (f .none j h) in
     (w .0, w .1, λ a. fuller n (longest l) (getD l j 0) (getD l (goes n l) 0) k (w .0) (f .first j a))
 
+-- where the chain to which an element goes passes the longest with it, each does
+pub none-fits : (n : ℕ) (l : List ℕ) → longest l < getD l (goes n l) 0 + n → (j : ℕ) → j < length l → longest l < getD l j 0 + n
+none-fits n l h j k = go (leb (getD l j 0 + n) (longest l)) refl
+  where
+    go : (t : Bool) → leb (getD l j 0 + n) (longest l) ≡ t → longest l < getD l j 0 + n
+    go true e = omega (arith, goes-fullest n l j k (leb-true (getD l j 0 + n) (longest l) e))
+    go false e = leb-false (getD l j 0 + n) (longest l) e
+
 -- "if none can take it so, to the shortest", the first of several
-pub goes-shortest : (n : ℕ) (l : List ℕ) → 0 < length l → ((j : ℕ) → j < length l → longest l < getD l j 0 + n) → (j : ℕ) → j < length l → (getD l (goes n l) 0 ≤ getD l j 0) × (j < goes n l → getD l (goes n l) 0 < getD l j 0)
+pub goes-shortest : (n : ℕ) (l : List ℕ) → 0 < length l → ((j : ℕ) → j < length l → longest l < getD l j 0 + n) → (j : ℕ) → j < length l
+    → (getD l (goes n l) 0 ≤ getD l j 0) × (j < goes n l → getD l (goes n l) 0 < getD l j 0)
 goes-shortest n l h over j k =
     let f = goes-best n l h in
     let g = over (goes n l) (goes-below n l h) in (
-      ltb-false (getD l j 0) (getD l (goes n l) 0) (sym (shorter n (longest l) (getD l (goes n l) 0) (getD l j 0) g (over j k)) ∙ f .none j k),
-      λ a. ltb-true (getD l (goes n l) 0) (getD l j 0) (sym (shorter n (longest l) (getD l j 0) (getD l (goes n l) 0) (over j k) g) ∙ f .first j a),
+      ltb-false (getD l j 0) (getD l (goes n l) 0)
+          (sym (shorter n (longest l) (getD l (goes n l) 0) (getD l j 0) g (over j k)) ∙ f .none j k),
+      λ a. ltb-true (getD l (goes n l) 0) (getD l j 0)
+          (sym (shorter n (longest l) (getD l j 0) (getD l (goes n l) 0) (over j k) g) ∙ f .first j a),
     )

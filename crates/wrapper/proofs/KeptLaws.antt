@@ -1,7 +1,7 @@
 -- Laws of a module within the limits of the text: a good record has no other, its chains can be threaded, and its scan lengths are short.
 -- Assumes nothing.
 use Prim.Native.Nat.{ℕ, zero, suc, _*_, _≤_, _<_}
-use mathlib.Core.Path.{_≡_, refl, ap, _∙_}
+use mathlib.Core.Path.{_≡_, refl, sym, ap, _∙_}
 use mathlib.Core.Bool.{Bool, true, false, not}
 use mathlib.Core.List.{List, [], _∷_}
 use native.Mathlib.Omega.{arith}
@@ -15,20 +15,23 @@ use Rattle.units.proofs.TestLaws.{and-both}
 use Rattle.soc.specs.Limits.{terminalsMax, chainsMax, lengthMax, testsMax, patternsMax, modulesMax, levelMax}
 use Rattle.units.specs.Places.{allOf, filled, padded}
 use Rattle.soc.specs.Record.{chainsOf, modulesOf, flipFlops, noTest, noModule}
-use Rattle.soc.specs.Rules.{none, goodLength, spareLength, goodTest, spareTest, levelRule, goodTerminals, goodChains, goodPosition, goodTests, goodModule, goodModules, goodName, goodSoc}
+use Rattle.soc.specs.Rules.{none, goodLength, spareLength, goodTest, spareTest, levelRule, goodTerminals, goodChains, goodPosition}
+use Rattle.soc.specs.Rules.{goodTests, goodModule, goodModules, goodName, goodSoc}
 use Rattle.soc.specs.declared.record.Test.{Test}
 use Rattle.soc.specs.declared.record.Module.{Module}
 use Rattle.soc.specs.declared.record.Soc.{Soc}
 use Rattle.units.proofs.PlaceLaws.{padded-at}
-use Rattle.wrapper.specs.Fit.{longest, longestAfter}
+use Rattle.wrapper.specs.Fit.{longest, total, longestAfter}
 use Rattle.wrapper.specs.Chains.{noChain, numberedFrom, usedChains, thread, empty, threaded}
 use Rattle.wrapper.specs.Answers.{widthMax}
-use Rattle.wrapper.specs.Held.{front, orderOf, Threadable}
-use Rattle.wrapper.specs.Scans.{scanOf, scanIf, Short, Kept}
+use Rattle.wrapper.specs.Held.{front, orderOf, chainLengths, frontLengths, Measured, Threadable}
+use Rattle.wrapper.specs.Scans.{withChains, scanOf, scanWith, scanIf, Short, Kept}
 use Rattle.wrapper.specs.declared.chains.Chain.{Chain}
 use Rattle.wrapper.specs.Times.{inputCells, outputCells}
 use Rattle.wrapper.proofs.FitLaws.{longest-cells, zeros-longest}
-use Rattle.wrapper.proofs.ChainLaws.{Each, each-at, ordered-each, numbered-each, ordered-length, numbered-length, order-front, thread-length, threaded-longest, thread-held}
+use Rattle.wrapper.proofs.ChainLaws.{Each, each-at, ordered-each, numbered-each, ordered-length, numbered-length, order-front}
+use Rattle.wrapper.proofs.ChainLaws.{thread-length, threaded-longest, thread-held}
+use Rattle.wrapper.proofs.LengthLaws.{thread-lengths, front-lengths, lengths-most}
 
 -- what holds of each place in use, of each spare one and of nothing holds of every place
 module _ {A : Type 0} (P : A → Type 0) (e : A) (z : P e) where
@@ -38,7 +41,8 @@ module _ {A : Type 0} (P : A → Type 0) (e : A) (z : P e) where
   all-at p f (x ∷ xs) h zero = f x (and-both (p x) (allOf p xs) h .0)
   all-at p f (x ∷ xs) h (suc i) = all-at p f xs (and-both (p x) (allOf p xs) h .1) i
 
-  filled-at : (p s : A → Bool) → ((x : A) → p x ≡ true → P x) → ((x : A) → s x ≡ true → P x) → (n : ℕ) (xs : List A) → filled n p s xs ≡ true → (i : ℕ) → P (getD xs i e)
+  filled-at : (p s : A → Bool) → ((x : A) → p x ≡ true → P x) → ((x : A) → s x ≡ true → P x) → (n : ℕ) (xs : List A)
+      → filled n p s xs ≡ true → (i : ℕ) → P (getD xs i e)
   unfolding allOf
   filled-at p s f g zero xs h i = all-at s g xs h i
   filled-at p s f g (suc n) [] h i = z
@@ -105,23 +109,31 @@ module-kept power xy m last d h =
     let t = and-both (leb (d .«test_count») testsMax) (filled (d .«test_count») (goodTest power) spareTest (d .tests)) (p .1) in
     record {
       chains = leb-true (d .«chain_count») chainsMax (c .0);
-      lengths = filled-at (λ x. x .0 ≤ lengthMax) (flipFlops 0) (omega arith) goodLength spareLength length-short spare-short (d .«chain_count») (d .chains) (c .1);
+      lengths =
+          filled-at (λ x. x .0 ≤ lengthMax) (flipFlops 0) (omega arith) goodLength spareLength length-short spare-short (d .«chain_count»)
+          (d .chains) (c .1);
       tests = leb-true (d .«test_count») testsMax (t .0);
-      patterns = filled-at (λ x. x .patterns ≤ patternsMax) noTest (omega arith) (goodTest power) spareTest (test-few power) spare-few (d .«test_count») (d .tests) (t .1);
+      patterns =
+          filled-at (λ x. x .patterns ≤ patternsMax) noTest (omega arith) (goodTest power) spareTest (test-few power) spare-few
+          (d .«test_count») (d .tests) (t .1);
       inputs = leb-true (d .inputs) terminalsMax (i .0);
       outputs = leb-true (d .outputs) terminalsMax (o .0);
       bidirs = leb-true (d .bidirs) terminalsMax (o .1);
     }
 
-modules-kept : (power xy : Bool) (m last : ℕ) (ds : List Module) → goodModules power xy m last ds ≡ true → (i : ℕ) → Kept (getD ds i noModule)
+modules-kept : (power xy : Bool) (m last : ℕ) (ds : List Module) → goodModules power xy m last ds ≡ true → (i : ℕ)
+    → Kept (getD ds i noModule)
 unfolding goodModules
 modules-kept power xy m last [] h i = none-kept
-modules-kept power xy m last (d ∷ ds) h zero = module-kept power xy m last d (and-both (goodModule power xy m last d) (goodModules power xy (suc m) (d .level) ds) h .0)
+modules-kept power xy m last (d ∷ ds) h zero =
+    module-kept power xy m last d (and-both (goodModule power xy m last d) (goodModules power xy (suc m) (d .level) ds) h .0)
 modules-kept power xy m last (d ∷ ds) h (suc i) =
-    modules-kept power xy (suc m) (d .level) ds (and-both (goodModule power xy m last d) (goodModules power xy (suc m) (d .level) ds) h .1) i
+    modules-kept power xy (suc m) (d .level) ds
+    (and-both (goodModule power xy m last d) (goodModules power xy (suc m) (d .level) ds) h .1) i
 
 -- each module in use of a good record is within the limits, and the record has at most 40
-pub good-parts : (s : Soc) → goodSoc s ≡ true → (leb (s .«module_count») modulesMax ≡ true) × (goodModules (s .power) (s .xy) 0 0 (modulesOf s) ≡ true)
+pub good-parts : (s : Soc) → goodSoc s ≡ true
+    → (leb (s .«module_count») modulesMax ≡ true) × (goodModules (s .power) (s .xy) 0 0 (modulesOf s) ≡ true)
 unfolding goodSoc
 good-parts s h =
     let named = and-both (goodName s) _ h in
@@ -147,7 +159,8 @@ few-chains d k = omega (arith, length-take (d .«chain_count») (d .chains), k .
 used-fine : (d : Module) (scan : Bool) → Kept d → Each Fine (usedChains d scan)
 unfolding usedChains
 used-fine d false k = tt
-used-fine d true k = ordered-each Fine (numberedFrom 0 (chainsOf d)) (numbered-each 4097 64 0 (chainsOf d) (omega (arith, few-chains d k)) one)
+used-fine d true k = ordered-each Fine (numberedFrom 0 (chainsOf d))
+    (numbered-each 4097 64 0 (chainsOf d) (omega (arith, few-chains d k)) one)
   where
     one : (j : ℕ) → j < length (chainsOf d) → getD (chainsOf d) j (flipFlops 0) .0 < 4097
     one j h =
@@ -177,21 +190,39 @@ threaded-short d scan w k =
     let a : length (usedChains d scan) * 4096 ≤ 64 * 4096 = mul-le-mul-right 4096 (used-few d scan k) in
     omega (arith, a, zeros-longest w, threaded-longest 4096 (usedChains d scan) (empty w) (λ i h. omega (arith, used-at d scan k i h .1)))
 
--- the scan lengths of what is held
+-- the chains of what is held
 pub held-threaded : (d : Module) (scan : Bool) (w : ℕ) → thread (front (orderOf (usedChains d scan))) (empty w) ≡ threaded d scan w
 unfolding threaded
 held-threaded d scan w = ap (λ cs. thread cs (empty w)) (order-front (usedChains d scan))
 
-pub short-scan : (d : Module) (scan : Bool) (w : ℕ) → Kept d → Short (scanOf d (orderOf (usedChains d scan)) w)
+-- 64 chains of 4,096 flip-flops, so that their sum with any cells fits
+pub kept-measured : (d : Module) (scan : Bool) → Kept d → Measured (chainLengths (usedChains d scan))
+kept-measured d scan k =
+    let a : length (usedChains d scan) * 4096 ≤ 64 * 4096 = mul-le-mul-right 4096 (used-few d scan k) in
+    record {
+      count = used-few d scan k;
+      sum = ap total (sym (front-lengths (usedChains d scan)));
+      short = omega (arith, a, lengths-most 4096 (usedChains d scan) (λ i h. omega (arith, used-at d scan k i h .1)));
+    }
+
+-- the lengths of what is held
+pub held-lengths : (d : Module) (scan : Bool) (w : ℕ)
+    → withChains (frontLengths (chainLengths (usedChains d scan))) (replicate w 0) ≡ threaded d scan w .lengths
+unfolding threaded
+held-lengths d scan w =
+    ap (λ ns. withChains ns (replicate w 0)) (front-lengths (usedChains d scan)) ∙ sym (thread-lengths (usedChains d scan) (empty w))
+
+pub short-scan : (d : Module) (scan : Bool) (w : ℕ) → Kept d → Short (scanWith d scan w)
 unfolding scanOf longestAfter
 short-scan d scan w k =
-    rw (held-threaded d scan w)
+    rw (held-lengths d scan w)
     (record {
       si = omega (arith, longest-cells (inputCells d) (threaded d scan w .lengths), threaded-short d scan w k, k .inputs, k .bidirs);
       so = omega (arith, longest-cells (outputCells d) (threaded d scan w .lengths), threaded-short d scan w k, k .outputs, k .bidirs);
     })
 
-pub short-scan-if : (needed : Bool) (d : Module) (scan : Bool) (w : ℕ) → Kept d → Short (scanIf needed d (orderOf (usedChains d scan)) w)
+pub short-scan-if : (needed : Bool) (d : Module) (scan : Bool) (w : ℕ) → Kept d
+    → Short (scanIf needed d (chainLengths (usedChains d scan)) w)
 unfolding scanIf
 short-scan-if true d scan w k = short-scan d scan w k
 short-scan-if false d scan w k = record { si = omega arith; so = omega arith }
@@ -200,6 +231,7 @@ pub threaded-length : (d : Module) (scan : Bool) (w : ℕ) → length (threaded 
 unfolding threaded
 threaded-length d scan w = thread-length (usedChains d scan) (empty w) ∙ length-replicate w 0
 
-pub threaded-held : (d : Module) (scan : Bool) (w : ℕ) → take w (padded widthMax 0 (threaded d scan w .lengths)) ≡ threaded d scan w .lengths
+pub threaded-held : (d : Module) (scan : Bool) (w : ℕ)
+    → take w (padded widthMax 0 (threaded d scan w .lengths)) ≡ threaded d scan w .lengths
 unfolding threaded
 threaded-held d scan w = thread-held (usedChains d scan) w

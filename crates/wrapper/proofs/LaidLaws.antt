@@ -36,10 +36,13 @@ gained-zeros zero = refl
 gained-zeros (suc n) = ap (λ l. 0 ∷ l) (gained-zeros n)
 
 -- what is held past the width does not grow
-pub gained-padded : (k : ℕ) (l a : List ℕ) → length (take k l) ≡ k → l ≡ padded widthMax 0 (take k l) → length a ≡ k → gained l (a ++ drop k l) ≡ padded widthMax 0 (gained (take k l) a)
+pub gained-padded : (k : ℕ) (l a : List ℕ) → length (take k l) ≡ k → l ≡ padded widthMax 0 (take k l) → length a ≡ k
+    → gained l (a ++ drop k l) ≡ padded widthMax 0 (gained (take k l) a)
 unfolding padded
 gained-padded k l a n e h =
-    let z : drop k l ≡ replicate (widthMax - k) 0 = ap (drop k) e ∙ drop-at (take k l) (replicate (widthMax - length (take k l)) 0) k n ∙ ap (λ j. replicate (widthMax - j) 0) n in
+    let z : drop k l ≡ replicate (widthMax - k) 0 =
+    ap (drop k) e ∙ drop-at (take k l) (replicate (widthMax - length (take k l)) 0) k n ∙ ap (λ j. replicate (widthMax - j) 0) n
+    in
     let m : length (gained (take k l) a) ≡ k = gained-length (take k l) a (n ∙ sym h) ∙ n in
     ap (λ x. gained x (a ++ drop k l)) (sym (take-append-drop k l))
     ∙ gained-append (take k l) a (drop k l) (n ∙ sym h)
@@ -47,14 +50,16 @@ gained-padded k l a n e h =
     ∙ ap (λ x. gained (take k l) a ++ x) (gained-zeros (widthMax - k) ∙ ap (λ j. replicate (widthMax - j) 0) (sym m))
 
 -- where each place grew, each place grew with the same behind them
-grown-append : (xs ys zs : List ℕ) → length xs ≡ length ys → ((i : ℕ) → getD xs i 0 ≤ getD ys i 0) → (i : ℕ) → getD (xs ++ zs) i 0 ≤ getD (ys ++ zs) i 0
+grown-append : (xs ys zs : List ℕ) → length xs ≡ length ys → ((i : ℕ) → getD xs i 0 ≤ getD ys i 0) → (i : ℕ)
+    → getD (xs ++ zs) i 0 ≤ getD (ys ++ zs) i 0
 grown-append [] [] zs e f i = omega arith
 grown-append [] (y ∷ ys) zs e f i = let no : ⊥ = omega arith in absurd no
 grown-append (x ∷ xs) [] zs e f i = let no : ⊥ = omega arith in absurd no
 grown-append (x ∷ xs) (y ∷ ys) zs e f zero = f 0
 grown-append (x ∷ xs) (y ∷ ys) zs e f (suc i) = grown-append xs ys zs (omega arith) (λ j. f (suc j)) i
 
-pub grown-at : (k : ℕ) (l a : List ℕ) → length (take k l) ≡ length a → ((i : ℕ) → getD (take k l) i 0 ≤ getD a i 0) → (i : ℕ) → getD l i 0 ≤ getD (a ++ drop k l) i 0
+pub grown-at : (k : ℕ) (l a : List ℕ) → length (take k l) ≡ length a → ((i : ℕ) → getD (take k l) i 0 ≤ getD a i 0) → (i : ℕ)
+    → getD l i 0 ≤ getD (a ++ drop k l) i 0
 grown-at k l a e f i = rw (take-append-drop k l) at (grown-append (take k l) a (drop k l) e f i)
 
 -- each place of what is held

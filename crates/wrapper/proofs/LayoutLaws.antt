@@ -1,13 +1,14 @@
--- Laws of a wrapper's layout: every internal chain that the test uses lies in one wrapper chain, the flip-flops of a wrapper chain are the sum of
--- its internal chains, the cells of all wrapper chains sum to the module's terminals, and the longest scan-in and scan-out are the layout's
--- longest chains with their cells. Assumes nothing.
+-- Laws of a wrapper's layout: every internal chain that the test uses lies in one wrapper chain, the flip-flops of a wrapper chain are the
+-- sum of its internal chains, the cells of all wrapper chains sum to the module's terminals, and the longest scan-in and scan-out are the
+-- layout's longest chains with their cells. Assumes nothing.
 use Prim.Native.Nat.{ℕ, zero, suc, _+_, _-_, _≤_, _<_}
 use mathlib.Core.Path.{_≡_, refl, ap, sym, _∙_}
 use mathlib.Core.Bool.{Bool, true, false, cond}
 use mathlib.Core.List.{List, [], _∷_, _++_, map}
 use native.Mathlib.Omega.{arith}
 use lib.Dec.{eqb, eqb·zero-suc}
-use lib.ListN.{length, getD, drop, set, replicate, length-set, length-take, length-map, length-replicate, List·getD-map, List·getD-eq-default}
+use lib.ListN.{length, getD, drop, set, replicate, length-set, length-take, length-map, length-replicate, List·getD-map}
+use lib.ListN.{List·getD-eq-default}
 use lib.Seq.{drop-cons, getD-set-same, getD-set-other}
 use borrow.Author.Tests.{eqb-true, eqb-false}
 use Rattle.units.specs.declared.FlipFlops.{FlipFlops}
@@ -16,6 +17,7 @@ use Rattle.units.specs.Places.{padded}
 use Rattle.soc.specs.Record.{chainsOf, flipFlops}
 use Rattle.soc.specs.declared.record.Module.{Module}
 use Rattle.units.proofs.PlaceLaws.{padded-at}
+use Rattle.wrapper.specs.Cells.{evened}
 use Rattle.wrapper.specs.Fit.{longest, total, goes, placed, withCells, longestAfter}
 use Rattle.wrapper.specs.Chains.{numberedFrom, ordered, sumOver, howMany, usedChains, Threaded, thread, empty, threaded}
 use Rattle.wrapper.specs.Times.{inputCells, outputCells, scanIn, scanOut}
@@ -23,8 +25,10 @@ use Rattle.wrapper.specs.Answers.{widthMax, gained, layoutOf}
 use Rattle.wrapper.specs.Laid.{lengthsIn, added}
 use Rattle.wrapper.specs.declared.chains.Chain.{Chain}
 use Rattle.wrapper.proofs.FitLaws.{goes-below, placed-length, cells-length, cells-grow, total-cells}
+use Rattle.wrapper.proofs.CellLaws.{cells-evened}
 use Rattle.wrapper.proofs.ChainLaws.{Each, withOne, thread-length, thread-places-length}
-use Rattle.wrapper.proofs.ChainOrder.{ordered-sum, many-here, many-other, many-behind, ordered-once, ordered-none, ordered-few, IsChain, ordered-each-is}
+use Rattle.wrapper.proofs.ChainOrder.{ordered-sum, many-here, many-other, many-behind, ordered-once, ordered-none, ordered-few}
+use Rattle.wrapper.proofs.ChainOrder.{IsChain, ordered-each-is}
 
 -- where one chain goes
 module _ (c : Chain) (t : Threaded) (j : ℕ) where
@@ -47,16 +51,19 @@ thread-keeps j (c ∷ cs) t e =
     thread-keeps j cs (withOne c t) (sym (many-other j c cs n) ∙ e) ∙ one-other c t j n
 
 module _ (k : ℕ) (pos : 1 ≤ k) (j : ℕ) where
-  one-within : (c : Chain) (t : Threaded) → length (t .lengths) ≡ k → j < length (t .places) → c .number ≡ j → Within k (getD (withOne c t .places) j 0)
+  one-within : (c : Chain) (t : Threaded) → length (t .lengths) ≡ k → j < length (t .places) → c .number ≡ j
+      → Within k (getD (withOne c t .places) j 0)
   one-within c t e h q =
       rw (one-here c t j q h) (omega arith, omega (arith, goes-below (c .length) (t .lengths) (omega arith)))
 
   -- one that has a place has one after more are taken
-  thread-stays : (cs : List Chain) (t : Threaded) → length (t .lengths) ≡ k → j < length (t .places) → Within k (getD (t .places) j 0) → Within k (getD (thread cs t .places) j 0)
+  thread-stays : (cs : List Chain) (t : Threaded) → length (t .lengths) ≡ k → j < length (t .places) → Within k (getD (t .places) j 0)
+      → Within k (getD (thread cs t .places) j 0)
   unfolding thread
   thread-stays [] t e h w = w
   thread-stays (c ∷ cs) t e h w =
-      thread-stays cs (withOne c t) (placed-length (c .length) (t .lengths) ∙ e) (rw (length-set (t .places) (c .number) (suc (goes (c .length) (t .lengths)))) h)
+      thread-stays cs (withOne c t) (placed-length (c .length) (t .lengths) ∙ e)
+      (rw (length-set (t .places) (c .number) (suc (goes (c .length) (t .lengths)))) h)
       (go (eqb (c .number) j) refl)
     where
       go : (b : Bool) → eqb (c .number) j ≡ b → Within k (getD (withOne c t .places) j 0)
@@ -64,7 +71,8 @@ module _ (k : ℕ) (pos : 1 ≤ k) (j : ℕ) where
       go false q = rw (one-other c t j (eqb-false (c .number) j q)) w
 
   -- one that is taken gets a place
-  thread-gets : (cs : List Chain) (t : Threaded) → length (t .lengths) ≡ k → j < length (t .places) → 1 ≤ howMany j cs → Within k (getD (thread cs t .places) j 0)
+  thread-gets : (cs : List Chain) (t : Threaded) → length (t .lengths) ≡ k → j < length (t .places) → 1 ≤ howMany j cs
+      → Within k (getD (thread cs t .places) j 0)
   unfolding thread howMany sumOver
   thread-gets [] t e h w = absurd (omega arith)
   thread-gets (c ∷ cs) t e h w =
@@ -76,7 +84,8 @@ module _ (k : ℕ) (pos : 1 ≤ k) (j : ℕ) where
       p : j < length (withOne c t .places)
       p = rw (length-set (t .places) (c .number) (suc (goes (c .length) (t .lengths)))) h
 
-      go : (b : Bool) → eqb (c .number) j ≡ b → (1 ≤ howMany j cs → Within k (getD (thread cs (withOne c t) .places) j 0)) → Within k (getD (thread cs (withOne c t) .places) j 0)
+      go : (b : Bool) → eqb (c .number) j ≡ b → (1 ≤ howMany j cs → Within k (getD (thread cs (withOne c t) .places) j 0))
+          → Within k (getD (thread cs (withOne c t) .places) j 0)
       go true q f = thread-stays cs (withOne c t) l p (one-within c t e h (eqb-true (c .number) j q))
       go false q f = f (omega (arith, many-other j c cs (eqb-false (c .number) j q)))
 
@@ -90,7 +99,8 @@ module _ (d : Module) (sized : length (d .chains) ≡ chainsMax) (few : d .«cha
   used-count = length-take (d .«chain_count») (d .chains) ∙ omega arith
 
   -- "Every internal chain that the test uses lies in exactly one wrapper chain from 1 to k"
-  pub in-one-chain : (k : ℕ) → 1 ≤ k → (j : ℕ) → j < d .«chain_count» → (1 ≤ getD (threaded d true k .places) j 0) × (getD (threaded d true k .places) j 0 ≤ k)
+  pub in-one-chain : (k : ℕ) → 1 ≤ k → (j : ℕ) → j < d .«chain_count»
+      → (1 ≤ getD (threaded d true k .places) j 0) × (getD (threaded d true k .places) j 0 ≤ k)
   unfolding threaded usedChains
   in-one-chain k pos j h =
       thread-gets k pos j (ordered (numberedFrom 0 (chainsOf d))) (empty k) (length-replicate {A = ℕ} k 0) (omega arith)
@@ -125,7 +135,9 @@ placed-at n l i h = go (eqb (suc (goes n l)) (suc i)) refl
         omega (arith, getD-set-other l (goes n l) i (getD l (goes n l) 0 + n) 0 e)
 
 -- a wrapper chain grows by the chains that lie in it at the end
-thread-sum : (n i : ℕ) (cs : List Chain) (t : Threaded) → 0 < length (t .lengths) → length (t .places) ≡ n → Each (λ c. c .number < n) cs → ((m : ℕ) → howMany m cs ≤ 1) → getD (thread cs t .lengths) i 0 ≡ getD (t .lengths) i 0 + sumOver (lengthIn (suc i) (thread cs t .places)) cs
+thread-sum : (n i : ℕ) (cs : List Chain) (t : Threaded) → 0 < length (t .lengths) → length (t .places) ≡ n → Each (λ c. c .number < n) cs
+    → ((m : ℕ) → howMany m cs ≤ 1)
+    → getD (thread cs t .lengths) i 0 ≡ getD (t .lengths) i 0 + sumOver (lengthIn (suc i) (thread cs t .places)) cs
 unfolding thread sumOver
 thread-sum n i [] t h e w o = omega arith
 thread-sum n i (c ∷ cs) t h e w o =
@@ -137,13 +149,16 @@ thread-sum n i (c ∷ cs) t h e w o =
     rw at (omega (arith, r, placed-at (c .length) (t .lengths) i h))
 
 -- the same sum over the chains in file order
-sum-numbered : (i : ℕ) (ps : List ℕ) (s : ℕ) (fs : List FlipFlops) → s + length fs ≤ length ps → sumOver (lengthIn i ps) (numberedFrom s fs) ≡ lengthsIn i (drop s ps) fs
+sum-numbered : (i : ℕ) (ps : List ℕ) (s : ℕ) (fs : List FlipFlops) → s + length fs ≤ length ps
+    → sumOver (lengthIn i ps) (numberedFrom s fs) ≡ lengthsIn i (drop s ps) fs
 unfolding numberedFrom sumOver lengthsIn
 sum-numbered i ps s [] h = refl
 sum-numbered i ps s (f ∷ fs) h =
     rw (drop-cons ps s 0 (omega arith)) (go (eqb (getD ps s 0) i) (sum-numbered i ps (suc s) fs (omega arith)))
   where
-    go : (b : Bool) → sumOver (lengthIn i ps) (numberedFrom (suc s) fs) ≡ lengthsIn i (drop (suc s) ps) fs → cond b (f .0) 0 + sumOver (lengthIn i ps) (numberedFrom (suc s) fs) ≡ cond b (f .0 + lengthsIn i (drop (suc s) ps) fs) (lengthsIn i (drop (suc s) ps) fs)
+    go : (b : Bool) → sumOver (lengthIn i ps) (numberedFrom (suc s) fs) ≡ lengthsIn i (drop (suc s) ps) fs
+        → cond b (f .0) 0 + sumOver (lengthIn i ps) (numberedFrom (suc s) fs)
+        ≡ cond b (f .0 + lengthsIn i (drop (suc s) ps) fs) (lengthsIn i (drop (suc s) ps) fs)
     go true e = omega arith
     go false e = omega arith
 
@@ -162,20 +177,25 @@ none-in i (suc n) (f ∷ fs) = rw (eqb·zero-suc i) (none-in i n fs)
 abbrev zeros : ℕ → ℕ → Threaded
 zeros k n = record { lengths = replicate k 0; places = replicate n 0 }
 
-zeros-sum : (k n i : ℕ) (fs : List FlipFlops) → 1 ≤ k → length fs ≤ n → getD (thread (ordered (numberedFrom 0 fs)) (zeros k n) .lengths) i 0 ≡ lengthsIn (suc i) (thread (ordered (numberedFrom 0 fs)) (zeros k n) .places) fs
+zeros-sum : (k n i : ℕ) (fs : List FlipFlops) → 1 ≤ k → length fs ≤ n
+    → getD (thread (ordered (numberedFrom 0 fs)) (zeros k n) .lengths) i 0
+    ≡ lengthsIn (suc i) (thread (ordered (numberedFrom 0 fs)) (zeros k n) .places) fs
 zeros-sum k n i fs pos few =
     let cs : List Chain = ordered (numberedFrom 0 fs) in
     let ps : List ℕ = thread cs (zeros k n) .places in
     let e : length (replicate {A = ℕ} k 0) ≡ k = length-replicate k 0 in
     let p : length (replicate {A = ℕ} n 0) ≡ n = length-replicate n 0 in
     let z : getD {A = ℕ} (replicate k 0) i 0 ≡ 0 = zeros-at k i in
-    let w : Each (λ c. c .number < n) cs = each-also (IsChain fs) (λ c. c .number < n) (λ c q. omega (arith, q .0)) cs (ordered-each-is fs) in
+    let w : Each (λ c. c .number < n) cs =
+    each-also (IsChain fs) (λ c. c .number < n) (λ c q. omega (arith, q .0)) cs (ordered-each-is fs)
+    in
     let a = thread-sum n i cs (zeros k n) (omega arith) p w (λ m. ordered-few m fs) in
     let b = sum-numbered (suc i) ps 0 fs (omega (arith, thread-places-length cs (zeros k n))) in
     omega (arith, a, b, ordered-sum (lengthIn (suc i) ps) (numberedFrom 0 fs))
 
 -- "flip-flops of a wrapper chain are the sum of its internal chains"
-pub flip-flops-sum : (d : Module) → length (d .chains) ≡ chainsMax → (scan : Bool) (k : ℕ) → 1 ≤ k → (i : ℕ) → getD (threaded d scan k .lengths) i 0 ≡ lengthsIn (suc i) (threaded d scan k .places) (chainsOf d)
+pub flip-flops-sum : (d : Module) → length (d .chains) ≡ chainsMax → (scan : Bool) (k : ℕ) → 1 ≤ k → (i : ℕ)
+    → getD (threaded d scan k .lengths) i 0 ≡ lengthsIn (suc i) (threaded d scan k .places) (chainsOf d)
 unfolding threaded usedChains thread
 flip-flops-sum d sized true k pos i = zeros-sum k chainsMax i (chainsOf d) pos (omega (arith, length-take (d .«chain_count») (d .chains)))
 flip-flops-sum d sized false k pos i = zeros-at k i ∙ sym (none-in i chainsMax (chainsOf d))
@@ -187,7 +207,8 @@ gained-length [] ys e = refl
 gained-length (x ∷ xs) [] e = absurd (omega arith)
 gained-length (x ∷ xs) (y ∷ ys) e = ap suc (gained-length xs ys (omega arith))
 
-gained-add : (xs ys : List ℕ) (i : ℕ) → length xs ≡ length ys → getD xs i 0 ≤ getD ys i 0 → getD xs i 0 + getD (gained xs ys) i 0 ≡ getD ys i 0
+gained-add : (xs ys : List ℕ) (i : ℕ) → length xs ≡ length ys → getD xs i 0 ≤ getD ys i 0
+    → getD xs i 0 + getD (gained xs ys) i 0 ≡ getD ys i 0
 unfolding gained
 gained-add [] [] i e h = omega arith
 gained-add [] (y ∷ ys) i e h = absurd (omega arith)
@@ -238,7 +259,9 @@ module _ (d : Module) (scan : Bool) (k : ℕ) (pos : 1 ≤ k) where
       ∙ cells-sum (outputCells d) (threaded d scan k .lengths) (omega (arith, threaded-width d scan k))
 
 -- what the layout holds of each wrapper chain
-pub layout-flip-flops : (d : Module) → length (d .chains) ≡ chainsMax → (scan : Bool) (k : ℕ) → 1 ≤ k → (i : ℕ) → getD (layoutOf d (threaded d scan k) .«flip_flops») i (flipFlops 0) ≡ flipFlops (lengthsIn (suc i) (layoutOf d (threaded d scan k) .«chain_of») (chainsOf d))
+pub layout-flip-flops : (d : Module) → length (d .chains) ≡ chainsMax → (scan : Bool) (k : ℕ) → 1 ≤ k → (i : ℕ)
+    → getD (layoutOf d (threaded d scan k) .«flip_flops») i (flipFlops 0)
+    ≡ flipFlops (lengthsIn (suc i) (layoutOf d (threaded d scan k) .«chain_of») (chainsOf d))
 unfolding layoutOf
 layout-flip-flops d sized scan k pos i =
     padded-at widthMax (flipFlops 0) (map flipFlops (threaded d scan k .lengths)) i
@@ -258,7 +281,8 @@ module _ (d : Module) (scan : Bool) (k i : ℕ) (past : k ≤ i) where
   past-cells n =
       let l : List ℕ = threaded d scan k .lengths in
       padded-at widthMax 0 (gained l (withCells n l)) i
-      ∙ List·getD-eq-default (gained l (withCells n l)) 0 (omega (arith, gained-length l (withCells n l) (sym (cells-length n l)), threaded-width d scan k))
+      ∙ List·getD-eq-default (gained l (withCells n l)) 0
+      (omega (arith, gained-length l (withCells n l) (sym (cells-length n l)), threaded-width d scan k))
 
   pub past-input-cells : getD (layoutOf d (threaded d scan k) .«input_cells») i 0 ≡ 0
   unfolding layoutOf
@@ -268,7 +292,8 @@ module _ (d : Module) (scan : Bool) (k i : ℕ) (past : k ≤ i) where
   unfolding layoutOf
   past-output-cells = past-cells (outputCells d)
 
-longest-added : (xs ys : List ℕ) (m : ℕ) → length xs ≡ length ys → ((i : ℕ) → getD xs i 0 ≤ getD ys i 0) → longest (added (map flipFlops xs ++ replicate m (flipFlops 0)) (gained xs ys ++ replicate m 0)) ≡ longest ys
+longest-added : (xs ys : List ℕ) (m : ℕ) → length xs ≡ length ys → ((i : ℕ) → getD xs i 0 ≤ getD ys i 0)
+    → longest (added (map flipFlops xs ++ replicate m (flipFlops 0)) (gained xs ys ++ replicate m 0)) ≡ longest ys
 unfolding added longest gained
 longest-added [] [] zero e h = refl
 longest-added [] [] (suc m) e h = omega (arith, longest-added [] [] m e h)
@@ -276,7 +301,8 @@ longest-added [] (y ∷ ys) m e h = absurd (omega arith)
 longest-added (x ∷ xs) [] m e h = absurd (omega arith)
 longest-added (x ∷ xs) (y ∷ ys) m e h = omega (arith, h 0, longest-added xs ys m (omega arith) (λ i. h (suc i)))
 
-cells-longest-is : (n w : ℕ) (l : List ℕ) → longestAfter n l ≡ longest (added (padded w (flipFlops 0) (map flipFlops l)) (padded w 0 (gained l (withCells n l))))
+cells-longest-is : (n w : ℕ) (l : List ℕ)
+    → longestAfter n l ≡ longest (added (padded w (flipFlops 0) (map flipFlops l)) (padded w 0 (gained l (withCells n l))))
 unfolding longestAfter padded
 cells-longest-is n w l =
     let e : length l ≡ length (withCells n l) = sym (cells-length n l) in
@@ -284,10 +310,31 @@ cells-longest-is n w l =
     (sym (longest-added l (withCells n l) (w - length l) e (λ i. cells-grow n l i)))
 
 -- "longest scan-in si and longest scan-out so": the layout's longest wrapper chain with its input cells, and with its output cells
-pub scan-in-is : (d : Module) (scan : Bool) (k : ℕ) → scanIn d scan k ≡ longest (added (layoutOf d (threaded d scan k) .«flip_flops») (layoutOf d (threaded d scan k) .«input_cells»))
+pub scan-in-is : (d : Module) (scan : Bool) (k : ℕ)
+    → scanIn d scan k ≡ longest (added (layoutOf d (threaded d scan k) .«flip_flops») (layoutOf d (threaded d scan k) .«input_cells»))
 unfolding scanIn layoutOf
 scan-in-is d scan k = cells-longest-is (inputCells d) widthMax (threaded d scan k .lengths)
 
-pub scan-out-is : (d : Module) (scan : Bool) (k : ℕ) → scanOut d scan k ≡ longest (added (layoutOf d (threaded d scan k) .«flip_flops») (layoutOf d (threaded d scan k) .«output_cells»))
+pub scan-out-is : (d : Module) (scan : Bool) (k : ℕ)
+    → scanOut d scan k ≡ longest (added (layoutOf d (threaded d scan k) .«flip_flops») (layoutOf d (threaded d scan k) .«output_cells»))
 unfolding scanOut layoutOf
 scan-out-is d scan k = cells-longest-is (outputCells d) widthMax (threaded d scan k .lengths)
+
+-- and these are the figures by the sum: the larger of the longest length before and the total length plus the cells, divided by k, rounded
+-- up
+module _ (d : Module) (scan : Bool) (k : ℕ) (pos : 1 ≤ k) where
+  evened-at : (n : ℕ)
+      → longestAfter n (threaded d scan k .lengths) ≡ evened (longest (threaded d scan k .lengths)) (total (threaded d scan k .lengths)) n k
+  evened-at n =
+      let l : length (threaded d scan k .lengths) ≡ k = threaded-width d scan k in
+      rw l at (cells-evened n (threaded d scan k .lengths) (omega arith))
+
+  pub layout-in-evened : longest (added (layoutOf d (threaded d scan k) .«flip_flops») (layoutOf d (threaded d scan k) .«input_cells»))
+      ≡ evened (longest (threaded d scan k .lengths)) (total (threaded d scan k .lengths)) (inputCells d) k
+  unfolding scanIn
+  layout-in-evened = sym (scan-in-is d scan k) ∙ evened-at (inputCells d)
+
+  pub layout-out-evened : longest (added (layoutOf d (threaded d scan k) .«flip_flops») (layoutOf d (threaded d scan k) .«output_cells»))
+      ≡ evened (longest (threaded d scan k .lengths)) (total (threaded d scan k .lengths)) (outputCells d) k
+  unfolding scanOut
+  layout-out-evened = sym (scan-out-is d scan k) ∙ evened-at (outputCells d)

@@ -1,9 +1,11 @@
 pub mod BestLaws
+pub mod CellLaws
 pub mod ChainLaws
 pub mod ChainOrder
 pub mod FitLaws
 pub mod KeptLaws
 pub mod LaidLaws
 pub mod LayoutLaws
+pub mod LengthLaws
 pub mod PromisedTimes
 pub mod TimeLaws

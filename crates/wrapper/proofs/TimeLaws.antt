@@ -24,12 +24,12 @@ use Rattle.wrapper.specs.Chains.{usedChains}
 use Rattle.wrapper.specs.Times.{scanIn, scanOut, testCycles, testTime, sumTimes, figure, Best, bestTo, moduleBest}
 use Rattle.wrapper.specs.Maxima.{testTimeMax, moduleTimeMax}
 use Rattle.wrapper.specs.Answers.{widthMax, askedModule, askedTest, bestsFrom}
-use Rattle.wrapper.specs.Held.{orderOf, noAsked, isAsked, foundModule, foundTest}
-use Rattle.wrapper.specs.Scans.{scanOf, scanIf, Short, Kept, plannedWith, plannedCycles, sumScans}
+use Rattle.wrapper.specs.Held.{chainLengths, noAsked, isAsked, foundModule, foundTest}
+use Rattle.wrapper.specs.Scans.{scanOf, scanWith, scanIf, scanNeeded, Short, Kept, plannedWith, plannedCycles, sumScans}
 use Rattle.wrapper.specs.declared.times.Scan.{Scan}
 use Rattle.wrapper.specs.declared.asked.AskedModule.{AskedModule}
 use Rattle.wrapper.specs.declared.asked.AskedTest.the-variants.{No, Is}
-use Rattle.wrapper.proofs.KeptLaws.{good-kept, held-threaded, short-scan}
+use Rattle.wrapper.proofs.KeptLaws.{good-kept, held-lengths, short-scan}
 
 -- a test of at most 16,777,215 patterns, where no scan is longer than 278,526
 pub product-most : (s p : ℕ) → s ≤ 278526 → p ≤ 16777215 → (1 + s) * p ≤ 4672907362305
@@ -43,18 +43,21 @@ pub planned-most : (a b : Scan) (t : Test) → Short a → Short b → t .patter
 unfolding plannedCycles
 planned-most a b t h k m = go (t .«tam_use») (t .«scan_use»)
   where
-    go : (x y : Bool) → cond x (cond y (testCycles (a .si) (a .so) (t .patterns)) (testCycles (b .si) (b .so) (t .patterns))) 0 ≤ testTimeMax
+    go : (x y : Bool)
+        → cond x (cond y (testCycles (a .si) (a .so) (t .patterns)) (testCycles (b .si) (b .so) (t .patterns))) 0 ≤ testTimeMax
     go true true = cycles-most (a .si) (a .so) (t .patterns) (h .si) (h .so) m
     go true false = cycles-most (b .si) (b .so) (t .patterns) (k .si) (k .so) m
     go false y = omega arith
 
 -- the scan lengths of a module's chains are those of the rule
-scan-is : (d : Module) (scan : Bool) (w : ℕ) → scanOf d (orderOf (usedChains d scan)) w ≡ record { si = scanIn d scan w; so = scanOut d scan w }
+scan-is : (d : Module) (scan : Bool) (w : ℕ)
+    → scanWith d scan w ≡ record { si = scanIn d scan w; so = scanOut d scan w }
 unfolding scanOf scanIn scanOut
-scan-is d scan w = rw (held-threaded d scan w)
+scan-is d scan w = rw (held-lengths d scan w)
 
 -- a test's cycles by the scan lengths of its chains
-pub scan-time : (d : Module) (w : ℕ) (t : Test) → testCycles (scanOf d (orderOf (usedChains d (t .«scan_use»))) w .si) (scanOf d (orderOf (usedChains d (t .«scan_use»))) w .so) (t .patterns) ≡ testTime d w t
+pub scan-time : (d : Module) (w : ℕ) (t : Test)
+    → testCycles (scanWith d (t .«scan_use») w .si) (scanWith d (t .«scan_use») w .so) (t .patterns) ≡ testTime d w t
 unfolding testTime
 scan-time d w t = ap (λ s. testCycles (s .si) (s .so) (t .patterns)) (scan-is d (t .«scan_use») w)
 
@@ -63,14 +66,16 @@ pub test-most : (d : Module) (w : ℕ) (t : Test) → Kept d → t .patterns ≤
 test-most d w t k h =
     let s = short-scan d (t .«scan_use») w k in
     rw (← scan-time d w t)
-    (cycles-most (scanOf d (orderOf (usedChains d (t .«scan_use»))) w .si) (scanOf d (orderOf (usedChains d (t .«scan_use»))) w .so) (t .patterns) (s .si) (s .so) h)
+    (cycles-most (scanWith d (t .«scan_use») w .si) (scanWith d (t .«scan_use») w .so) (t .patterns) (s .si) (s .so) h)
 
-sum-most : (d : Module) (w : ℕ) (ts : List Test) → Kept d → ((i : ℕ) → i < length ts → getD ts i noTest .patterns ≤ patternsMax) → sumTimes d w ts ≤ length ts * testTimeMax
+sum-most : (d : Module) (w : ℕ) (ts : List Test) → Kept d → ((i : ℕ) → i < length ts → getD ts i noTest .patterns ≤ patternsMax)
+    → sumTimes d w ts ≤ length ts * testTimeMax
 unfolding sumTimes
 sum-most d w [] k h = omega arith
 sum-most d w (t ∷ ts) k h = go (t .«tam_use») (sum-most d w ts k (λ i m. h (suc i) (omega arith))) (test-most d w t k (h 0 (omega arith)))
   where
-    go : (x : Bool) → sumTimes d w ts ≤ length ts * testTimeMax → testTime d w t ≤ testTimeMax → cond x (testTime d w t + sumTimes d w ts) (sumTimes d w ts) ≤ suc (length ts) * testTimeMax
+    go : (x : Bool) → sumTimes d w ts ≤ length ts * testTimeMax → testTime d w t ≤ testTimeMax
+        → cond x (testTime d w t + sumTimes d w ts) (sumTimes d w ts) ≤ suc (length ts) * testTimeMax
     go true a b = omega arith
     go false a b = omega arith
 
@@ -84,25 +89,30 @@ module-most d w k = omega (arith, sum-most d w (testsOf d) k few, length-take (d
         rw (getD-take (d .«test_count») (d .tests) i noTest n) (k .patterns i)
 
 -- the sum over the tests with TamUse 1, by the scan lengths with chains and without
-sum-scans : (d : Module) (w : ℕ) (ts : List Test) → sumScans (scanOf d (orderOf (usedChains d true)) w) (scanOf d (orderOf (usedChains d false)) w) ts ≡ sumTimes d w ts
+sum-scans : (d : Module) (w : ℕ) (ts : List Test)
+    → sumScans (scanWith d true w) (scanWith d false w) ts ≡ sumTimes d w ts
 unfolding sumScans sumTimes plannedCycles testTime
 sum-scans d w [] = refl
 sum-scans d w (t ∷ ts) = rw (sum-scans d w ts, scan-is d true w, scan-is d false w) (go (t .«tam_use») (t .«scan_use»))
   where
-    go : (x y : Bool) → cond x (cond y (testCycles (scanIn d true w) (scanOut d true w) (t .patterns)) (testCycles (scanIn d false w) (scanOut d false w) (t .patterns))) 0 + sumTimes d w ts ≡ cond x (testCycles (scanIn d y w) (scanOut d y w) (t .patterns) + sumTimes d w ts) (sumTimes d w ts)
+    go : (x y : Bool) → cond x (cond y (testCycles (scanIn d true w) (scanOut d true w) (t .patterns))
+        (testCycles (scanIn d false w) (scanOut d false w) (t .patterns))) 0 + sumTimes d w ts
+        ≡ cond x (testCycles (scanIn d y w) (scanOut d y w) (t .patterns) + sumTimes d w ts) (sumTimes d w ts)
     go true true = refl
     go true false = refl
     go false y = omega arith
 
 -- a scan that no such test needs may be any
-same-cycles : (a b a′ b′ : Scan) (t : Test) → (plannedWith true t ≡ true → a ≡ a′) → (plannedWith false t ≡ true → b ≡ b′) → plannedCycles a b t ≡ plannedCycles a′ b′ t
+same-cycles : (a b a′ b′ : Scan) (t : Test) → (plannedWith true t ≡ true → a ≡ a′) → (plannedWith false t ≡ true → b ≡ b′)
+    → plannedCycles a b t ≡ plannedCycles a′ b′ t
 unfolding plannedCycles
 same-cycles a b a′ b′ t e f = go (t .«tam_use») (t .«scan_use») e f
   where
     cyclesOf : Scan → ℕ
     cyclesOf s = testCycles (s .si) (s .so) (t .patterns)
 
-    go : (x y : Bool) → ((x && Bool·beq y true) ≡ true → a ≡ a′) → ((x && Bool·beq y false) ≡ true → b ≡ b′) → cond x (cond y (cyclesOf a) (cyclesOf b)) 0 ≡ cond x (cond y (cyclesOf a′) (cyclesOf b′)) 0
+    go : (x y : Bool) → ((x && Bool·beq y true) ≡ true → a ≡ a′) → ((x && Bool·beq y false) ≡ true → b ≡ b′)
+        → cond x (cond y (cyclesOf a) (cyclesOf b)) 0 ≡ cond x (cond y (cyclesOf a′) (cyclesOf b′)) 0
     go true true e f = ap cyclesOf (e refl)
     go true false e f = ap cyclesOf (f refl)
     go false y e f = refl
@@ -114,28 +124,34 @@ or-second : (a b : Bool) → b ≡ true → (a || b) ≡ true
 or-second true b e = refl
 or-second false b e = e
 
-same-sum : (a b a′ b′ : Scan) (ts : List Test) → (anyOf (plannedWith true) ts ≡ true → a ≡ a′) → (anyOf (plannedWith false) ts ≡ true → b ≡ b′) → sumScans a b ts ≡ sumScans a′ b′ ts
+same-sum : (a b a′ b′ : Scan) (ts : List Test) → (anyOf (plannedWith true) ts ≡ true → a ≡ a′)
+    → (anyOf (plannedWith false) ts ≡ true → b ≡ b′) → sumScans a b ts ≡ sumScans a′ b′ ts
 unfolding sumScans anyOf
 same-sum a b a′ b′ [] e f = refl
 same-sum a b a′ b′ (t ∷ ts) e f =
     rw (
-      same-cycles a b a′ b′ t (λ h. e (or-first (plannedWith true t) (anyOf (plannedWith true) ts) h)) (λ h. f (or-first (plannedWith false t) (anyOf (plannedWith false) ts) h)),
-      same-sum a b a′ b′ ts (λ h. e (or-second (plannedWith true t) (anyOf (plannedWith true) ts) h)) (λ h. f (or-second (plannedWith false t) (anyOf (plannedWith false) ts) h)),
+      same-cycles a b a′ b′ t (λ h. e (or-first (plannedWith true t) (anyOf (plannedWith true) ts) h))
+          (λ h. f (or-first (plannedWith false t) (anyOf (plannedWith false) ts) h)),
+      same-sum a b a′ b′ ts (λ h. e (or-second (plannedWith true t) (anyOf (plannedWith true) ts) h))
+          (λ h. f (or-second (plannedWith false t) (anyOf (plannedWith false) ts) h)),
     )
 
-if-needed : (needed : Bool) (d : Module) (scan : Bool) (w : ℕ) → needed ≡ true → scanIf needed d (orderOf (usedChains d scan)) w ≡ scanOf d (orderOf (usedChains d scan)) w
+if-needed : (needed : Bool) (d : Module) (scan : Bool) (w : ℕ) → needed ≡ true
+    → scanIf needed d (chainLengths (usedChains d scan)) w ≡ scanWith d scan w
 unfolding scanIf
 if-needed needed d scan w e = rw e
 
 -- a module's figure, where each scan is computed only if a test needs it
-pub figure-scans : (d : Module) (w : ℕ) → sumScans (scanIf (anyOf (plannedWith true) (testsOf d)) d (orderOf (usedChains d true)) w) (scanIf (anyOf (plannedWith false) (testsOf d)) d (orderOf (usedChains d false)) w) (testsOf d) ≡ figure d w
+pub figure-scans : (d : Module) (w : ℕ) → sumScans (scanNeeded d true w) (scanNeeded d false w) (testsOf d) ≡ figure d w
 unfolding figure
 figure-scans d w =
-    same-sum _ _ _ _ (testsOf d) (if-needed (anyOf (plannedWith true) (testsOf d)) d true w) (if-needed (anyOf (plannedWith false) (testsOf d)) d false w)
+    same-sum _ _ _ _ (testsOf d) (if-needed (anyOf (plannedWith true) (testsOf d)) d true w)
+    (if-needed (anyOf (plannedWith false) (testsOf d)) d false w)
     ∙ sum-scans d w (testsOf d)
 
 -- a loop over the tests
-pub sum-step : (a b : Scan) (ts : List Test) (i : ℕ) → i < length ts → sumScans a b (drop i ts) ≡ plannedCycles a b (getD ts i noTest) + sumScans a b (drop (i + 1) ts)
+pub sum-step : (a b : Scan) (ts : List Test) (i : ℕ) → i < length ts
+    → sumScans a b (drop i ts) ≡ plannedCycles a b (getD ts i noTest) + sumScans a b (drop (i + 1) ts)
 unfolding sumScans
 sum-step a b ts i h = rw (add-one, drop-cons ts i noTest h)
 
@@ -148,12 +164,15 @@ pub best-one : (d : Module) → moduleBest d 1 ≡ record { cycles = figure d 1;
 unfolding moduleBest bestTo
 best-one d = refl
 
-best-next : (d : Module) (w : ℕ) → 0 < w → moduleBest d (w + 1) ≡ cond (ltb (figure d (w + 1)) (moduleBest d w .cycles)) (record { cycles = figure d (w + 1); wires = w + 1 }) (moduleBest d w)
+best-next : (d : Module) (w : ℕ) → 0 < w
+    → moduleBest d (w + 1)
+    ≡ cond (ltb (figure d (w + 1)) (moduleBest d w .cycles)) (record { cycles = figure d (w + 1); wires = w + 1 }) (moduleBest d w)
 unfolding moduleBest bestTo
 best-next d zero h = let no : ⊥ = omega arith in absurd no
 best-next d (suc w) h = rw (add-one (suc w))
 
-pub best-less : (d : Module) (w : ℕ) → 0 < w → figure d (w + 1) < moduleBest d w .cycles → moduleBest d (w + 1) ≡ record { cycles = figure d (w + 1); wires = w + 1 }
+pub best-less : (d : Module) (w : ℕ) → 0 < w → figure d (w + 1) < moduleBest d w .cycles
+    → moduleBest d (w + 1) ≡ record { cycles = figure d (w + 1); wires = w + 1 }
 best-less d w h k = best-next d w h ∙ rw (lt-ltb (figure d (w + 1)) (moduleBest d w .cycles) k)
 
 pub best-stays : (d : Module) (w : ℕ) → 0 < w → moduleBest d w .cycles ≤ figure d (w + 1) → moduleBest d (w + 1) ≡ moduleBest d w
@@ -171,28 +190,35 @@ bests-more d zero u = let e : 0 + u ≡ u = omega arith in rw e
 bests-more d (suc w) u = let e : w + suc u ≡ suc w + u = omega arith in ap (λ l. moduleBest d u ∷ l) (bests-more d w (suc u) ∙ rw e)
 
 module _ {A : Type 0} (f : Best → A) (z : A) (d : Module) where
-  pub bests-set : (w : ℕ) → w < widthMax → set (padded widthMax z (map f (bestsFrom d w 1))) w (f (moduleBest d (w + 1))) ≡ padded widthMax z (map f (bestsFrom d (w + 1) 1))
+  pub bests-set : (w : ℕ) → w < widthMax
+      → set (padded widthMax z (map f (bestsFrom d w 1))) w (f (moduleBest d (w + 1))) ≡ padded widthMax z (map f (bestsFrom d (w + 1) 1))
   bests-set w h =
       let n : length (map f (bestsFrom d w 1)) ≡ w = length-map (bestsFrom d w 1) f ∙ bests-length d w 1 in
-      let e : map f (bestsFrom d (w + 1) 1) ≡ map f (bestsFrom d w 1) ++ f (moduleBest d (w + 1)) ∷ [] = rw (add-one w, bests-more d w 1, map-append) (rw (add-one w)) in
+      let e : map f (bestsFrom d (w + 1) 1) ≡ map f (bestsFrom d w 1) ++ f (moduleBest d (w + 1)) ∷ [] =
+      rw (add-one w, bests-more d w 1, map-append) (rw (add-one w))
+      in
       rw e (rw n at (padded-set widthMax z (f (moduleBest d (w + 1))) (map f (bestsFrom d w 1)) (rw n h)))
 
   pub bests-first : set (replicate widthMax z) 0 (f (moduleBest d 1)) ≡ padded widthMax z (map f (bestsFrom d 1 1))
   unfolding bestsFrom padded
   bests-first = refl
 
-  pub bests-last : (w : ℕ) → 0 < w → w ≤ widthMax → (y : A) → getD (padded widthMax z (map f (bestsFrom d w 1))) (w - 1) y ≡ f (moduleBest d w)
+  pub bests-last : (w : ℕ) → 0 < w → w ≤ widthMax → (y : A)
+      → getD (padded widthMax z (map f (bestsFrom d w 1))) (w - 1) y ≡ f (moduleBest d w)
   unfolding padded
   bests-last zero h k y = let no : ⊥ = omega arith in absurd no
   bests-last (suc w) h k y =
       let n : length (map f (bestsFrom d w 1)) ≡ w = length-map (bestsFrom d w 1) f ∙ bests-length d w 1 in
-      let e : map f (bestsFrom d (suc w) 1) ≡ map f (bestsFrom d w 1) ++ f (moduleBest d (suc w)) ∷ [] = rw (bests-more d w 1, map-append) (rw (add-one w)) in
+      let e : map f (bestsFrom d (suc w) 1) ≡ map f (bestsFrom d w 1) ++ f (moduleBest d (suc w)) ∷ [] =
+      rw (bests-more d w 1, map-append) (rw (add-one w))
+      in
       let m : suc w - 1 ≡ w = omega arith in
       rw (m, e, append-assoc) (getD-at (map f (bestsFrom d w 1)) (f (moduleBest d (suc w))) _ y w n)
 
 -- the module that is asked for
 module _ {A : Type 0} (s : Soc) (m w : ℕ) (f : ℕ → A) (g : Module → A) where
-  module-asked : askedModule s m w f g ≡ cond (eqb (foundModule s m w .number) 0) (g (foundModule s m w .«module»)) (f (foundModule s m w .number))
+  module-asked : askedModule s m w f g ≡ cond (eqb (foundModule s m w .number) 0) (g (foundModule s m w .«module»))
+      (f (foundModule s m w .number))
   unfolding askedModule foundModule
   module-asked = go (goodSoc s) (leb 1 w && leb w widthMax) (ltb m (s .«module_count»))
     where
@@ -253,7 +279,8 @@ module _ {A : Type 0} (d : Module) (i : ℕ) (f : ℕ → A) (g : Test → A) wh
   unfolding askedTest foundTest
   test-refused n e = go (leb 1 i && leb i (d .«test_count»)) e
     where
-      go : (x : Bool) → cond x (Is (getD (d .tests) (i - 1) noTest)) (No 13) ≡ No n → f n ≡ cond x (g (getD (d .tests) (i - 1) noTest)) (f 13)
+      go : (x : Bool) → cond x (Is (getD (d .tests) (i - 1) noTest)) (No 13) ≡ No n
+          → f n ≡ cond x (g (getD (d .tests) (i - 1) noTest)) (f 13)
       go true e = let no : _≡_ {A = ℕ} 0 1 = cc in absurd (omega arith)
       go false e = let h : _≡_ {A = ℕ} n 13 = cc in ap f h
 
@@ -261,7 +288,8 @@ module _ {A : Type 0} (d : Module) (i : ℕ) (f : ℕ → A) (g : Test → A) wh
   unfolding askedTest foundTest
   test-found t e = go (leb 1 i && leb i (d .«test_count»)) e
     where
-      go : (x : Bool) → cond x (Is (getD (d .tests) (i - 1) noTest)) (No 13) ≡ Is t → g t ≡ cond x (g (getD (d .tests) (i - 1) noTest)) (f 13)
+      go : (x : Bool) → cond x (Is (getD (d .tests) (i - 1) noTest)) (No 13) ≡ Is t
+          → g t ≡ cond x (g (getD (d .tests) (i - 1) noTest)) (f 13)
       go true e = let h : t ≡ getD (d .tests) (i - 1) noTest = cc in ap g h
       go false e = let no : _≡_ {A = ℕ} 0 1 = cc in absurd (omega arith)
 

@@ -1,5 +1,5 @@
--- What laws say of a layout (document 01, "The wrapper rule"): "for each wrapper chain, its flip-flops, input cells and output cells, and for
--- each internal chain its wrapper chain from 1".
+-- What laws say of a layout (document 01, "The wrapper rule"): "for each wrapper chain, its flip-flops, input cells and output cells, and
+-- for each internal chain its wrapper chain from 1".
 use Prim.Native.Nat.{ℕ, _+_}
 use mathlib.Core.Bool.{cond}
 use mathlib.Core.List.{List, [], _∷_}

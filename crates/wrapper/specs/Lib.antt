@@ -1,4 +1,5 @@
 pub mod Fit
+pub mod Cells
 pub mod Chains
 pub mod Times
 pub mod Maxima

@@ -2,34 +2,51 @@
 use Prim.Native.Nat.{ℕ, _+_, _≤_}
 use mathlib.Core.Bool.{Bool, true, false, cond, _&&_, Bool·beq}
 use mathlib.Core.List.{List, [], _∷_}
-use lib.ListN.{getD}
+use lib.ListN.{getD, replicate}
 use Rattle.soc.specs.Limits.{terminalsMax, chainsMax, lengthMax, testsMax, patternsMax}
 use Rattle.units.specs.Places.{anyOf}
 use Rattle.soc.specs.Record.{flipFlops, noTest, testsOf}
 use Rattle.soc.specs.declared.record.Test.{Test}
 use Rattle.soc.specs.declared.record.Module.{Module}
-use Rattle.wrapper.specs.Fit.{longestAfter}
-use Rattle.wrapper.specs.Chains.{usedChains, thread, empty}
+use Rattle.wrapper.specs.Fit.{placed, longestAfter}
+use Rattle.wrapper.specs.Chains.{usedChains}
 use Rattle.wrapper.specs.Times.{inputCells, outputCells, testCycles}
-use Rattle.wrapper.specs.Held.{front, orderOf}
-use Rattle.wrapper.specs.declared.chains.Order.{Order}
+use Rattle.wrapper.specs.Held.{chainLengths, frontLengths}
+use Rattle.wrapper.specs.declared.chains.ChainLengths.{ChainLengths}
 use Rattle.wrapper.specs.declared.times.Scan.{Scan}
 use Rattle.wrapper.specs.declared.times.Plain.{Plain}
 
--- the scan lengths of a module at width k, with the chains of an order
-unfoldable pub scanOf : Module → Order → ℕ → Scan
-scanOf d o k =
+-- a test with TamUse 1 and this ScanUse
+abbrev pub plannedWith : Bool → Test → Bool
+plannedWith scan t = t .«tam_use» && Bool·beq (t .«scan_use») scan
+
+-- the lengths of wrapper chains with elements of these lengths in their places, one after another
+unfoldable pub withChains : List ℕ → List ℕ → List ℕ
+withChains [] l = l
+withChains (n ∷ ns) l = withChains ns (placed n l)
+
+-- the scan lengths of a module at width k, with chains of these lengths
+unfoldable pub scanOf : Module → ChainLengths → ℕ → Scan
+scanOf d c k =
     record {
-      si = longestAfter (inputCells d) (thread (front o) (empty k) .lengths);
-      so = longestAfter (outputCells d) (thread (front o) (empty k) .lengths);
+      si = longestAfter (inputCells d) (withChains (frontLengths c) (replicate k 0));
+      so = longestAfter (outputCells d) (withChains (frontLengths c) (replicate k 0));
     }
+
+-- with the chains that a test uses
+abbrev pub scanWith : Module → Bool → ℕ → Scan
+scanWith d scan k = scanOf d (chainLengths (usedChains d scan)) k
 
 abbrev pub noScan : Scan
 noScan = record { si = 0; so = 0 }
 
-unfoldable pub scanIf : Bool → Module → Order → ℕ → Scan
-scanIf true d o k = scanOf d o k
-scanIf false d o k = noScan
+unfoldable pub scanIf : Bool → Module → ChainLengths → ℕ → Scan
+scanIf true d c k = scanOf d c k
+scanIf false d c k = noScan
+
+-- with them, where a test with TamUse 1 needs it
+abbrev pub scanNeeded : Module → Bool → ℕ → Scan
+scanNeeded d scan k = scanIf (anyOf (plannedWith scan) (testsOf d)) d (chainLengths (usedChains d scan)) k
 
 -- 64 chains of 4,096 flip-flops and two times 8,191 cells
 pub record Short (s : Scan) : Type 0 where
@@ -46,10 +63,6 @@ pub record Kept (d : Module) : Type 0 where
   pub outputs : d .outputs ≤ terminalsMax
   pub bidirs : d .bidirs ≤ terminalsMax
 
--- a test with TamUse 1 and this ScanUse
-abbrev pub plannedWith : Bool → Test → Bool
-plannedWith scan t = t .«tam_use» && Bool·beq (t .«scan_use») scan
-
 -- a test's cycles where the scan lengths are known; 0 with TamUse 0
 unfoldable pub plannedCycles : Scan → Scan → Test → ℕ
 plannedCycles a b t =
@@ -64,8 +77,8 @@ sumScans a b (t ∷ ts) = plannedCycles a b t + sumScans a b ts
 abbrev pub plainOf : Module → Plain
 plainOf d =
     record {
-      with = orderOf (usedChains d true);
-      without = orderOf (usedChains d false);
+      with = chainLengths (usedChains d true);
+      without = chainLengths (usedChains d false);
       «needs_with» = anyOf (plannedWith true) (testsOf d);
       «needs_without» = anyOf (plannedWith false) (testsOf d);
     }

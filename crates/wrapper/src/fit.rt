@@ -1,9 +1,12 @@
-// Where an element goes: to the wrapper chain that becomes fullest without passing the longest, else to the shortest, ties to the lowest
-// number. Lengths count flip-flops and cells.
+// Where an element goes (document 01, "The wrapper rule"): to the wrapper chain that becomes fullest without passing the longest, else to
+// the shortest, ties to the lowest number; and how long the longest is after cells, with none placed (document 02, item 4). Lengths count
+// flip-flops and cells.
 ghost use mathlib.Core.Path.{_≡_};
 ghost use Prim.Native.Nat.{_+_, _≤_, _<_};
-ghost use lib.ListN.{length, take};
-ghost use Rattle.wrapper.specs.Fit.{longest, better, goes, placed, withCells, longestAfter};
+ghost use lib.ListN.{length, replicate};
+ghost use Rattle.wrapper.specs.Fit.{longest, total, better, goes, placed, withCells};
+ghost use Rattle.wrapper.specs.Cells.{evened};
+ghost use Rattle.wrapper.specs.Scans.{withChains};
 
 pub(crate) fn longest_of(l: &[u64]) -> u64
     ensures { λ r. ⌜ r ≡ longest (now (l .entry)) ⌝ }
@@ -31,14 +34,14 @@ fn is_better(n: u64, m: u64, x: u64, y: u64) -> bool
     }
 }
 
-fn goes_to(l: &[u64], n: u64) -> usize
-    requires { ⌜ longest (now l) + n < 18446744073709551616 ⌝ }
+// The number of the chain to which an element of length n goes, where m is the longest.
+fn goes_to(l: &[u64], n: u64, m: u64) -> usize
+    requires { ⌜ (m ≡ longest (now l)) × (longest (now l) + n < 18446744073709551616) ⌝ }
     ensures { λ r. ⌜ r ≡ goes n (now (l .entry)) ⌝ }
 {
     if l.len() == 0 {
         return 0;
     }
-    let m = longest_of(l);
     let mut i: usize = 0;
     let mut x = l[0];
     let mut j: usize = 1;
@@ -58,7 +61,8 @@ pub(crate) fn place(l: &mut [u64], n: u64) -> usize
     requires { ⌜ (0 < length (now l)) × (longest (now l) + n < 18446744073709551616) ⌝ }
     ensures { λ r. ⌜ (r ≡ goes n (now (l .entry))) × (now (l .exit) ≡ placed n (now (l .entry))) ⌝ }
 {
-    let i = goes_to(&*l, n);
+    let m = longest_of(&*l);
+    let i = goes_to(&*l, n, m);
     l[i] += n;
     i
 }
@@ -75,12 +79,36 @@ pub(crate) fn add_cells(l: &mut [u64], n: u64)
     }
 }
 
-// The longest of the first k lengths after n cells.
-pub(crate) fn longest_after(l: [u64; 64], k: usize, n: u64) -> u64
-    requires { ⌜ (0 < k) × (k ≤ 64) × (longest (take k l) + n < 18446744073709551616) ⌝ }
-    ensures { λ r. ⌜ r ≡ longestAfter n (take k l) ⌝ }
+// The longest of k wrapper chains that start empty, after elements of these lengths were put in their places, one after another. Where
+// there are no more elements than chains, an empty chain is always left, so that none passes the longest element.
+pub(crate) fn longest_with(chains: &[u64], k: usize) -> u64
+    requires { ⌜ (0 < k) × (k ≤ 64) × (total (now chains) < 18446744073709551616) ⌝ }
+    ensures { λ r. ⌜ r ≡ longest (withChains (now (chains .entry)) (replicate k 0)) ⌝ }
 {
-    let mut after = l;
-    add_cells(&mut after[..k], n);
-    longest_of(&after[..k])
+    if chains.len() <= k {
+        return longest_of(chains);
+    }
+    let mut lengths = [0u64; 64];
+    let mut m: u64 = 0;
+    let mut i: usize = 0;
+    while i < chains.len() {
+        let n = chains[i];
+        let at = goes_to(&lengths[..k], n, m);
+        let x = lengths[at] + n;
+        lengths[at] = x;
+        if m < x {
+            m = x;
+        }
+        i += 1;
+    }
+    m
+}
+
+// The longest of k wrapper chains after n cells, where the longest was m and the total t: m, or an even share, rounded up.
+pub(crate) fn longest_after(m: u64, t: u64, n: u64, k: u64) -> u64
+    requires { ⌜ (0 < k) × (k ≤ 64) × (t + n + k < 18446744073709551616) ⌝ }
+    ensures { λ r. ⌜ r ≡ evened m t n k ⌝ }
+{
+    let even = (t + n + (k - 1)) / k;
+    if m < even { even } else { m }
 }

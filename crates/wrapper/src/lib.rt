@@ -1,5 +1,5 @@
-// The wrapper layer (document 01, "The wrapper rule"): how a core's chains and cells are threaded through a wrapper of some width, a test's time,
-// and a module's time and wires.
+// The wrapper layer (document 01, "The wrapper rule"): how a core's chains and cells are threaded through a wrapper of some width, a
+// test's time, and a module's time and wires.
 mod asked;
 mod chains;
 mod fit;

@@ -1,8 +1,9 @@
-// A test's time, and a module's time and wires: the least figure at any width up to the bus's, and the smallest such width.
-use super::chains::Order;
-use super::chains::order_of;
-use super::chains::thread_chains;
+// A test's time, and a module's time and wires (document 01, "The wrapper rule"): the least figure at any width up to the bus's, and the
+// smallest such width.
+use super::chains::ChainLengths;
+use super::chains::lengths_of;
 use super::fit::longest_after;
+use super::fit::longest_with;
 use soc::Module;
 use soc::Test;
 use units::Cycles;
@@ -12,10 +13,9 @@ ghost use mathlib.Core.Bool.{true, false};
 ghost use Prim.Native.Nat.{_≤_, _<_};
 ghost use Rattle.units.specs.Places.{anyOf};
 ghost use Rattle.soc.specs.Record.{testsOf};
-ghost use Rattle.wrapper.specs.Chains.{usedChains};
 ghost use Rattle.wrapper.specs.Times.{testCycles, testTime, figure};
 ghost use Rattle.wrapper.specs.Answers.{timesOf};
-ghost use Rattle.wrapper.specs.Held.{orderOf, Threadable};
+ghost use Rattle.wrapper.specs.Held.{Measured};
 ghost use Rattle.wrapper.specs.Scans.{scanOf, Short, Kept, plannedWith, sumScans, plannedCycles, scanIf, plainOf};
 
 // A module's times and wires at the widths from 1 on: place i is for width i + 1.
@@ -30,15 +30,17 @@ pub struct Scan {
     pub so: u64,
 }
 
-pub(crate) fn scan_at(d: Module, o: Order, k: usize) -> Scan
-    requires { ⌜ (0 < k) × (k ≤ 64) × Threadable o ⌝ }
-    ensures { λ r. ⌜ r ≡ scanOf d o k ⌝ }
+// No cell is placed: the longest chain and the total, with the chains threaded once, give both.
+pub(crate) fn scan_at(d: Module, c: ChainLengths, k: usize) -> Scan
+    requires { ⌜ (0 < k) × (k ≤ 64) × Measured c ⌝ }
+    ensures { λ r. ⌜ r ≡ scanOf d c k ⌝ }
 {
-    let t = thread_chains(o, k);
-    let lengths = t.lengths;
+    let count = c.count;
+    let lengths = c.lengths;
+    let m = longest_with(&lengths[..count], k);
     Scan {
-        si: longest_after(lengths, k, d.inputs as u64 + d.bidirs as u64),
-        so: longest_after(lengths, k, d.outputs as u64 + d.bidirs as u64),
+        si: longest_after(m, c.total, d.inputs as u64 + d.bidirs as u64, k as u64),
+        so: longest_after(m, c.total, d.outputs as u64 + d.bidirs as u64, k as u64),
     }
 }
 
@@ -104,21 +106,21 @@ fn sum_of(d: Module, with: Scan, without: Scan) -> u64
 }
 
 // The scan lengths, where they are needed.
-fn scan_if(needed: bool, d: Module, o: Order, k: usize) -> Scan
-    requires { ⌜ (0 < k) × (k ≤ 64) × Threadable o ⌝ }
-    ensures { λ r. ⌜ r ≡ scanIf needed d o k ⌝ }
+fn scan_if(needed: bool, d: Module, c: ChainLengths, k: usize) -> Scan
+    requires { ⌜ (0 < k) × (k ≤ 64) × Measured c ⌝ }
+    ensures { λ r. ⌜ r ≡ scanIf needed d c k ⌝ }
 {
     if needed {
-        scan_at(d, o, k)
+        scan_at(d, c, k)
     } else {
         Scan { si: 0, so: 0 }
     }
 }
 
-// What the figures of a module at all widths have in common: its chains in order, and which scan lengths are needed.
+// What the figures of a module at all widths have in common: its chains' lengths in order, and which scan lengths are needed.
 pub struct Plain {
-    pub with: Order,
-    pub without: Order,
+    pub with: ChainLengths,
+    pub without: ChainLengths,
     pub needs_with: bool,
     pub needs_without: bool,
 }
@@ -128,8 +130,8 @@ fn plain_of(d: Module) -> Plain
     ensures { λ r. ⌜ r ≡ plainOf d ⌝ }
 {
     Plain {
-        with: order_of(d, true),
-        without: order_of(d, false),
+        with: lengths_of(d, true),
+        without: lengths_of(d, false),
         needs_with: is_planned_with(d, true),
         needs_without: is_planned_with(d, false),
     }
@@ -177,5 +179,5 @@ pub(crate) fn test_cycles(d: Module, t: Test, k: usize) -> u64
     requires { ⌜ Kept d × (t .patterns ≤ 16777215) × (0 < k) × (k ≤ 64) ⌝ }
     ensures { λ r. ⌜ r ≡ testTime d k t ⌝ }
 {
-    cycles_of(scan_at(d, order_of(d, t.scan_use), k), t.patterns)
+    cycles_of(scan_at(d, lengths_of(d, t.scan_use), k), t.patterns)
 }

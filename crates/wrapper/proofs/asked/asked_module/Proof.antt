@@ -43,7 +43,9 @@ no-asked-requires c κs = search needs
 
 returns : tie.Need-returns
 unfolding foundModule askedModule
-returns c = rw (sym (c .before .before .is-good .ensures) ∙ not-true (c .before .before .is-good .result) (c .before .if1 .taken)) (c .no-asked .ensures)
+returns c =
+    rw (sym (c .before .before .is-good .ensures) ∙ not-true (c .before .before .is-good .result) (c .before .if1 .taken))
+    (c .no-asked .ensures)
 
 no-asked-requires-2 : tie.Need-no-asked-requires-2
 no-asked-requires-2 c κs = search needs
@@ -61,7 +63,8 @@ returns-3 : tie.Need-returns-3
 unfolding foundModule askedModule
 returns-3 c =
     let s = c .before .before .before .before .before .before .before in
-    rw (good (c .before .before .before .before .before), above-false 1 (s .args .w .0) widthMax (c .before .if3 .taken)) (c .no-asked3 .ensures)
+    rw (good (c .before .before .before .before .before), above-false 1 (s .args .w .0) widthMax (c .before .if3 .taken))
+    (c .no-asked3 .ensures)
 
 no-asked-requires-4 : tie.Need-no-asked-requires-4
 no-asked-requires-4 c κs = search needs
@@ -71,7 +74,8 @@ unfolding foundModule askedModule
 returns-4 c =
     let e = c .before .before in
     let s = e .before .before .before .before .before .before in
-    rw (good (e .before .before .before .before), within e, le-ltb (s .args .m) (s .args .t1 .«module_count») (c .before .if4 .taken)) (c .no-asked4 .ensures)
+    rw (good (e .before .before .before .before), within e, le-ltb (s .args .m) (s .args .t1 .«module_count») (c .before .if4 .taken))
+    (c .no-asked4 .ensures)
 
 mul-module : tie.Need-mul-module
 mul-module c = search needs
@@ -87,7 +91,9 @@ returns-5 c =
     let e = c .before .before in
     let g = e .before .before .before .before in
     let s = g .before .before in
-    let below : s .args .m < length (s .args .t1 .modules) = omega (arith, c .before .if4 .left, good-count (s .args .t1) (good g), len s) in
+    let below : s .args .m < length (s .args .t1 .modules) =
+    omega (arith, c .before .if4 .left, good-count (s .args .t1) (good g), len s)
+    in
     rw (good g, within e, lt-ltb (s .args .m) (s .args .t1 .«module_count») (c .before .if4 .left))
     (ap isAsked (any-default (s .args .t1 .modules) (s .args .m) _ noModule below))
 

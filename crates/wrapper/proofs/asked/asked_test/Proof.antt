@@ -16,7 +16,9 @@ sub-at c = search needs
 
 returns-2 : tie.Need-returns-2
 unfolding foundTest askedTest
-returns-2 c = let s = c .before .before in rw (above-false 1 (s .args .i) (s .args .t1 .«test_count») (omega (arith, c .if2 .taken, c .before .if1 .left)))
+returns-2 c =
+    let s = c .before .before in
+    rw (above-false 1 (s .args .i) (s .args .t1 .«test_count») (omega (arith, c .if2 .taken, c .before .if1 .left)))
 
 mul-t : tie.Need-mul-t
 mul-t c = search needs
@@ -28,7 +30,8 @@ returns-3 : tie.Need-returns-3
 unfolding foundTest askedTest
 returns-3 c =
     let s = c .before .before .before in
-    rw (within-true 1 (s .args .i) (s .args .t1 .«test_count») (c .before .before .if1 .left) (omega (arith, c .before .if2 .left, c .before .before .if1 .left)))
+    rw (within-true 1 (s .args .i) (s .args .t1 .«test_count») (c .before .before .if1 .left)
+    (omega (arith, c .before .if2 .left, c .before .before .if1 .left)))
 
 pub asked-test-spec : {M : Type 1} → statement M
 asked-test-spec = tie.close (tie.spec returns sub-at returns-2 mul-t element-copy-out-t returns-3)

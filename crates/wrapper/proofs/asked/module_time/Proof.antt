@@ -8,7 +8,8 @@ use lib.ListN.{getD}
 use Rattle.units.specs.Places.{padded}
 use Rattle.soc.specs.declared.record.Module.{Module}
 use Rattle.wrapper.specs.Times.{Best, moduleBest}
-use Rattle.wrapper.specs.Answers.{widthMax, wires, cycles, bestsFrom, noModuleTime, moduleTimeOf, moduleTimeAnswer, cyclesIn, wiresIn, timesOf}
+use Rattle.wrapper.specs.Answers.{widthMax, wires, cycles, bestsFrom, noModuleTime, moduleTimeOf, moduleTimeAnswer, cyclesIn, wiresIn}
+use Rattle.wrapper.specs.Answers.{timesOf}
 use Rattle.wrapper.specs.declared.asked.ModuleTime.{ModuleTime}
 use Rattle.wrapper.proofs.TimeLaws.{bests-last, module-refused, module-found, Found, found-kept}
 use Rattle.wrapper.proofs.asked.module_time.Statement.{statement}
@@ -20,10 +21,12 @@ timed w d = moduleTimeOf (moduleBest d w)
 found : (c : tie.Else1) → Found (c .before .before .asked-module .result .«module») (c .before .before .before .args .width .0)
 found c =
     let a = c .before .before in
-    found-kept (a .before .args .s) (a .before .args .«module») (a .before .args .width .0) (a .asked-module .result) (a .asked-module .ensures) (c .if1 .left)
+    found-kept (a .before .args .s) (a .before .args .«module») (a .before .args .width .0) (a .asked-module .result)
+    (a .asked-module .ensures) (c .if1 .left)
 
 -- what stands in the last place
-last : {A : Type 0} (f : Best → A) (z y : A) (d : Module) (w : ℕ) (l : List A) → Found d w → l ≡ padded widthMax z (map f (bestsFrom d w 1)) → getD l (w - 1) y ≡ f (moduleBest d w)
+last : {A : Type 0} (f : Best → A) (z y : A) (d : Module) (w : ℕ) (l : List A) → Found d w → l ≡ padded widthMax z (map f (bestsFrom d w 1))
+    → getD l (w - 1) y ≡ f (moduleBest d w)
 last f z y d w l h e = rw e (bests-last f z d w (h .some) (h .most) y)
 
 asked-module-requires : tie.Need-asked-module-requires
@@ -37,7 +40,9 @@ unfolding moduleTimeAnswer
 returns c =
     let a = c .before .before .before in
     let s = a .before .args in
-    c .no-module-time .ensures ∙ module-refused (s .s) (s .«module») (s .width .0) noModuleTime (timed (s .width .0)) (a .asked-module .result) (a .asked-module .ensures) (c .before .if1 .taken)
+    c .no-module-time .ensures
+    ∙ module-refused (s .s) (s .«module») (s .width .0) noModuleTime (timed (s .width .0)) (a .asked-module .result)
+    (a .asked-module .ensures) (c .before .if1 .taken)
 
 cast-w : tie.Need-cast-w
 cast-w c = search needs
@@ -71,10 +76,15 @@ returns-2 c =
     let a = e .before .before in
     let s = a .before .args in
     let d = a .asked-module .result .«module» in
-    let cs = last cyclesIn (cycles 0) (cycles 0) d (s .width .0) (t .times-of .result .cycles) (found e) (ap (λ r. r .cycles) (t .times-of .ensures)) in
-    let ws = last wiresIn (wires 0) (wires 0) d (s .width .0) (t .times-of .result .wires) (found e) (ap (λ r. r .wires) (t .times-of .ensures)) in
+    let cs =
+    last cyclesIn (cycles 0) (cycles 0) d (s .width .0) (t .times-of .result .cycles) (found e) (ap (λ r. r .cycles) (t .times-of .ensures))
+    in
+    let ws =
+    last wiresIn (wires 0) (wires 0) d (s .width .0) (t .times-of .result .wires) (found e) (ap (λ r. r .wires) (t .times-of .ensures))
+    in
     rw (c .none .ensures, cs, ws)
-    (module-found (s .s) (s .«module») (s .width .0) noModuleTime (timed (s .width .0)) (a .asked-module .result) (a .asked-module .ensures) (e .if1 .left))
+    (module-found (s .s) (s .«module») (s .width .0) noModuleTime (timed (s .width .0)) (a .asked-module .result) (a .asked-module .ensures)
+    (e .if1 .left))
 
 pub module-time-spec : {M : Type 1} → statement M
 module-time-spec =

@@ -1,5 +1,5 @@
--- `wrapper::asked::module_times` meets its contract: what is refused is refused as asked, and the module that is found is within the limits.
--- Assumes nothing.
+-- `wrapper::asked::module_times` meets its contract: what is refused is refused as asked, and the module that is found is within the
+-- limits. Assumes nothing.
 use borrow.Author.Needs.{needs}
 use Prim.Native.Nat.{ℕ}
 use mathlib.Core.Path.{_∙_}
@@ -25,7 +25,9 @@ unfolding moduleTimesAnswer
 returns c =
     let a = c .before .before .before in
     let s = a .before .args in
-    c .no-module-times .ensures ∙ module-refused (s .s) (s .«module») (s .width .0) noModuleTimes (timed (s .width .0)) (a .asked-module .result) (a .asked-module .ensures) (c .before .if1 .taken)
+    c .no-module-times .ensures
+    ∙ module-refused (s .s) (s .«module») (s .width .0) noModuleTimes (timed (s .width .0)) (a .asked-module .result)
+    (a .asked-module .ensures) (c .before .if1 .taken)
 
 none-requires : tie.Need-none-requires
 none-requires c κs = search needs
@@ -48,7 +50,8 @@ returns-2 c =
     let a = e .before .before in
     let s = a .before .args in
     rw (c .before .before .none .ensures, c .times-of .ensures)
-    (module-found (s .s) (s .«module») (s .width .0) noModuleTimes (timed (s .width .0)) (a .asked-module .result) (a .asked-module .ensures) (e .if1 .left))
+    (module-found (s .s) (s .«module») (s .width .0) noModuleTimes (timed (s .width .0)) (a .asked-module .result)
+    (a .asked-module .ensures) (e .if1 .left))
 
 pub module-times-spec : {M : Type 1} → statement M
 module-times-spec =

@@ -1,5 +1,5 @@
--- `wrapper::asked::test_time` meets its contract: what is refused is refused as asked, and the module and the test that are found are within
--- the limits. Assumes nothing.
+-- `wrapper::asked::test_time` meets its contract: what is refused is refused as asked, and the module and the test that are found are
+-- within the limits. Assumes nothing.
 use borrow.Author.Needs.{needs}
 use Prim.Native.Nat.{ℕ}
 use mathlib.Core.Path.{_≡_, sym, _∙_}
@@ -25,16 +25,19 @@ tested i w d = askedTest d i noTestTime (timed w d)
 found : (c : tie.Else1) → Found (c .before .before .asked-module .result .«module») (c .before .before .before .args .width .0)
 found c =
     let a = c .before .before in
-    found-kept (a .before .args .s) (a .before .args .«module») (a .before .args .width .0) (a .asked-module .result) (a .asked-module .ensures) (c .if1 .left)
+    found-kept (a .before .args .s) (a .before .args .«module») (a .before .args .width .0) (a .asked-module .result)
+    (a .asked-module .ensures) (c .if1 .left)
 
 asked : (c : tie.Else1) →
     let a = c .before .before in
-    tested (a .before .args .test) (a .before .args .width .0) (a .asked-module .result .«module») ≡ testTimeAnswer (a .before .args .s) (a .before .args .«module») (a .before .args .test) (a .before .args .width .0)
+    tested (a .before .args .test) (a .before .args .width .0) (a .asked-module .result .«module») ≡ testTimeAnswer (a .before .args .s)
+    (a .before .args .«module») (a .before .args .test) (a .before .args .width .0)
 unfolding testTimeAnswer
 asked c =
     let a = c .before .before in
     let s = a .before .args in
-    module-found (s .s) (s .«module») (s .width .0) noTestTime (tested (s .test) (s .width .0)) (a .asked-module .result) (a .asked-module .ensures) (c .if1 .left)
+    module-found (s .s) (s .«module») (s .width .0) noTestTime (tested (s .test) (s .width .0)) (a .asked-module .result)
+    (a .asked-module .ensures) (c .if1 .left)
 
 asked-module-requires : tie.Need-asked-module-requires
 asked-module-requires c κs = search needs
@@ -47,7 +50,9 @@ unfolding testTimeAnswer
 returns c =
     let a = c .before .before .before in
     let s = a .before .args in
-    c .no-test-time .ensures ∙ module-refused (s .s) (s .«module») (s .width .0) noTestTime (tested (s .test) (s .width .0)) (a .asked-module .result) (a .asked-module .ensures) (c .before .if1 .taken)
+    c .no-test-time .ensures
+    ∙ module-refused (s .s) (s .«module») (s .width .0) noTestTime (tested (s .test) (s .width .0)) (a .asked-module .result)
+    (a .asked-module .ensures) (c .before .if1 .taken)
 
 asked-test-requires : tie.Need-asked-test-requires
 asked-test-requires c κs = found (c .before) .kept .tests
@@ -68,7 +73,8 @@ cast-test-cycles : tie.Need-cast-test-cycles
 cast-test-cycles c = search needs
 
 -- the test that is found
-is : (c : tie.After-t) → foundTest (c .before .before .before .before .before .before .asked-module .result .«module») (c .before .before .before .before .before .before .before .args .test) ≡ Is (c .t .given .0 .0)
+is : (c : tie.After-t) → foundTest (c .before .before .before .before .before .before .asked-module .result .«module»)
+    (c .before .before .before .before .before .before .before .args .test) ≡ Is (c .t .given .0 .0)
 is c = sym (c .before .before .asked-test .ensures) ∙ c .t .given .1
 
 test-cycles-requires : tie.Need-test-cycles-requires

@@ -1,5 +1,5 @@
--- `wrapper::fit::add_cells` meets its contract. The loop's invariant: all the cells in the old lengths are those that are left in the present ones,
--- of which the longest grew by at most `i`. The measure is what is left of `n`. Assumes nothing.
+-- `wrapper::fit::add_cells` meets its contract. The loop's invariant: all the cells in the old lengths are those that are left in the
+-- present ones, of which the longest grew by at most `i`. The measure is what is left of `n`. Assumes nothing.
 use borrow.Author.Needs.{needs}
 use native.Mathlib.Omega.{arith}
 use Prim.Native.Nat.{ℕ, suc, _+_, _-_, _≤_, _<_}

@@ -47,15 +47,12 @@ abbrev μ-loop : tie.MeasureT-loop
 returns : tie.Need-returns Inv-loop μ-loop
 returns c = sym (goes-none (c .before .before .args .n) (c .before .before .args .l .now) (c .if1 .taken))
 
-longest-of-requires : tie.Need-longest-of-requires Inv-loop μ-loop
-longest-of-requires c κs = search needs
-
 shared-slice-read-x : tie.Need-shared-slice-read-x Inv-loop μ-loop
 shared-slice-read-x c = search needs
 
 loop-holds : tie.Need-loop-holds Inv-loop μ-loop
 loop-holds c =
-    let s = c .before .before .before .before in
+    let s = c .before .before .before in
     (longest-at (s .args .l .now) 0, goes-start (s .args .n) (s .args .l .now) (omega arith))
 
 mul-y : tie.Need-mul-y Inv-loop μ-loop
@@ -67,8 +64,8 @@ shared-slice-read-y c = search needs
 is-better-requires : tie.Need-is-better-requires Inv-loop μ-loop
 is-better-requires c κs =
     let l = c .before .before in
-    let s = l .before .before .before .before .before in
-    omega (arith, l .loop .inv .0, s .pre, longest-at (s .args .l .now) (l .loop .j))
+    let s = l .before .before .before .before in
+    omega (arith, l .loop .inv .0, s .pre .1, longest-at (s .args .l .now) (l .loop .j))
 
 add-j : tie.Need-add-j Inv-loop μ-loop
 add-j c = search needs
@@ -79,22 +76,29 @@ loop-less c = search needs
 loop-again : tie.Need-loop-again Inv-loop μ-loop
 loop-again c =
     let l = c .before .before .before .before in
-    let s = l .before .before .before .before .before in
+    let s = l .before .before .before .before in
     let xs = s .args .l .now in
     let b = better (s .args .n) (longest xs) in
-    let m : l .before .before .longest-of .result ≡ longest xs = l .before .before .longest-of .ensures in
-    let e : c .before .is-better .result ≡ b (l .loop .x) (getD xs (l .loop .j) 0) = c .before .is-better .ensures ∙ ap (λ k. better (s .args .n) k (l .loop .x) (getD xs (l .loop .j) 0)) m in
+    let m : s .args .m ≡ longest xs = s .pre .0 in
+    let e : c .before .is-better .result ≡ b (l .loop .x) (getD xs (l .loop .j) 0) =
+    c .before .is-better .ensures ∙ ap (λ k. better (s .args .n) k (l .loop .x) (getD xs (l .loop .j) 0)) m
+    in
     let h : l .loop .j < length xs = c .before .before .before .loop-test .taken in
     ⊎-elim
-    (λ w. rw (w .1, w .2) (longest-at xs (l .loop .j), l .loop .inv .1 ∙ best-found b (l .loop .i) (l .loop .x) (l .loop .j) xs h (sym e ∙ w .0 .taken)))
-    (λ w. rw (w .1, w .2) (l .loop .inv .0, l .loop .inv .1 ∙ best-stays b (l .loop .i) (l .loop .x) (l .loop .j) xs h (sym e ∙ w .0 .left)))
+    (λ w.
+    let f = best-found b (l .loop .i) (l .loop .x) (l .loop .j) xs h (sym e ∙ w .0 .taken) in
+    rw (w .1, w .2) (longest-at xs (l .loop .j), l .loop .inv .1 ∙ f))
+    (λ w.
+    let f = best-stays b (l .loop .i) (l .loop .x) (l .loop .j) xs h (sym e ∙ w .0 .left) in
+    rw (w .1, w .2) (l .loop .inv .0, l .loop .inv .1 ∙ f))
     (c .if2 .came)
 
 returns-2 : tie.Need-returns-2 Inv-loop μ-loop
 returns-2 c =
     let l = c .before in
-    let s = l .before .before .before .before .before in
-    sym (l .loop .inv .1 ∙ best-end (better (s .args .n) (longest (s .args .l .now))) (l .loop .i) (l .loop .x) (l .loop .j) (s .args .l .now) (c .loop-test .left))
+    let s = l .before .before .before .before in
+    let xs = s .args .l .now in
+    sym (l .loop .inv .1 ∙ best-end (better (s .args .n) (longest xs)) (l .loop .i) (l .loop .x) (l .loop .j) xs (c .loop-test .left))
 
 pub goes-to-spec : {M : Type 1} → statement M
 goes-to-spec =
@@ -103,7 +107,6 @@ goes-to-spec =
     Inv-loop
     μ-loop
     returns
-    longest-of-requires
     shared-slice-read-x
     loop-holds
     mul-y

@@ -1,5 +1,5 @@
--- `wrapper::fit::longest_of` meets its contract. The loop's invariant: the longest of all is that of `m` and those from `i` on. The measure is
--- what is left of the length. Assumes nothing.
+-- `wrapper::fit::longest_of` meets its contract. The loop's invariant: the longest of all is that of `m` and those from `i` on. The
+-- measure is what is left of the length. Assumes nothing.
 use borrow.Author.Needs.{needs}
 use native.Mathlib.Omega.{arith}
 use Prim.Native.Nat.{_-_, max}

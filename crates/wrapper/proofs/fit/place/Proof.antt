@@ -9,13 +9,16 @@ use Rattle.wrapper.proofs.FitLaws.{goes-below, longest-at}
 use Rattle.wrapper.proofs.fit.place.Statement.{statement}
 use Rattle.wrapper.proofs.fit.place.Tie as tie
 
-below : (c : tie.After-goes-to) → c .goes-to .result < length (c .before .before .before .args .l .now)
+below : (c : tie.After-goes-to) → c .goes-to .result < length (c .before .before .before .before .before .args .l .now)
 below c =
-    let s = c .before .before .before in
+    let s = c .before .before .before .before .before in
     rw (c .goes-to .ensures) (goes-below (s .args .n) (s .args .l .now) (s .pre .0))
 
+longest-of-requires : tie.Need-longest-of-requires
+longest-of-requires c κs = search needs
+
 goes-to-requires : tie.Need-goes-to-requires
-goes-to-requires c κs = search needs
+goes-to-requires c κs = (c .before .longest-of .ensures, c .before .before .before .before .pre .1)
 
 mul-l : tie.Need-mul-l
 mul-l c = omega (arith, below c)
@@ -24,7 +27,9 @@ slice-read-l : tie.Need-slice-read-l
 slice-read-l c = below (c .before)
 
 add-l : tie.Need-add-l
-add-l c = let s = c .before .before .before .before in omega (arith, s .pre .1, longest-at (s .args .l .now) (c .before .goes-to .result))
+add-l c =
+    let s = c .before .before .before .before .before .before in
+    omega (arith, s .pre .1, longest-at (s .args .l .now) (c .before .goes-to .result))
 
 slice-write-l : tie.Need-slice-write-l
 slice-write-l c = below (c .before)
@@ -39,4 +44,4 @@ returns c = (c .before .goes-to .ensures, rw (c .before .goes-to .ensures) refl)
 pub place-spec : {M : Type 1} → statement M
 place-spec =
     tie.close
-    (tie.spec goes-to-requires mul-l slice-read-l add-l slice-write-l same-length returns)
+    (tie.spec longest-of-requires goes-to-requires mul-l slice-read-l add-l slice-write-l same-length returns)

@@ -1,5 +1,5 @@
--- `wrapper::laid::cells_of` meets its contract. The loop's invariant: the first `i` places hold by how much they grew, and the others what they
--- held. The measure is what is left of the array. Assumes nothing.
+-- `wrapper::laid::cells_of` meets its contract. The loop's invariant: the first `i` places hold by how much they grew, and the others what
+-- they held. The measure is what is left of the array. Assumes nothing.
 use borrow.Author.Needs.{needs}
 use native.Mathlib.Omega.{arith}
 use Prim.Native.Nat.{ℕ, _-_, _≤_, _<_}
@@ -29,7 +29,8 @@ front-long : (c : tie.Start Inv-loop μ-loop) → length (take (c .args .k) (c .
 front-long c = length-take-le (c .args .k) (c .args .t1) (omega (arith, len c, c .pre .1))
 
 -- the lengths with the cells, and those past the width
-cells : (c : tie.After-add-cells Inv-loop μ-loop) → c .add-cells .last .0 ≡ withCells (c .before .before .args .n) (take (c .before .before .args .k) (c .before .before .args .t1))
+cells : (c : tie.After-add-cells Inv-loop μ-loop)
+    → c .add-cells .last .0 ≡ withCells (c .before .before .args .n) (take (c .before .before .args .k) (c .before .before .args .t1))
 cells c = c .add-cells .ensures
 
 cells-long : (c : tie.After-add-cells Inv-loop μ-loop) → length (c .add-cells .last .0) ≡ c .before .before .args .k
@@ -55,12 +56,14 @@ grown-long : (c : tie.After-add-cells Inv-loop μ-loop) → length (gained (c .b
 grown-long c = let s = c .before .before in gained-length (s .args .t1) (all c) (len s ∙ sym (all-long c)) ∙ len s
 
 -- what stands at the place of this turn
-here : (c : tie.In-loop Inv-loop μ-loop) → getD (c .before .loop .after) (c .before .loop .i) 0 ≡ getD (all (c .before .before .before)) (c .before .loop .i) 0
+here : (c : tie.In-loop Inv-loop μ-loop)
+    → getD (c .before .loop .after) (c .before .loop .i) 0 ≡ getD (all (c .before .before .before)) (c .before .loop .i) 0
 here c =
     let l = c .before in
     let a = l .before .before in
     ap (λ x. getD x (l .loop .i) 0) (l .loop .inv .1)
-    ∙ over-at 0 (gained (a .before .before .args .t1) (all a)) (all a) (l .loop .i) (omega (arith, grown-long a, c .loop-test .taken)) (omega (arith, all-long a, c .loop-test .taken))
+    ∙ over-at 0 (gained (a .before .before .args .t1) (all a)) (all a) (l .loop .i) (omega (arith, grown-long a, c .loop-test .taken))
+    (omega (arith, all-long a, c .loop-test .taken))
 
 array-borrow-prefix-after : tie.Need-array-borrow-prefix-after Inv-loop μ-loop
 array-borrow-prefix-after c = omega (arith, len c, c .pre .1)
@@ -109,7 +112,8 @@ loop-again c =
     let i = l .loop .i in
     let h : i < length xs = omega (arith, len (a .before .before), c .loop-test .taken) in
     let k : i < length (all a) = omega (arith, all-long a, c .loop-test .taken) in
-    let e : getD (l .loop .after) i 0 - getD xs i 0 ≡ getD (gained xs (all a)) i 0 = ap (λ x. x - getD xs i 0) (here c) ∙ sym (gained-at xs (all a) i h k) in (
+    let e : getD (l .loop .after) i 0 - getD xs i 0 ≡ getD (gained xs (all a)) i 0 = ap (λ x. x - getD xs i 0) (here c)
+    ∙ sym (gained-at xs (all a) i h k) in (
       omega arith,
       ap (λ x. set (l .loop .after) i x) e
           ∙ ap (λ x. set x i (getD (gained xs (all a)) i 0)) (l .loop .inv .1)
@@ -122,7 +126,8 @@ returns c =
     let a = l .before .before in
     let s = a .before .before in
     l .loop .inv .1
-    ∙ over-end (gained (s .args .t1) (all a)) (all a) (l .loop .i) (omega (arith, grown-long a, c .loop-test .left)) (omega (arith, all-long a, c .loop-test .left))
+    ∙ over-end (gained (s .args .t1) (all a)) (all a) (l .loop .i) (omega (arith, grown-long a, c .loop-test .left))
+    (omega (arith, all-long a, c .loop-test .left))
     ∙ gained-padded (s .args .k) (s .args .t1) (a .add-cells .last .0) (front-long s) (s .pre .2) (cells-long a)
     ∙ ap (λ x. padded 64 0 (gained (take (s .args .k) (s .args .t1)) x)) (cells a)
 

@@ -1,5 +1,5 @@
--- `wrapper::laid::flip_flops_of` meets its contract. The loop's invariant: the first `i` places hold the lengths, and the others what they held.
--- The measure is what is left of the array. Assumes nothing.
+-- `wrapper::laid::flip_flops_of` meets its contract. The loop's invariant: the first `i` places hold the lengths, and the others what they
+-- held. The measure is what is left of the array. Assumes nothing.
 use borrow.Author.Needs.{needs}
 use native.Mathlib.Omega.{arith}
 use Prim.Native.Nat.{_-_, _≤_, _<_}
@@ -53,7 +53,8 @@ loop-again c =
     let h : i < length (map flipFlops xs) = simp length-map (omega (arith, len s, c .loop-test .taken)) in
     let e : flipFlops (getD xs i 0) ≡ getD (map flipFlops xs) i (flipFlops 0) = sym (List·getD-map flipFlops xs i 0) in (
       omega arith,
-      ap (λ y. set (l .loop .f) i y) e ∙ ap (λ fs. set fs i (getD (map flipFlops xs) i (flipFlops 0))) (l .loop .inv .1) ∙ over-set (flipFlops 0) (map flipFlops xs) (replicate 64 (flipFlops 0)) i h (c .loop-test .taken),
+      ap (λ y. set (l .loop .f) i y) e ∙ ap (λ fs. set fs i (getD (map flipFlops xs) i (flipFlops 0))) (l .loop .inv .1)
+          ∙ over-set (flipFlops 0) (map flipFlops xs) (replicate 64 (flipFlops 0)) i h (c .loop-test .taken),
     )
 
 returns : tie.Need-returns Inv-loop μ-loop

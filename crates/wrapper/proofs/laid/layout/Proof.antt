@@ -1,5 +1,5 @@
--- `wrapper::laid::layout` meets its contract: what is refused is refused as asked, and the module and the test that are found are within the
--- limits. Assumes nothing.
+-- `wrapper::laid::layout` meets its contract: what is refused is refused as asked, and the module and the test that are found are within
+-- the limits. Assumes nothing.
 use borrow.Author.Needs.{needs}
 use Prim.Native.Nat.{ℕ}
 use mathlib.Core.Path.{_≡_, sym, _∙_}
@@ -22,16 +22,19 @@ tested i w d = askedTest d i noLayout (laid w d)
 found : (c : tie.Else1) → Found (c .before .before .asked-module .result .«module») (c .before .before .before .args .width .0)
 found c =
     let a = c .before .before in
-    found-kept (a .before .args .s) (a .before .args .«module») (a .before .args .width .0) (a .asked-module .result) (a .asked-module .ensures) (c .if1 .left)
+    found-kept (a .before .args .s) (a .before .args .«module») (a .before .args .width .0) (a .asked-module .result)
+    (a .asked-module .ensures) (c .if1 .left)
 
 asked : (c : tie.Else1) →
     let a = c .before .before in
-    tested (a .before .args .test) (a .before .args .width .0) (a .asked-module .result .«module») ≡ layoutAnswer (a .before .args .s) (a .before .args .«module») (a .before .args .test) (a .before .args .width .0)
+    tested (a .before .args .test) (a .before .args .width .0) (a .asked-module .result .«module») ≡ layoutAnswer (a .before .args .s)
+    (a .before .args .«module») (a .before .args .test) (a .before .args .width .0)
 unfolding layoutAnswer
 asked c =
     let a = c .before .before in
     let s = a .before .args in
-    module-found (s .s) (s .«module») (s .width .0) noLayout (tested (s .test) (s .width .0)) (a .asked-module .result) (a .asked-module .ensures) (c .if1 .left)
+    module-found (s .s) (s .«module») (s .width .0) noLayout (tested (s .test) (s .width .0)) (a .asked-module .result)
+    (a .asked-module .ensures) (c .if1 .left)
 
 asked-module-requires : tie.Need-asked-module-requires
 asked-module-requires c κs = search needs
@@ -44,7 +47,9 @@ unfolding layoutAnswer
 returns c =
     let a = c .before .before .before in
     let s = a .before .args in
-    c .no-layout .ensures ∙ module-refused (s .s) (s .«module») (s .width .0) noLayout (tested (s .test) (s .width .0)) (a .asked-module .result) (a .asked-module .ensures) (c .before .if1 .taken)
+    c .no-layout .ensures
+    ∙ module-refused (s .s) (s .«module») (s .width .0) noLayout (tested (s .test) (s .width .0)) (a .asked-module .result)
+    (a .asked-module .ensures) (c .before .if1 .taken)
 
 asked-test-requires : tie.Need-asked-test-requires
 asked-test-requires c κs = found (c .before) .kept .tests

@@ -68,8 +68,12 @@ add-cells-of c = search needs
 cells-of-requires : tie.Need-cells-of-requires
 cells-of-requires c κs =
     let t = c .before .before .before .before .before .before in
-    let s = t .before .before in
-    (s .pre .1, s .pre .2, lengths t ∙ ap (padded widthMax 0) (sym (first t)), rw (first t) (omega (arith, short t, s .pre .0 .inputs, s .pre .0 .bidirs)))
+    let s = t .before .before in (
+      s .pre .1,
+      s .pre .2,
+      lengths t ∙ ap (padded widthMax 0) (sym (first t)),
+      rw (first t) (omega (arith, short t, s .pre .0 .inputs, s .pre .0 .bidirs)),
+    )
 
 cast-cells-of-3 : tie.Need-cast-cells-of-3
 cast-cells-of-3 c = search needs
@@ -83,8 +87,12 @@ add-cells-of-2 c = search needs
 cells-of-requires-2 : tie.Need-cells-of-requires-2
 cells-of-requires-2 c κs =
     let t = c .before .before .before .before .before .before .before .before .before in
-    let s = t .before .before in
-    (s .pre .1, s .pre .2, lengths t ∙ ap (padded widthMax 0) (sym (first t)), rw (first t) (omega (arith, short t, s .pre .0 .outputs, s .pre .0 .bidirs)))
+    let s = t .before .before in (
+      s .pre .1,
+      s .pre .2,
+      lengths t ∙ ap (padded widthMax 0) (sym (first t)),
+      rw (first t) (omega (arith, short t, s .pre .0 .outputs, s .pre .0 .bidirs)),
+    )
 
 returns : tie.Need-returns
 unfolding layoutOf

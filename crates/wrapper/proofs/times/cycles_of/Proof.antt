@@ -1,4 +1,5 @@
--- `wrapper::times::cycles_of` meets its contract: the branch says which of the scan lengths is the longer, and no product wraps. Assumes nothing.
+-- `wrapper::times::cycles_of` meets its contract: the branch says which of the scan lengths is the longer, and no product wraps. Assumes
+-- nothing.
 use borrow.Author.Needs.{needs}
 use native.Mathlib.Omega.{arith}
 use Prim.Native.Nat.{max, min}
@@ -15,7 +16,9 @@ mul-result : tie.Need-mul-result
 mul-result c = let s = c .before .before .before in omega (arith, product-most (s .args .s .so) (s .args .p) (s .pre .0 .so) (s .pre .1))
 
 add-result-2 : tie.Need-add-result-2
-add-result-2 c = let s = c .before .before .before .before in omega (arith, s .pre .0 .si, product-most (s .args .s .so) (s .args .p) (s .pre .0 .so) (s .pre .1))
+add-result-2 c =
+    let s = c .before .before .before .before in
+    omega (arith, s .pre .0 .si, product-most (s .args .s .so) (s .args .p) (s .pre .0 .so) (s .pre .1))
 
 add-result-3 : tie.Need-add-result-3
 add-result-3 c = search needs
@@ -24,7 +27,9 @@ mul-result-2 : tie.Need-mul-result-2
 mul-result-2 c = let s = c .before .before .before in omega (arith, product-most (s .args .s .si) (s .args .p) (s .pre .0 .si) (s .pre .1))
 
 add-result-4 : tie.Need-add-result-4
-add-result-4 c = let s = c .before .before .before .before in omega (arith, s .pre .0 .so, product-most (s .args .s .si) (s .args .p) (s .pre .0 .si) (s .pre .1))
+add-result-4 c =
+    let s = c .before .before .before .before in
+    omega (arith, s .pre .0 .so, product-most (s .args .s .si) (s .args .p) (s .pre .0 .si) (s .pre .1))
 
 returns : tie.Need-returns
 unfolding testCycles

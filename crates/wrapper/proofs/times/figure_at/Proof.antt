@@ -1,23 +1,23 @@
 -- `wrapper::times::figure_at` meets its contract: a scan that is not computed is one that no planned test needs. Assumes nothing.
 use mathlib.Core.Path.{_≡_, ap, _∙_}
 use mathlib.Core.Bool.{true, false}
-use Rattle.units.specs.Places.{anyOf}
-use Rattle.soc.specs.Record.{testsOf}
-use Rattle.wrapper.specs.Chains.{usedChains}
-use Rattle.wrapper.specs.Held.{orderOf}
-use Rattle.wrapper.specs.Scans.{scanIf, plannedWith}
-use Rattle.wrapper.proofs.KeptLaws.{kept-threadable, short-scan-if}
+use Rattle.wrapper.specs.Scans.{scanIf, scanNeeded}
+use Rattle.wrapper.proofs.KeptLaws.{kept-measured, short-scan-if}
 use Rattle.wrapper.proofs.TimeLaws.{figure-scans}
 use Rattle.wrapper.proofs.times.figure_at.Statement.{statement}
 use Rattle.wrapper.proofs.times.figure_at.Tie as tie
 
 -- the two scans
-with-is : (c : tie.After-scan-if) → let s = c .before .before .before in c .scan-if .result ≡ scanIf (anyOf (plannedWith true) (testsOf (s .args .d))) (s .args .d) (orderOf (usedChains (s .args .d) true)) (s .args .k)
+with-is : (c : tie.After-scan-if) →
+    let s = c .before .before .before in
+    c .scan-if .result ≡ scanNeeded (s .args .d) true (s .args .k)
 with-is c =
     let s = c .before .before .before in
     c .scan-if .ensures ∙ ap (λ p. scanIf (p .«needs_with») (s .args .d) (p .with) (s .args .k)) (s .pre .1)
 
-without-is : (c : tie.After-scan-if2) → let s = c .before .before .before .before in c .scan-if2 .result ≡ scanIf (anyOf (plannedWith false) (testsOf (s .args .d))) (s .args .d) (orderOf (usedChains (s .args .d) false)) (s .args .k)
+without-is : (c : tie.After-scan-if2) →
+    let s = c .before .before .before .before in
+    c .scan-if2 .result ≡ scanNeeded (s .args .d) false (s .args .k)
 without-is c =
     let s = c .before .before .before .before in
     c .scan-if2 .ensures ∙ ap (λ p. scanIf (p .«needs_without») (s .args .d) (p .without) (s .args .k)) (s .pre .1)
@@ -25,12 +25,12 @@ without-is c =
 scan-if-requires : tie.Need-scan-if-requires
 scan-if-requires c κs =
     let s = c .before .before in
-    (s .pre .2, s .pre .3, rw (ap (λ p. p .with) (s .pre .1)) (kept-threadable (s .args .d) true (s .pre .0)))
+    (s .pre .2, s .pre .3, rw (ap (λ p. p .with) (s .pre .1)) (kept-measured (s .args .d) true (s .pre .0)))
 
 scan-if-requires-2 : tie.Need-scan-if-requires-2
 scan-if-requires-2 c κs =
     let s = c .before .before .before in
-    (s .pre .2, s .pre .3, rw (ap (λ p. p .without) (s .pre .1)) (kept-threadable (s .args .d) false (s .pre .0)))
+    (s .pre .2, s .pre .3, rw (ap (λ p. p .without) (s .pre .1)) (kept-measured (s .args .d) false (s .pre .0)))
 
 sum-of-requires : tie.Need-sum-of-requires
 sum-of-requires c κs =

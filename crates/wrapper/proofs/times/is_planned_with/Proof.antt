@@ -1,5 +1,5 @@
--- `wrapper::times::is_planned_with` meets its contract. The loop's invariant: one of the module's tests is such a test where one of those from
--- `i` on is. The measure is what is left of the tests. Assumes nothing.
+-- `wrapper::times::is_planned_with` meets its contract. The loop's invariant: one of the module's tests is such a test where one of those
+-- from `i` on is. The measure is what is left of the tests. Assumes nothing.
 use borrow.Author.Needs.{needs}
 use native.Mathlib.Omega.{arith}
 use Prim.Native.Nat.{_-_, _≤_}
@@ -25,7 +25,9 @@ len : (c : tie.Start Inv-loop μ-loop) → length (c .args .t1 .tests) ≡ 8
 len c = simp length-map at (c .good .0 .1 .1 .1 .1 .1 .1 .1 .1 .1 .1 .1 .0 .1 .0 .1)
 
 -- the test of this turn is no such test
-passed : (c : tie.Joined1 Inv-loop μ-loop) → plannedWith (c .before .before .before .before .args .scan) (getD (c .before .before .before .before .args .t1 .tests) (c .before .before .before .loop .i) noTest) ≡ false
+passed : (c : tie.Joined1 Inv-loop μ-loop)
+    → plannedWith (c .before .before .before .before .args .scan)
+    (getD (c .before .before .before .before .args .t1 .tests) (c .before .before .before .loop .i) noTest) ≡ false
 passed c = ⊎-elim (λ w. and-goes _ _ (w .0 .taken) ∙ w .2 .left) (λ w. and-stops _ _ (w .left)) (c .if1 .came)
 
 loop-holds : tie.Need-loop-holds Inv-loop μ-loop
@@ -42,7 +44,10 @@ returns c =
     let l = c .before .before .before .before .before in
     let s = l .before in
     let d = s .args .t1 in
-    sym (l .loop .inv .1 ∙ any-front-found (plannedWith (s .args .scan)) (d .«test_count») (d .tests) (l .loop .i) noTest (c .before .before .before .before .loop-test .taken) (omega (arith, len s, s .pre .tests, c .before .before .before .before .loop-test .taken)) (and-goes _ _ (c .before .before .if1 .taken) ∙ c .if2 .taken))
+    sym (l .loop .inv .1 ∙ any-front-found (plannedWith (s .args .scan)) (d .«test_count») (d .tests) (l .loop .i) noTest
+    (c .before .before .before .before .loop-test .taken)
+    (omega (arith, len s, s .pre .tests, c .before .before .before .before .loop-test .taken))
+    (and-goes _ _ (c .before .before .if1 .taken) ∙ c .if2 .taken))
 
 add-i : tie.Need-add-i Inv-loop μ-loop
 add-i c = search needs
@@ -54,9 +59,12 @@ loop-again : tie.Need-loop-again Inv-loop μ-loop
 loop-again c =
     let l = c .before .before .before in
     let s = l .before in
-    let d = s .args .t1 in (
+    let d = s .args .t1 in
+    let h = c .before .before .loop-test .taken in (
       omega arith,
-      l .loop .inv .1 ∙ any-front-step (plannedWith (s .args .scan)) (d .«test_count») (d .tests) (l .loop .i) noTest (c .before .before .loop-test .taken) (omega (arith, len s, s .pre .tests, c .before .before .loop-test .taken)) (passed c),
+      l .loop .inv .1
+          ∙ any-front-step (plannedWith (s .args .scan)) (d .«test_count») (d .tests) (l .loop .i) noTest h
+          (omega (arith, len s, s .pre .tests)) (passed c),
     )
 
 returns-2 : tie.Need-returns-2 Inv-loop μ-loop

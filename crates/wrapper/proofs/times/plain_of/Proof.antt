@@ -3,11 +3,11 @@ use borrow.Author.Needs.{needs}
 use Rattle.wrapper.proofs.times.plain_of.Statement.{statement}
 use Rattle.wrapper.proofs.times.plain_of.Tie as tie
 
-order-of-requires : tie.Need-order-of-requires
-order-of-requires c κs = search needs
+lengths-of-requires : tie.Need-lengths-of-requires
+lengths-of-requires c κs = search needs
 
-order-of-requires-2 : tie.Need-order-of-requires-2
-order-of-requires-2 c κs = search needs
+lengths-of-requires-2 : tie.Need-lengths-of-requires-2
+lengths-of-requires-2 c κs = search needs
 
 is-planned-with-requires : tie.Need-is-planned-with-requires
 is-planned-with-requires c κs = search needs
@@ -16,14 +16,17 @@ is-planned-with-requires-2 : tie.Need-is-planned-with-requires-2
 is-planned-with-requires-2 c κs = search needs
 
 returns : tie.Need-returns
-returns c = rw (c .before .before .before .order-of .ensures, c .before .before .order-of2 .ensures, c .before .is-planned-with .ensures, c .is-planned-with2 .ensures)
+returns c =
+    let a = c .before in
+    let b = a .before in
+    rw (b .before .lengths-of .ensures, b .lengths-of2 .ensures, a .is-planned-with .ensures, c .is-planned-with2 .ensures)
 
 pub plain-of-spec : {M : Type 1} → statement M
 plain-of-spec =
     tie.close
     (tie.spec
-    order-of-requires
-    order-of-requires-2
+    lengths-of-requires
+    lengths-of-requires-2
     is-planned-with-requires
     is-planned-with-requires-2
     returns)

@@ -17,11 +17,15 @@ cycles-of-requires-2 c κs = search needs
 
 returns-2 : tie.Need-returns-2
 unfolding plannedCycles
-returns-2 c = rw (not-false (c .before .before .before .before .args .t .«tam_use») (c .before .before .if1 .left), c .before .if2 .taken) (c .cycles-of .ensures)
+returns-2 c =
+    rw (not-false (c .before .before .before .before .args .t .«tam_use») (c .before .before .if1 .left), c .before .if2 .taken)
+    (c .cycles-of .ensures)
 
 returns-3 : tie.Need-returns-3
 unfolding plannedCycles
-returns-3 c = rw (not-false (c .before .before .before .before .args .t .«tam_use») (c .before .before .if1 .left), c .before .if2 .left) (c .cycles-of2 .ensures)
+returns-3 c =
+    rw (not-false (c .before .before .before .before .args .t .«tam_use») (c .before .before .if1 .left), c .before .if2 .left)
+    (c .cycles-of2 .ensures)
 
 pub planned-cycles-spec : {M : Type 1} → statement M
 planned-cycles-spec =

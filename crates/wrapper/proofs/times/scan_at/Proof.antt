@@ -1,26 +1,51 @@
--- `wrapper::times::scan_at` meets its contract: the lengths that are held are those of the threaded chains, and they are too short to wrap.
--- Assumes nothing.
+-- `wrapper::times::scan_at` meets its contract: the longest and the total of the lengths with the chains in their places are known, so the
+-- longest after cells is. Assumes nothing.
 use borrow.Author.Needs.{needs}
 use native.Mathlib.Omega.{arith}
-use mathlib.Core.Path.{_≡_, ap, _∙_}
-use lib.ListN.{take}
+use Prim.Native.Nat.{ℕ}
+use mathlib.Core.Path.{_≡_, sym, _∙_}
+use lib.ListN.{length, length-map, replicate, length-replicate}
+use lib.Seq.{length-take-le}
 use Rattle.wrapper.specs.Fit.{longestAfter}
-use Rattle.wrapper.specs.Chains.{thread, empty}
+use Rattle.wrapper.specs.Cells.{evened}
 use Rattle.wrapper.specs.Times.{inputCells, outputCells}
-use Rattle.wrapper.specs.Held.{front}
-use Rattle.wrapper.specs.Scans.{scanOf}
-use Rattle.wrapper.proofs.ChainLaws.{thread-held, order-longest}
+use Rattle.wrapper.specs.Held.{frontLengths}
+use Rattle.wrapper.specs.Scans.{withChains, scanOf}
+use Rattle.wrapper.proofs.CellLaws.{cells-known}
+use Rattle.wrapper.proofs.LengthLaws.{chains-length, chains-total, zeros-total}
 use Rattle.wrapper.proofs.times.scan_at.Statement.{statement}
 use Rattle.wrapper.proofs.times.scan_at.Tie as tie
 
--- the first k of the lengths
-held : (c : tie.After-thread-chains) → take (c .before .args .k) (c .thread-chains .result .lengths) ≡ thread (front (c .before .args .o)) (empty (c .before .args .k)) .lengths
-held c =
-    let s = c .before in
-    ap (λ t. take (s .args .k) (t .lengths)) (c .thread-chains .ensures) ∙ thread-held (front (s .args .o)) (s .args .k)
+len : (c : tie.Start) → length (c .args .c .lengths) ≡ 64
+len c = simp length-map at (c .good .1 .0 .1 .1 .1 .1 .0 .1 .0 .1)
 
-thread-chains-requires : tie.Need-thread-chains-requires
-thread-chains-requires c κs = c .pre
+-- the elements are the lengths in use
+front-long : (c : tie.Start) → length (frontLengths (c .args .c)) ≡ c .args .c .count
+front-long c = length-take-le (c .args .c .count) (c .args .c .lengths) (omega (arith, len c, c .pre .2 .count))
+
+-- the longest after n cells, from what is known of the lengths
+known : (c : tie.After-longest-with) (n : ℕ) →
+    let s = c .before .before .before .args in
+    evened (c .longest-with .result) (s .c .total) n (s .k) ≡ longestAfter n (withChains (frontLengths (s .c)) (replicate (s .k) 0))
+known c n =
+    let s = c .before .before .before in
+    let k = s .args .k in
+    let ns = frontLengths (s .args .c) in
+    let l : length (withChains ns (replicate k 0)) ≡ k = chains-length ns (replicate k 0) ∙ length-replicate k 0 in
+    let t = chains-total ns (replicate k 0) (omega (arith, length-replicate {A = ℕ} k 0, s .pre .0)) in
+    cells-known n k (c .longest-with .result) (s .args .c .total) (withChains ns (replicate k 0)) (s .pre .0) l (c .longest-with .ensures)
+    (omega (arith, t, zeros-total k, s .pre .2 .sum))
+
+array-share-prefix-lengths : tie.Need-array-share-prefix-lengths
+array-share-prefix-lengths c = omega (arith, len (c .before), c .before .pre .2 .count)
+
+slice-aggregate-longest-with : tie.Need-slice-aggregate-longest-with
+slice-aggregate-longest-with c = sym (front-long (c .before .before))
+
+longest-with-requires : tie.Need-longest-with-requires
+longest-with-requires c κs =
+    let s = c .before .before in
+    (s .pre .0, s .pre .1, omega (arith, s .pre .2 .sum, s .pre .2 .short))
 
 cast-longest-after : tie.Need-cast-longest-after
 cast-longest-after c = search needs
@@ -32,10 +57,7 @@ add-longest-after : tie.Need-add-longest-after
 add-longest-after c = search needs
 
 longest-after-requires : tie.Need-longest-after-requires
-longest-after-requires c κs =
-    let t = c .before .before .before in
-    let s = t .before in
-    rw (held t) (omega (arith, s .pre .0, s .pre .1, order-longest (s .args .o) (s .args .k) (s .pre .2)))
+longest-after-requires c κs = search needs
 
 cast-longest-after-3 : tie.Need-cast-longest-after-3
 cast-longest-after-3 c = search needs
@@ -47,25 +69,22 @@ add-longest-after-2 : tie.Need-add-longest-after-2
 add-longest-after-2 c = search needs
 
 longest-after-requires-2 : tie.Need-longest-after-requires-2
-longest-after-requires-2 c κs =
-    let t = c .before .before .before .before .before .before in
-    let s = t .before in
-    rw (held t) (omega (arith, s .pre .0, s .pre .1, order-longest (s .args .o) (s .args .k) (s .pre .2)))
+longest-after-requires-2 c κs = search needs
 
 returns : tie.Need-returns
 unfolding scanOf
 returns c =
-    let t = c .before .before .before .before .before .before .before in
-    let d = t .before .args .d in
-    let i : c .before .before .before .longest-after .result ≡ _ = c .before .before .before .longest-after .ensures ∙ ap (longestAfter (inputCells d)) (held t) in
-    let o : c .longest-after2 .result ≡ _ = c .longest-after2 .ensures ∙ ap (longestAfter (outputCells d)) (held t) in
-    rw (i, o)
+    let w = c .before .before .before .before .before .before in
+    let d = w .before .before .before .args .d in
+    rw (c .before .before .before .longest-after .ensures ∙ known w (inputCells d), c .longest-after2 .ensures ∙ known w (outputCells d))
 
 pub scan-at-spec : {M : Type 1} → statement M
 scan-at-spec =
     tie.close
     (tie.spec
-    thread-chains-requires
+    array-share-prefix-lengths
+    slice-aggregate-longest-with
+    longest-with-requires
     cast-longest-after
     cast-longest-after-2
     add-longest-after

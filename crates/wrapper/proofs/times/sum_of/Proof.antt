@@ -1,5 +1,5 @@
--- `wrapper::times::sum_of` meets its contract. The loop's invariant: the sum of all is the sum so far and that of the tests from `i` on, and no
--- test adds more than the longest can take. The measure is what is left of the tests. Assumes nothing.
+-- `wrapper::times::sum_of` meets its contract. The loop's invariant: the sum of all is the sum so far and that of the tests from `i` on,
+-- and no test adds more than the longest can take. The measure is what is left of the tests. Assumes nothing.
 use borrow.Author.Needs.{needs}
 use native.Mathlib.Omega.{arith}
 use Prim.Native.Nat.{_+_, _-_, _*_, _≤_, _<_}
@@ -29,7 +29,8 @@ most c =
     let l = c .before .before .before in
     let s = l .before in
     rw (c .planned-cycles .ensures)
-    (planned-most (s .args .with) (s .args .without) (getD (s .args .t1 .tests) (l .loop .i) noTest) (s .pre .1) (s .pre .2) (s .pre .0 .patterns (l .loop .i)))
+    (planned-most (s .args .with) (s .args .without) (getD (s .args .t1 .tests) (l .loop .i) noTest) (s .pre .1) (s .pre .2)
+    (s .pre .0 .patterns (l .loop .i)))
 
 loop-holds : tie.Need-loop-holds Inv-loop μ-loop
 loop-holds c = (omega arith, omega arith, omega arith)
@@ -61,9 +62,14 @@ loop-again c =
     let s = l .before in
     let d = s .args .t1 in
     let i = l .loop .i in
-    let below : i < length (testsOf d) = omega (arith, c .before .before .loop-test .taken, length-take (d .«test_count») (d .tests), len s, s .pre .0 .tests) in
-    let at : getD (testsOf d) i noTest ≡ getD (d .tests) i noTest = getD-take (d .«test_count») (d .tests) i noTest (c .before .before .loop-test .taken) in
-    let e : c .planned-cycles .result ≡ plannedCycles (s .args .with) (s .args .without) (getD (testsOf d) i noTest) = c .planned-cycles .ensures ∙ ap (plannedCycles (s .args .with) (s .args .without)) (sym at) in (
+    let below : i < length (testsOf d) =
+    omega (arith, c .before .before .loop-test .taken, length-take (d .«test_count») (d .tests), len s, s .pre .0 .tests)
+    in
+    let at : getD (testsOf d) i noTest ≡ getD (d .tests) i noTest =
+    getD-take (d .«test_count») (d .tests) i noTest (c .before .before .loop-test .taken)
+    in
+    let e : c .planned-cycles .result ≡ plannedCycles (s .args .with) (s .args .without)
+    (getD (testsOf d) i noTest) = c .planned-cycles .ensures ∙ ap (plannedCycles (s .args .with) (s .args .without)) (sym at) in (
       omega arith,
       omega (arith, most c, l .loop .inv .1),
       omega (arith, l .loop .inv .2, e, sum-step (s .args .with) (s .args .without) (testsOf d) i below),
@@ -74,7 +80,12 @@ returns c =
     let l = c .before in
     let s = l .before in
     let d = s .args .t1 in
-    omega (arith, l .loop .inv .2, sum-end (s .args .with) (s .args .without) (testsOf d) (l .loop .i) (omega (arith, c .loop-test .left, length-take (d .«test_count») (d .tests))))
+    omega (
+      arith,
+      l .loop .inv .2,
+      sum-end (s .args .with) (s .args .without) (testsOf d) (l .loop .i)
+          (omega (arith, c .loop-test .left, length-take (d .«test_count») (d .tests))),
+    )
 
 pub sum-of-spec : {M : Type 1} → statement M
 sum-of-spec =

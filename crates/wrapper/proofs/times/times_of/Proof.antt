@@ -1,5 +1,5 @@
--- `wrapper::times::times_of` meets its contract. The loop's invariant: `best` and `at` are the least figure up to width `u` and the smallest such
--- width, and the arrays hold those of the widths 1 to `u`. The measure is what is left of the widths. Assumes nothing.
+-- `wrapper::times::times_of` meets its contract. The loop's invariant: `best` and `at` are the least figure up to width `u` and the
+-- smallest such width, and the arrays hold those of the widths 1 to `u`. The measure is what is left of the widths. Assumes nothing.
 use borrow.Author.Needs.{needs}
 use native.Mathlib.Omega.{arith}
 use Prim.Native.Nat.{ℕ, _+_, _-_, _≤_, _<_}
@@ -24,7 +24,8 @@ record Held (d : Module) (u best at : ℕ) (cs : List Cycles) (ws : List Wires) 
   times : cs ≡ padded widthMax (cycles 0) (map cyclesIn (bestsFrom d u 1))
   places : ws ≡ padded widthMax (wires 0) (map wiresIn (bestsFrom d u 1))
 
-held-more : (d : Module) (u best at : ℕ) (cs : List Cycles) (ws : List Wires) (b a : ℕ) → u < 64 → Held d u best at cs ws → b ≡ moduleBest d (u + 1) .cycles → a ≡ moduleBest d (u + 1) .wires → Held d (u + 1) b a (set cs u (cycles b)) (set ws u (wires a))
+held-more : (d : Module) (u best at : ℕ) (cs : List Cycles) (ws : List Wires) (b a : ℕ) → u < 64 → Held d u best at cs ws
+    → b ≡ moduleBest d (u + 1) .cycles → a ≡ moduleBest d (u + 1) .wires → Held d (u + 1) b a (set cs u (cycles b)) (set ws u (wires a))
 held-more d u best at cs ws b a h k e f =
     record {
       least = e;
