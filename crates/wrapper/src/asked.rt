@@ -1,4 +1,6 @@
 // What may be asked of the wrapper layer: a test's time, a module's time, its times at all widths. Refusals: 14, 7, 13.
+use super::maxima::WIDTH_MAX;
+use super::maxima::WIDTH_PLACES;
 use super::times::Times;
 use super::times::test_cycles;
 use super::times::times_of;
@@ -59,7 +61,7 @@ pub(crate) fn asked_module(s: Soc, m: u32, w: Wires) -> AskedModule
     if w.0 < 1 {
         return no_asked(7);
     }
-    if w.0 > 64 {
+    if w.0 > WIDTH_MAX {
         return no_asked(7);
     }
     let i = m as usize;
@@ -149,8 +151,8 @@ fn no_module_times(n: u8) -> ModuleTimes
     ModuleTimes {
         refusal: Refusal::at(n, 0),
         times: Times {
-            cycles: [Cycles(0); 64],
-            wires: [Wires(0); 64],
+            cycles: [Cycles(0); WIDTH_PLACES],
+            wires: [Wires(0); WIDTH_PLACES],
         },
     }
 }

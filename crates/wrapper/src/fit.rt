@@ -1,9 +1,11 @@
 // Where an element goes (document 01, "The wrapper rule"): to the wrapper chain that becomes fullest without passing the longest, else to
 // the shortest, ties to the lowest number; and how long the longest is after cells, with none placed (document 02, item 4). Lengths count
 // flip-flops and cells.
+use super::maxima::WIDTH_PLACES;
 ghost use mathlib.Core.Path.{_≡_};
 ghost use Prim.Native.Nat.{_+_, _≤_, _<_};
 ghost use lib.ListN.{length, replicate};
+ghost use Rattle.wrapper.specs.Answers.{widthMax};
 ghost use Rattle.wrapper.specs.Fit.{longest, total, better, goes, placed, withCells};
 ghost use Rattle.wrapper.specs.Cells.{evened};
 ghost use Rattle.wrapper.specs.Scans.{withChains};
@@ -82,13 +84,13 @@ pub(crate) fn add_cells(l: &mut [u64], n: u64)
 // The longest of k wrapper chains that start empty, after elements of these lengths were put in their places, one after another. Where
 // there are no more elements than chains, an empty chain is always left, so that none passes the longest element.
 pub(crate) fn longest_with(chains: &[u64], k: usize) -> u64
-    requires { ⌜ (0 < k) × (k ≤ 64) × (total (now chains) < 18446744073709551616) ⌝ }
+    requires { ⌜ (0 < k) × (k ≤ widthMax) × (total (now chains) < 18446744073709551616) ⌝ }
     ensures { λ r. ⌜ r ≡ longest (withChains (now (chains .entry)) (replicate k 0)) ⌝ }
 {
     if chains.len() <= k {
         return longest_of(chains);
     }
-    let mut lengths = [0u64; 64];
+    let mut lengths = [0u64; WIDTH_PLACES];
     let mut m: u64 = 0;
     let mut i: usize = 0;
     while i < chains.len() {
@@ -106,7 +108,7 @@ pub(crate) fn longest_with(chains: &[u64], k: usize) -> u64
 
 // The longest of k wrapper chains after n cells, where the longest was m and the total t: m, or an even share, rounded up.
 pub(crate) fn longest_after(m: u64, t: u64, n: u64, k: u64) -> u64
-    requires { ⌜ (0 < k) × (k ≤ 64) × (t + n + k < 18446744073709551616) ⌝ }
+    requires { ⌜ (0 < k) × (k ≤ widthMax) × (t + n + k < 18446744073709551616) ⌝ }
     ensures { λ r. ⌜ r ≡ evened m t n k ⌝ }
 {
     let even = (t + n + (k - 1)) / k;

@@ -5,6 +5,8 @@ use super::asked::asked_test;
 use super::chains::order_of;
 use super::chains::thread_chains;
 use super::fit::add_cells;
+use super::maxima::WIDTH_PLACES;
+use soc::CHAINS_MAX;
 use soc::Module;
 use soc::Soc;
 use units::FlipFlops;
@@ -18,17 +20,17 @@ ghost use Rattle.units.specs.Places.{padded};
 ghost use Rattle.soc.specs.Record.{flipFlops};
 ghost use Rattle.wrapper.specs.Fit.{longest, withCells};
 ghost use Rattle.wrapper.specs.Chains.{threaded};
-ghost use Rattle.wrapper.specs.Answers.{gained, layoutOf, noLayout, layoutAnswer};
+ghost use Rattle.wrapper.specs.Answers.{widthMax, gained, layoutOf, noLayout, layoutAnswer};
 ghost use Rattle.wrapper.specs.Scans.{Kept};
 
 // For each wrapper chain its flip-flops, input cells and output cells; for each internal chain its wrapper chain from 1. Entries past the
 // width or past the chains, and those of chains that the test does not use, are 0.
 pub struct WrapperLayout {
     pub refusal: Refusal,
-    pub flip_flops: [FlipFlops; 64],
-    pub input_cells: [u64; 64],
-    pub output_cells: [u64; 64],
-    pub chain_of: [usize; 64],
+    pub flip_flops: [FlipFlops; WIDTH_PLACES],
+    pub input_cells: [u64; WIDTH_PLACES],
+    pub output_cells: [u64; WIDTH_PLACES],
+    pub chain_of: [usize; CHAINS_MAX],
 }
 
 fn no_layout(n: u8) -> WrapperLayout
@@ -36,35 +38,35 @@ fn no_layout(n: u8) -> WrapperLayout
 {
     WrapperLayout {
         refusal: Refusal::at(n, 0),
-        flip_flops: [FlipFlops(0); 64],
-        input_cells: [0u64; 64],
-        output_cells: [0u64; 64],
-        chain_of: [0usize; 64],
+        flip_flops: [FlipFlops(0); WIDTH_PLACES],
+        input_cells: [0u64; WIDTH_PLACES],
+        output_cells: [0u64; WIDTH_PLACES],
+        chain_of: [0usize; CHAINS_MAX],
     }
 }
 
 // How many of n cells each of the first k wrapper chains gets.
-fn cells_of(lengths: [u64; 64], k: usize, n: u64) -> [u64; 64]
-    requires { ⌜ (0 < k) × (k ≤ 64) × (lengths ≡ padded 64 0 (take k lengths)) × (longest (take k lengths) + n < 18446744073709551616) ⌝ }
-    ensures { λ r. ⌜ r ≡ padded 64 0 (gained (take k lengths) (withCells n (take k lengths))) ⌝ }
+fn cells_of(lengths: [u64; WIDTH_PLACES], k: usize, n: u64) -> [u64; WIDTH_PLACES]
+    requires { ⌜ (0 < k) × (k ≤ widthMax) × (lengths ≡ padded widthMax 0 (take k lengths)) × (longest (take k lengths) + n < 18446744073709551616) ⌝ }
+    ensures { λ r. ⌜ r ≡ padded widthMax 0 (gained (take k lengths) (withCells n (take k lengths))) ⌝ }
 {
     let mut after = lengths;
     add_cells(&mut after[..k], n);
     let mut i: usize = 0;
-    while i < 64 {
+    while i < WIDTH_PLACES {
         after[i] = after[i] - lengths[i];
         i += 1;
     }
     after
 }
 
-fn flip_flops_of(lengths: [u64; 64]) -> [FlipFlops; 64]
+fn flip_flops_of(lengths: [u64; WIDTH_PLACES]) -> [FlipFlops; WIDTH_PLACES]
     requires { ⌜ ((i : ℕ) → getD lengths i 0 < 4294967296) ⌝ }
     ensures { λ r. ⌜ r ≡ map flipFlops lengths ⌝ }
 {
-    let mut f = [FlipFlops(0); 64];
+    let mut f = [FlipFlops(0); WIDTH_PLACES];
     let mut i: usize = 0;
-    while i < 64 {
+    while i < WIDTH_PLACES {
         f[i] = FlipFlops(lengths[i] as u32);
         i += 1;
     }
@@ -72,7 +74,7 @@ fn flip_flops_of(lengths: [u64; 64]) -> [FlipFlops; 64]
 }
 
 fn layout_of(d: Module, scan: bool, k: usize) -> WrapperLayout
-    requires { ⌜ Kept d × (0 < k) × (k ≤ 64) ⌝ }
+    requires { ⌜ Kept d × (0 < k) × (k ≤ widthMax) ⌝ }
     ensures { λ r. ⌜ r ≡ layoutOf d (threaded d scan k) ⌝ }
 {
     let t = thread_chains(order_of(d, scan), k);

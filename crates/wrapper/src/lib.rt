@@ -17,4 +17,5 @@ pub use laid::WrapperLayout;
 pub use laid::layout;
 pub use maxima::MODULE_TIME_MAX;
 pub use maxima::WIDTH_MAX;
+pub use maxima::WIDTH_PLACES;
 pub use times::Times;

@@ -2,4 +2,7 @@
 
 pub const WIDTH_MAX: u32 = 64;
 
+// As many wrapper chains, and as many widths, have places.
+pub const WIDTH_PLACES: usize = WIDTH_MAX as usize;
+
 pub const MODULE_TIME_MAX: u64 = 37383261126648;

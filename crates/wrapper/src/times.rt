@@ -4,6 +4,7 @@ use super::chains::ChainLengths;
 use super::chains::lengths_of;
 use super::fit::longest_after;
 use super::fit::longest_with;
+use super::maxima::WIDTH_PLACES;
 use soc::Module;
 use soc::Test;
 use units::Cycles;
@@ -12,16 +13,17 @@ ghost use mathlib.Core.Path.{_≡_};
 ghost use mathlib.Core.Bool.{true, false};
 ghost use Prim.Native.Nat.{_≤_, _<_};
 ghost use Rattle.units.specs.Places.{anyOf};
+ghost use Rattle.soc.specs.Limits.{patternsMax};
 ghost use Rattle.soc.specs.Record.{testsOf};
 ghost use Rattle.wrapper.specs.Times.{testCycles, testTime, figure};
-ghost use Rattle.wrapper.specs.Answers.{timesOf};
+ghost use Rattle.wrapper.specs.Answers.{widthMax, timesOf};
 ghost use Rattle.wrapper.specs.Held.{Measured};
 ghost use Rattle.wrapper.specs.Scans.{scanOf, Short, Kept, plannedWith, sumScans, plannedCycles, scanIf, plainOf};
 
 // A module's times and wires at the widths from 1 on: place i is for width i + 1.
 pub struct Times {
-    pub cycles: [Cycles; 64],
-    pub wires: [Wires; 64],
+    pub cycles: [Cycles; WIDTH_PLACES],
+    pub wires: [Wires; WIDTH_PLACES],
 }
 
 // The longest scan-in and scan-out of a module at one width, with its chains or without.
@@ -32,7 +34,7 @@ pub struct Scan {
 
 // No cell is placed: the longest chain and the total, with the chains threaded once, give both.
 pub(crate) fn scan_at(d: Module, c: ChainLengths, k: usize) -> Scan
-    requires { ⌜ (0 < k) × (k ≤ 64) × Measured c ⌝ }
+    requires { ⌜ (0 < k) × (k ≤ widthMax) × Measured c ⌝ }
     ensures { λ r. ⌜ r ≡ scanOf d c k ⌝ }
 {
     let count = c.count;
@@ -46,7 +48,7 @@ pub(crate) fn scan_at(d: Module, c: ChainLengths, k: usize) -> Scan
 
 // (1 + max(si, so)) × p + min(si, so).
 fn cycles_of(s: Scan, p: u32) -> u64
-    requires { ⌜ Short s × (p ≤ 16777215) ⌝ }
+    requires { ⌜ Short s × (p ≤ patternsMax) ⌝ }
     ensures { λ r. ⌜ r ≡ testCycles (s .si) (s .so) p ⌝ }
 {
     if s.si < s.so {
@@ -77,7 +79,7 @@ fn is_planned_with(d: Module, scan: bool) -> bool
 
 // A test's cycles where the scan lengths with chains and without are known; 0 with TamUse 0.
 fn planned_cycles(t: Test, with: Scan, without: Scan) -> u64
-    requires { ⌜ Short with × Short without × (t .patterns ≤ 16777215) ⌝ }
+    requires { ⌜ Short with × Short without × (t .patterns ≤ patternsMax) ⌝ }
     ensures { λ r. ⌜ r ≡ plannedCycles with without t ⌝ }
 {
     if !t.tam_use {
@@ -107,7 +109,7 @@ fn sum_of(d: Module, with: Scan, without: Scan) -> u64
 
 // The scan lengths, where they are needed.
 fn scan_if(needed: bool, d: Module, c: ChainLengths, k: usize) -> Scan
-    requires { ⌜ (0 < k) × (k ≤ 64) × Measured c ⌝ }
+    requires { ⌜ (0 < k) × (k ≤ widthMax) × Measured c ⌝ }
     ensures { λ r. ⌜ r ≡ scanIf needed d c k ⌝ }
 {
     if needed {
@@ -138,7 +140,7 @@ fn plain_of(d: Module) -> Plain
 }
 
 fn figure_at(d: Module, p: Plain, k: usize) -> u64
-    requires { ⌜ Kept d × (p ≡ plainOf d) × (0 < k) × (k ≤ 64) ⌝ }
+    requires { ⌜ Kept d × (p ≡ plainOf d) × (0 < k) × (k ≤ widthMax) ⌝ }
     ensures { λ r. ⌜ r ≡ figure d k ⌝ }
 {
     let with = p.with;
@@ -150,12 +152,12 @@ fn figure_at(d: Module, p: Plain, k: usize) -> u64
 
 // The times and wires at the widths 1 to w, each figure computed once.
 pub(crate) fn times_of(d: Module, w: usize) -> Times
-    requires { ⌜ Kept d × (0 < w) × (w ≤ 64) ⌝ }
+    requires { ⌜ Kept d × (0 < w) × (w ≤ widthMax) ⌝ }
     ensures { λ r. ⌜ r ≡ timesOf d w ⌝ }
 {
     let p = plain_of(d);
-    let mut cycles = [Cycles(0); 64];
-    let mut wires = [Wires(0); 64];
+    let mut cycles = [Cycles(0); WIDTH_PLACES];
+    let mut wires = [Wires(0); WIDTH_PLACES];
     let mut best = figure_at(d, p, 1);
     let mut at: u32 = 1;
     cycles[0] = Cycles(best);
@@ -176,7 +178,7 @@ pub(crate) fn times_of(d: Module, w: usize) -> Times
 
 // The cycles of one test.
 pub(crate) fn test_cycles(d: Module, t: Test, k: usize) -> u64
-    requires { ⌜ Kept d × (t .patterns ≤ 16777215) × (0 < k) × (k ≤ 64) ⌝ }
+    requires { ⌜ Kept d × (t .patterns ≤ patternsMax) × (0 < k) × (k ≤ widthMax) ⌝ }
     ensures { λ r. ⌜ r ≡ testTime d k t ⌝ }
 {
     cycles_of(scan_at(d, lengths_of(d, t.scan_use), k), t.patterns)
