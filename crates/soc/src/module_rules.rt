@@ -14,7 +14,7 @@ use units::FlipFlops;
 ghost use mathlib.Core.Path.{_≡_};
 ghost use Prim.Native.Nat.{_≤_};
 ghost use lib.ListN.{take, drop};
-ghost use Rattle.soc.specs.Limits.{positionMax};
+ghost use Rattle.soc.specs.Limits.{positionMax, chainsMax};
 ghost use Rattle.units.specs.Places.{allOf};
 ghost use Rattle.soc.specs.Rules.{upTo, goodLength, spareLength, goodPosition, levelRule, goodTerminals, goodChains, goodTests, goodModule, spareModule};
 
@@ -44,8 +44,8 @@ fn is_good_position(option: bool, x: i32, y: i32) -> bool
     }
 }
 
-fn are_good_lengths(chains: [FlipFlops; 64], n: usize) -> bool
-    requires { ⌜ n ≤ 64 ⌝ }
+fn are_good_lengths(chains: [FlipFlops; CHAINS_MAX], n: usize) -> bool
+    requires { ⌜ n ≤ chainsMax ⌝ }
     ensures { λ r. ⌜ r ≡ allOf goodLength (take n chains) ⌝ }
 {
     let mut i: usize = 0;
@@ -62,8 +62,8 @@ fn are_good_lengths(chains: [FlipFlops; 64], n: usize) -> bool
     true
 }
 
-fn are_spare_lengths(chains: [FlipFlops; 64], n: usize) -> bool
-    requires { ⌜ n ≤ 64 ⌝ }
+fn are_spare_lengths(chains: [FlipFlops; CHAINS_MAX], n: usize) -> bool
+    requires { ⌜ n ≤ chainsMax ⌝ }
     ensures { λ r. ⌜ r ≡ allOf spareLength (drop n chains) ⌝ }
 {
     let mut i = n;

@@ -9,7 +9,7 @@ ghost use Rattle.soc.specs.Planned.{isPlanned, plannedOf, plannedIs};
 // The numbers of the planned modules, ascending; spare places are 0.
 pub struct Planned {
     pub count: usize,
-    pub numbers: [usize; 40],
+    pub numbers: [usize; MODULES_MAX],
 }
 
 pub fn is_planned(d: Module) -> bool
@@ -34,7 +34,7 @@ pub fn planned_modules(s: Soc) -> Planned
     ensures { λ r. ⌜ r ≡ plannedIs (plannedOf s) ⌝ }
 {
     let n = s.module_count;
-    let mut numbers = [0usize; 40];
+    let mut numbers = [0usize; MODULES_MAX];
     let mut count: usize = 0;
     let mut i: usize = 0;
     while i < MODULES_MAX {

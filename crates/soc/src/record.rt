@@ -41,20 +41,20 @@ pub struct Module {
     pub outputs: u32,
     pub bidirs: u32,
     pub chain_count: usize,
-    pub chains: [FlipFlops; 64],
+    pub chains: [FlipFlops; CHAINS_MAX],
     pub x: i32,
     pub y: i32,
     pub test_count: usize,
-    pub tests: [Test; 8],
+    pub tests: [Test; TESTS_MAX],
 }
 
 pub struct Soc {
     pub name_len: usize,
-    pub name: [u8; 32],
+    pub name: [u8; NAME_MAX],
     pub power: bool,
     pub xy: bool,
     pub module_count: usize,
-    pub modules: [Module; 40],
+    pub modules: [Module; MODULES_MAX],
 }
 
 // A spare test.
@@ -80,11 +80,11 @@ pub fn no_module() -> Module
         outputs: 0,
         bidirs: 0,
         chain_count: 0,
-        chains: [FlipFlops(0); 64],
+        chains: [FlipFlops(0); CHAINS_MAX],
         x: 0,
         y: 0,
         test_count: 0,
-        tests: [test; 8],
+        tests: [test; TESTS_MAX],
     }
 }
 
@@ -95,10 +95,10 @@ pub fn no_soc() -> Soc
     let module = no_module();
     Soc {
         name_len: 0,
-        name: [0u8; 32],
+        name: [0u8; NAME_MAX],
         power: false,
         xy: false,
         module_count: 0,
-        modules: [module; 40],
+        modules: [module; MODULES_MAX],
     }
 }

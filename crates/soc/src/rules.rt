@@ -9,10 +9,12 @@ ghost use mathlib.Core.Path.{_≡_};
 ghost use Prim.Native.Nat.{_≤_};
 ghost use lib.ListN.{take, drop};
 ghost use Rattle.units.specs.Places.{allOf};
+ghost use Rattle.soc.specs.Limits.{modulesMax};
+ghost use Rattle.fields.specs.Names.{nameMax};
 ghost use Rattle.soc.specs.Rules.{none, goodModules, spareModule, goodName, goodSoc};
 
 fn are_good_modules(s: Soc) -> bool
-    requires { ⌜ s .«module_count» ≤ 40 ⌝ }
+    requires { ⌜ s .«module_count» ≤ modulesMax ⌝ }
     ensures { λ r. ⌜ r ≡ goodModules (s .power) (s .xy) 0 0 (take (s .«module_count») (s .modules)) ⌝ }
 {
     let n = s.module_count;
@@ -32,7 +34,7 @@ fn are_good_modules(s: Soc) -> bool
 }
 
 fn are_spare_modules(s: Soc, n: usize) -> bool
-    requires { ⌜ n ≤ 40 ⌝ }
+    requires { ⌜ n ≤ modulesMax ⌝ }
     ensures { λ r. ⌜ r ≡ allOf spareModule (drop n (s .modules)) ⌝ }
 {
     let mut i = n;
@@ -46,8 +48,8 @@ fn are_spare_modules(s: Soc, n: usize) -> bool
     true
 }
 
-fn are_spare_bytes(name: [u8; 32], n: usize) -> bool
-    requires { ⌜ n ≤ 32 ⌝ }
+fn are_spare_bytes(name: [u8; NAME_MAX], n: usize) -> bool
+    requires { ⌜ n ≤ nameMax ⌝ }
     ensures { λ r. ⌜ r ≡ allOf none (drop n name) ⌝ }
 {
     let mut i = n;

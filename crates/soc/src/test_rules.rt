@@ -7,7 +7,7 @@ use super::Test;
 ghost use mathlib.Core.Path.{_≡_};
 ghost use Prim.Native.Nat.{_≤_};
 ghost use lib.ListN.{take, drop};
-ghost use Rattle.soc.specs.Limits.{powerMax};
+ghost use Rattle.soc.specs.Limits.{powerMax, testsMax};
 ghost use Rattle.units.specs.Places.{allOf};
 ghost use Rattle.soc.specs.Rules.{noneZ, isNotGiven, upTo, goodPower, goodTest, spareTest};
 
@@ -69,8 +69,8 @@ fn is_spare_test(t: Test) -> bool
     is_none(t.power)
 }
 
-pub(crate) fn are_good_tests(power: bool, tests: [Test; 8], n: usize) -> bool
-    requires { ⌜ n ≤ 8 ⌝ }
+pub(crate) fn are_good_tests(power: bool, tests: [Test; TESTS_MAX], n: usize) -> bool
+    requires { ⌜ n ≤ testsMax ⌝ }
     ensures { λ r. ⌜ r ≡ allOf (goodTest power) (take n tests) ⌝ }
 {
     let mut i: usize = 0;
@@ -84,8 +84,8 @@ pub(crate) fn are_good_tests(power: bool, tests: [Test; 8], n: usize) -> bool
     true
 }
 
-pub(crate) fn are_spare_tests(tests: [Test; 8], n: usize) -> bool
-    requires { ⌜ n ≤ 8 ⌝ }
+pub(crate) fn are_spare_tests(tests: [Test; TESTS_MAX], n: usize) -> bool
+    requires { ⌜ n ≤ testsMax ⌝ }
     ensures { λ r. ⌜ r ≡ allOf spareTest (drop n tests) ⌝ }
 {
     let mut i = n;

@@ -2,6 +2,7 @@
 use super::part::Flag;
 use super::part::Verdict;
 use fields::Figure;
+use fields::NAME_MAX;
 use fields::Next;
 use fields::Past;
 ghost use mathlib.Core.Path.{_≡_};
@@ -18,7 +19,7 @@ ghost use Rattle.text_lines.specs.Answers.{nameAnswer, countAnswer, opti
 pub struct NameLine {
     pub verdict: Verdict,
     pub len: usize,
-    pub name: [u8; 32],
+    pub name: [u8; NAME_MAX],
 }
 
 pub enum Count {
@@ -37,16 +38,16 @@ fn no_name(c: u8) -> NameLine
     NameLine {
         verdict: Verdict::Refused(c),
         len: 0,
-        name: [0u8; 32],
+        name: [0u8; NAME_MAX],
     }
 }
 
 // A name at the front of the places for one.
-fn placed_name(f: &[u8]) -> [u8; 32]
-    requires { ⌜ length (now f) ≤ 32 ⌝ }
+fn placed_name(f: &[u8]) -> [u8; NAME_MAX]
+    requires { ⌜ length (now f) ≤ nameMax ⌝ }
     ensures { λ r. ⌜ r ≡ padded nameMax 0 (now (f .entry)) ⌝ }
 {
-    let mut name = [0u8; 32];
+    let mut name = [0u8; NAME_MAX];
     let mut i: usize = 0;
     while i < f.len() {
         name[i] = f[i];

@@ -14,6 +14,7 @@ ghost use Rattle.fields.specs.Fields.{fieldsOf};
 ghost use Rattle.fields.specs.Readers.{each, figureIs};
 ghost use Rattle.text_lines.specs.Parts.{refuses, whole};
 ghost use Rattle.text_lines.specs.Kinds.{level, terminals, chainLength, chainsPart, lengthsPart, levelLine};
+ghost use Rattle.soc.specs.Limits.{chainsMax};
 ghost use Rattle.text_lines.specs.Answers.{levelAnswer, termsIs, lengthsIs, SpareBehind};
 
 pub struct LevelLine {
@@ -23,7 +24,7 @@ pub struct LevelLine {
     pub outputs: u32,
     pub bidirs: u32,
     pub chain_count: usize,
-    pub chains: [FlipFlops; 64],
+    pub chains: [FlipFlops; CHAINS_MAX],
 }
 
 pub enum Terms {
@@ -33,7 +34,7 @@ pub enum Terms {
 
 pub struct Lengths {
     pub past: Past,
-    pub chains: [FlipFlops; 64],
+    pub chains: [FlipFlops; CHAINS_MAX],
 }
 
 fn no_level(c: u8) -> LevelLine
@@ -46,7 +47,7 @@ fn no_level(c: u8) -> LevelLine
         outputs: 0,
         bidirs: 0,
         chain_count: 0,
-        chains: [FlipFlops(0); 64],
+        chains: [FlipFlops(0); CHAINS_MAX],
     }
 }
 
@@ -87,10 +88,10 @@ fn terminals_at(l: &[u8], at: usize) -> Terms
 
 // n lengths, at the front of the places for chains.
 fn lengths_at(l: &[u8], from: usize, n: usize) -> Lengths
-    requires { ⌜ n ≤ 64 ⌝ }
+    requires { ⌜ n ≤ chainsMax ⌝ }
     ensures { λ r. ⌜ (lengthsIs (now (l .entry)) n r ≡ each n (λ _. chainLength) 0 (fieldsOf (drop from (now (l .entry))))) × SpareBehind n r ⌝ }
 {
-    let mut chains = [FlipFlops(0); 64];
+    let mut chains = [FlipFlops(0); CHAINS_MAX];
     let mut at = from;
     let mut i: usize = 0;
     while i < n {
@@ -116,7 +117,7 @@ fn lengths_at(l: &[u8], from: usize, n: usize) -> Lengths
 
 // The s lengths from a place on, to the line's end; v is the module's level, and i, o and b are its terminals.
 fn lengths_to_end(l: &[u8], at: usize, s: usize, v: u32, i: u32, o: u32, b: u32) -> LevelLine
-    requires { ⌜ s ≤ 64 ⌝ }
+    requires { ⌜ s ≤ chainsMax ⌝ }
     ensures { λ r. ⌜ r ≡ levelAnswer (whole (lengthsPart s v (record { inputs = i; outputs = o; bidirs = b })) (fieldsOf (drop at (now (l .entry))))) ⌝ }
 {
     let read = lengths_at(l, at, s);

@@ -4,6 +4,7 @@ use super::step::Step;
 use super::step::missing;
 use soc::Module;
 use soc::NOT_GIVEN;
+use soc::TESTS_MAX;
 use soc::Test;
 use text_line_reader::Due;
 use text_line_reader::Place;
@@ -43,7 +44,7 @@ pub enum TestStep {
 
 pub struct TestsStep {
     pub step: Step,
-    pub tests: [Test; 8],
+    pub tests: [Test; TESTS_MAX],
 }
 
 pub struct ModuleStep {
@@ -124,10 +125,10 @@ fn test_step(text: &[u8], p: Place, m: u32, i: u32, power: bool) -> TestStep
 
 // The lines of n tests, at the front of the places for tests.
 fn tests_step(text: &[u8], p: Place, m: u32, n: usize, power: bool) -> TestsStep
-    requires { ⌜ Inside (now text) p × (n ≤ 8) ⌝ }
+    requires { ⌜ Inside (now text) p × (n ≤ testsMax) ⌝ }
     ensures { λ r. ⌜ StepMeans (now (text .entry)) (take n (r .tests)) (r .step) (tests n m power (linesAt (now (text .entry)) p)) × (r .tests ≡ padded testsMax noTest (take n (r .tests))) ⌝ }
 {
-    let mut list = [soc::no_test(); 8];
+    let mut list = [soc::no_test(); TESTS_MAX];
     let mut place = p;
     let mut i: usize = 0;
     while i < n {
@@ -172,7 +173,7 @@ fn module_tests(
     power: bool,
     xy: bool,
 ) -> ModuleStep
-    requires { ⌜ Inside (now text) p × (n ≤ 8) ⌝ }
+    requires { ⌜ Inside (now text) p × (n ≤ testsMax) ⌝ }
     ensures { λ r. ⌜ StepMeans (now (text .entry)) (r .module) (r .step) (moduleTests (record { power = power; xy = xy }) m (shapeIn line) (record { x = x; y = y; tests = n }) (linesAt (now (text .entry)) p)) ⌝ }
 {
     let read = tests_step(text, p, m, n, power);

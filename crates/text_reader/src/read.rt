@@ -7,6 +7,7 @@ use super::head::options_step;
 use super::head::total_step;
 use super::step::Step;
 use fields::BadByte;
+use soc::MODULES_MAX;
 use soc::Module;
 use soc::Soc;
 use soc::TEXT_MAX;
@@ -34,7 +35,7 @@ pub struct SocRead {
 
 pub struct ModulesStep {
     pub step: Step,
-    pub modules: [Module; 40],
+    pub modules: [Module; MODULES_MAX],
 }
 
 fn refused_soc(f: Refusal) -> SocRead
@@ -48,10 +49,10 @@ fn refused_soc(f: Refusal) -> SocRead
 
 // The lines of n modules, at the front of the places for modules.
 fn modules_step(text: &[u8], p: Place, n: usize, power: bool, xy: bool) -> ModulesStep
-    requires { ⌜ Inside (now text) p × (n ≤ 40) ⌝ }
+    requires { ⌜ Inside (now text) p × (n ≤ modulesMax) ⌝ }
     ensures { λ r. ⌜ StepMeans (now (text .entry)) (take n (r .modules)) (r .step) (modules (record { power = power; xy = xy }) n 0 0 (linesAt (now (text .entry)) p)) × (r .modules ≡ padded modulesMax noModule (take n (r .modules))) ⌝ }
 {
-    let mut list = [soc::no_module(); 40];
+    let mut list = [soc::no_module(); MODULES_MAX];
     let mut place = p;
     let mut last: u32 = 0;
     let mut i: usize = 0;
@@ -81,7 +82,13 @@ fn modules_step(text: &[u8], p: Place, n: usize, power: bool, xy: bool) -> Modul
 }
 
 // What a text says whose lines are all read.
-fn accepted_soc(name: NameLine, n: usize, power: bool, xy: bool, modules: [Module; 40]) -> SocRead
+fn accepted_soc(
+    name: NameLine,
+    n: usize,
+    power: bool,
+    xy: bool,
+    modules: [Module; MODULES_MAX],
+) -> SocRead
     ensures { λ r. ⌜ r ≡ acceptedSoc (record { «name_len» = name .len; name = name .name; power = power; xy = xy; «module_count» = n; modules = modules }) ⌝ }
 {
     let bytes = name.name;
@@ -100,7 +107,7 @@ fn accepted_soc(name: NameLine, n: usize, power: bool, xy: bool, modules: [Modul
 
 // The modules of a text whose first three lines are read, and nothing behind them.
 fn modules_to_end(text: &[u8], p: Place, name: NameLine, n: usize, power: bool, xy: bool) -> SocRead
-    requires { ⌜ Inside (now text) p × (n ≤ 40) ⌝ }
+    requires { ⌜ Inside (now text) p × (n ≤ modulesMax) ⌝ }
     ensures { λ r. ⌜ r ≡ answer (rest (nameIn name) n (record { power = power; xy = xy }) (linesAt (now (text .entry)) p)) ⌝ }
 {
     let read = modules_step(text, p, n, power, xy);

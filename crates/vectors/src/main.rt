@@ -5,6 +5,7 @@ use plan_files::show_part;
 use plan_files::show_plan_file;
 use plans::show_plan;
 use plans::show_table_9;
+use soc::TEXT_MAX;
 use texts::show_arguments;
 use texts::show_padded;
 use wrappers::show_layout;
@@ -46,9 +47,9 @@ const REFUSED: usize = 12;
 // Beside the texts that the arguments name: the longest, one byte more, and that with a bad byte, which is refused for its length too.
 fn show_texts() {
     show_arguments();
-    show_padded(T1, b'S', 61440);
-    show_padded(T1, b'S', 61441);
-    show_padded(T1, 1, 61441);
+    show_padded(T1, b'S', TEXT_MAX);
+    show_padded(T1, b'S', TEXT_MAX + 1);
+    show_padded(T1, 1, TEXT_MAX + 1);
 }
 
 // Core A and Core 6 of p93791 of document 000, a core whose figure rises with the width, small cores, the largest core, no record.

@@ -4,13 +4,15 @@ use super::print::PLACED;
 use super::print::PLAN;
 use super::print::print_line;
 use super::print::soc_in;
+use plan_record::BUS_PLACES;
 use plan_record::BusPlan;
+use plan_record::MODULE_PLACES;
 use units::Wires;
 
 fn print_buses(p: BusPlan) {
     let n = p.bus_count;
     let mut i: usize = 0;
-    while i < 3 {
+    while i < BUS_PLACES {
         if i < n {
             let b = p.buses[i];
             print_line(BUS, i as u64 + 1, b.width.0 as u64, b.busy.0, 0);
@@ -22,7 +24,7 @@ fn print_buses(p: BusPlan) {
 fn print_placed(p: BusPlan) {
     let n = p.module_count;
     let mut i: usize = 0;
-    while i < 12 {
+    while i < MODULE_PLACES {
         if i < n {
             let m = p.modules[i];
             print_line(

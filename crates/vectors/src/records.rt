@@ -8,8 +8,12 @@ use super::print::TERMINALS;
 use super::print::TEST;
 use super::print::print;
 use super::print::print_line;
+use fields::NAME_MAX;
+use soc::CHAINS_MAX;
+use soc::MODULES_MAX;
 use soc::Module;
 use soc::Soc;
+use soc::TESTS_MAX;
 
 // X, Y or Power, which may be not given.
 fn given(z: i32) -> u64 {
@@ -22,7 +26,7 @@ fn given(z: i32) -> u64 {
 fn print_chains(d: Module) {
     let n = d.chain_count;
     let mut i: usize = 0;
-    while i < 64 {
+    while i < CHAINS_MAX {
         if i < n {
             let f = d.chains[i];
             print_line(CHAIN, f.0 as u64, 0, 0, 0);
@@ -35,7 +39,7 @@ fn print_chains(d: Module) {
 fn print_tests(d: Module) {
     let n = d.test_count;
     let mut i: usize = 0;
-    while i < 8 {
+    while i < TESTS_MAX {
         if i < n {
             let t = d.tests[i];
             print_line(
@@ -72,7 +76,7 @@ fn print_module(m: usize, d: Module) {
 fn print_modules(s: Soc) {
     let n = s.module_count;
     let mut i: usize = 0;
-    while i < 40 {
+    while i < MODULES_MAX {
         if i < n {
             let d = s.modules[i];
             print_module(i, d);
@@ -84,7 +88,7 @@ fn print_modules(s: Soc) {
 pub fn print_soc(s: Soc) {
     let n = s.name_len;
     let name = s.name;
-    if n <= 32 {
+    if n <= NAME_MAX {
         print(&name[..n]);
     }
     print_line(OPTIONS, s.power as u64, s.xy as u64, 0, 0);
