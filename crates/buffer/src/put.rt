@@ -17,7 +17,7 @@ pub fn write_bytes(buf: &mut [u8], w: &[u8]) -> usize
     i
 }
 
-// At a place. The answer is the place behind them.
+// At a place. The answer is the place behind them, or without the room the place itself.
 pub fn put_bytes(buf: &mut [u8], at: usize, w: &[u8]) -> usize
     ensures { λ r. ⌜ (r ≡ putEnd (now (w .entry)) at (now (buf .entry))) × (now (buf .exit) ≡ putIn (now (w .entry)) at (now (buf .entry))) ⌝ }
 {

@@ -1,7 +1,6 @@
 -- The fields of a line (document 01, "The SOC text"): "Fields are parted by one or more spaces or tabs; such bytes at either end of a
 -- line count for nothing."
-use Prim.Native.Nat.{ℕ, zero, suc, _+_, _-_, _<_, _≤_}
-use mathlib.Core.Path.{_≡_}
+use Prim.Native.Nat.{ℕ, suc, _+_, _-_}
 use mathlib.Core.Bool.{Bool, true, false, cond, _||_, not}
 use mathlib.Core.List.{List, [], _∷_}
 use lib.ListN.{length, take, drop}
@@ -53,10 +52,11 @@ run (b ∷ bs) = cond (gap b) 0 (suc (run bs))
 abbrev pub runEnd : List ℕ → ℕ → ℕ
 runEnd s a = a + run (drop a s)
 
--- the first field at or behind a place: where it begins and where it ends
+-- the field that begins at a place, and where it ends; nothing behind the end
 unfoldable pub fieldFrom : List ℕ → ℕ → Next
 fieldFrom s a = cond (ltb a (length s)) (Field a (runEnd s a)) Nothing
 
+-- the first field at or behind a place
 unfoldable pub nextField : List ℕ → ℕ → Next
 nextField s at = fieldFrom s (at + gaps (drop at s))
 

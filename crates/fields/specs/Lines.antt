@@ -2,9 +2,9 @@
 -- counted."
 use Prim.Native.Nat.{ℕ, zero, suc, _+_, _-_, _<_, _≤_}
 use mathlib.Core.Path.{_≡_}
-use mathlib.Core.Bool.{Bool, true, false, cond, _&&_}
+use mathlib.Core.Bool.{cond, _&&_}
 use mathlib.Core.List.{List, [], _∷_}
-use lib.ListN.{length, getD, take, drop}
+use lib.ListN.{length, getD, drop}
 use lib.Dec.{ltb, eqb}
 use Rattle.fields.specs.Bytes.{lf, cr, lfNext}
 use Rattle.fields.specs.Fields.{fieldsOf, part}
@@ -49,10 +49,12 @@ untilLf (b ∷ bs) = cond (eqb b lf) 0 (suc (untilLf bs))
 abbrev pub lineTo : List ℕ → ℕ → ℕ → ℕ
 lineTo t from e = cond (ltb from e && eqb (getD t (e - 1) 0) cr) (e - 1) e
 
--- the line that begins at a place: where it ends without its end, and where the next one begins
+-- the line that begins at a place and has its LF at e, or the end of the text: where it ends without its end, and where the next one
+-- begins
 unfoldable pub lineEnding : List ℕ → ℕ → ℕ → OneLine
 lineEnding t from e = cond (ltb e (length t)) (record { to = lineTo t from e; next = e + 1 }) (record { to = e; next = e })
 
+-- the line that begins at a place
 unfoldable pub lineAt : List ℕ → ℕ → OneLine
 lineAt t from = lineEnding t from (from + untilLf (drop from t))
 

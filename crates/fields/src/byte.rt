@@ -20,7 +20,7 @@ fn is_lf_at(text: &[u8], at: usize) -> bool
     }
 }
 
-// Whether the byte at a place may stand there; behind the end, nothing may.
+// Whether a byte may stand before the place next.
 fn is_allowed(text: &[u8], b: u8, next: usize) -> bool
     ensures { λ r. ⌜ r ≡ allowed b (drop next (now (text .entry))) ⌝ }
 {

@@ -1,8 +1,7 @@
 -- How the parts of a plan record are made from what the search found (document 01, "The plan").
-use Prim.Native.Nat.{ℕ, zero, suc, _+_, _-_, _*_, _≤_, _<_}
-use mathlib.Core.Path.{_≡_}
+use Prim.Native.Nat.{ℕ, suc, _+_, _-_, _*_, _≤_, _<_}
 use mathlib.Core.List.{List, [], _∷_}
-use lib.ListN.{length, getD, take}
+use lib.ListN.{getD, take}
 use Rattle.units.specs.Places.{padded}
 use Rattle.soc.specs.declared.planned.Planned.{Planned}
 use Rattle.wrapper.specs.Answers.{wires, cycles, widthMax}

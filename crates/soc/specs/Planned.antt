@@ -1,6 +1,6 @@
 -- Planned modules (document 01, "The plan"): "Planned modules are those with at least one test with TamUse 1."
 use Prim.Native.Nat.{ℕ, suc}
-use mathlib.Core.Bool.{Bool, true, false, cond}
+use mathlib.Core.Bool.{Bool, cond}
 use mathlib.Core.List.{List, [], _∷_}
 use lib.ListN.{length}
 use Rattle.soc.specs.Limits.{modulesMax}

@@ -1,7 +1,7 @@
 -- The SOC record: what of it is in use, and what a spare place holds.
 use Prim.Native.Nat.{ℕ}
-use mathlib.Core.Bool.{Bool, true, false}
-use mathlib.Core.List.{List, []}
+use mathlib.Core.Bool.{false}
+use mathlib.Core.List.{List}
 use lib.ListN.{take, replicate}
 use lib.IntN.{ℤ, pos, negsuc}
 use Rattle.units.specs.declared.FlipFlops.{FlipFlops}

@@ -1,6 +1,6 @@
 -- When a SOC record keeps the limits and rules of the text, under an option 0 has its figures not given, and has 0 in every spare place:
 -- what refusal 14 asks of a handed record (document 01, "The SOC text" and "Refusal numbers").
-use Prim.Native.Nat.{ℕ, zero, suc, _+_}
+use Prim.Native.Nat.{ℕ, suc, _+_}
 use mathlib.Core.Bool.{Bool, true, false, cond, not, _&&_, _||_}
 use mathlib.Core.List.{List, [], _∷_}
 use lib.ListN.{drop}

@@ -14,8 +14,7 @@ use Rattle.units.specs.Places.{padded}
 use Rattle.soc.specs.Record.{flipFlops}
 use Rattle.soc.specs.declared.record.Test.{Test}
 use Rattle.text_lines.specs.Parts.{Whole, refuses, says}
-use Rattle.text_lines.specs.Kinds.{Name, Options, Terminals, Shape, Chains, Second, Uses}
-use Rattle.text_lines.specs.declared.part.Verdict.{Verdict}
+use Rattle.text_lines.specs.Kinds.{Name, Options, Terminals, Shape, Second, Uses}
 use Rattle.text_lines.specs.declared.part.Verdict.the-variants.{Refused, Taken}
 use Rattle.text_lines.specs.declared.head.NameLine.{NameLine}
 use Rattle.text_lines.specs.declared.head.Count.{Count}

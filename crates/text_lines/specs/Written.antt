@@ -1,7 +1,7 @@
 -- The fields of each line of a SOC text, with a record's own figures (document 01, "The SOC text").
 use Prim.Native.Nat.{ℕ}
-use mathlib.Core.Bool.{Bool, true, false, cond}
-use mathlib.Core.List.{List, [], _∷_, _++_, map}
+use mathlib.Core.Bool.{Bool, true, false}
+use mathlib.Core.List.{List, [], _∷_, map}
 use lib.IntN.{ℤ, pos, negsuc}
 use Rattle.units.specs.declared.FlipFlops.{FlipFlops}
 use Rattle.fields.specs.Bytes.{bytes}

@@ -1,6 +1,6 @@
 -- What a SOC text says (document 01, "The SOC text"): its lines in order, and the record that they make; or the first refusal.
 use Prim.Native.Nat.{ℕ, zero, suc}
-use mathlib.Core.Bool.{Bool, true, false, cond}
+use mathlib.Core.Bool.{Bool, cond}
 use mathlib.Core.List.{List, [], _∷_}
 use lib.ListN.{length}
 use lib.Dec.{leb}
@@ -10,8 +10,8 @@ use Rattle.units.specs.declared.Refusal.{Refusal}
 use Rattle.fields.specs.Bytes.{badByte}
 use Rattle.fields.specs.declared.byte.BadByte.{BadByte}
 use Rattle.fields.specs.declared.byte.BadByte.the-variants.{OnLine, Nowhere}
-use Rattle.fields.specs.Lines.{Line, linesFrom}
-use Rattle.fields.specs.Readers.{Got, no, got, _>>=_, _>>_, give, each}
+use Rattle.fields.specs.Lines.{linesFrom}
+use Rattle.fields.specs.Readers.{no, got, _>>=_, _>>_, give, each}
 use Rattle.soc.specs.Limits.{textMax, modulesMax, testsMax}
 use Rattle.units.specs.Places.{padded}
 use Rattle.soc.specs.Record.{notGiven, noTest, noModule, noSoc}

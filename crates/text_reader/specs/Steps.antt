@@ -1,18 +1,10 @@
 -- What the answers of the steps of reading mean: a refusal, or what was read and the lines behind it.
-use Prim.Native.Nat.{ℕ, _+_, _≤_}
+use Prim.Native.Nat.{ℕ}
 use mathlib.Core.Path.{_≡_}
-use mathlib.Core.Bool.{Bool}
-use mathlib.Core.List.{List, [], _∷_}
-use lib.ListN.{length, take}
-use Rattle.fields.specs.Fields.{fieldsOf, part}
-use Rattle.fields.specs.Lines.{Line, linesFrom}
+use mathlib.Core.List.{List}
 use Rattle.fields.specs.Readers.{no, got}
-use Rattle.soc.specs.Limits.{modulesMax, testsMax}
-use Rattle.units.specs.Places.{padded}
-use Rattle.soc.specs.Record.{noTest, noModule}
 use Rattle.soc.specs.declared.record.Test.{Test}
-use Rattle.soc.specs.declared.record.Module.{Module}
-use Rattle.text_lines.specs.Kinds.{Name, Options, Shape, Second}
+use Rattle.text_lines.specs.Kinds.{Name, Options, Shape}
 use Rattle.text_lines.specs.declared.head.NameLine.{NameLine}
 use Rattle.text_lines.specs.declared.level.LevelLine.{LevelLine}
 use Rattle.text_line_reader.specs.Due.{linesAt, Inside}

@@ -1,7 +1,6 @@
 -- The written form of a record (document 01, "The SOC text"): "The written form has single spaces, LF after every line, no blank line,
 -- and where an option is 1 every X, Y and Power, as -1 when not given; bytes of the lent buffer past it keep their values."
 use Prim.Native.Nat.{ℕ, suc, _≤_, _<_}
-use mathlib.Core.Path.{_≡_}
 use mathlib.Core.Bool.{Bool, true, false, cond}
 use mathlib.Core.List.{List, [], _∷_, _++_}
 use lib.ListN.{getD}

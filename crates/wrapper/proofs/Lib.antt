@@ -1,3 +1,4 @@
+pub mod AnswerLaws
 pub mod BestLaws
 pub mod CellLaws
 pub mod ChainLaws

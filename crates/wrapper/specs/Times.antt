@@ -1,6 +1,6 @@
 -- Times (document 01, "The wrapper rule").
 use Prim.Native.Nat.{ℕ, zero, suc, _+_, _*_, min, max}
-use mathlib.Core.Bool.{Bool, true, false, cond}
+use mathlib.Core.Bool.{Bool, cond}
 use mathlib.Core.List.{List, [], _∷_}
 use lib.Dec.{ltb}
 use Rattle.soc.specs.Record.{testsOf}

@@ -1,0 +1,133 @@
+-- What document 01 demands of a layout and of a module's time ("The wrapper rule"), of the answers themselves where nothing is refused.
+-- Assumes nothing.
+use Prim.Native.Nat.{ℕ, suc, _+_, _≤_, _<_}
+use mathlib.Core.Path.{_≡_, refl, ap, _∙_}
+use mathlib.Core.Bool.{Bool, true, false, cond, _&&_}
+use native.Mathlib.Omega.{arith}
+use borrow.Author.Tests.{leb-true, ltb-true}
+use lib.Dec.{leb, ltb}
+use lib.ListN.{length, getD}
+use Rattle.units.proofs.TestLaws.{and-both}
+use Rattle.soc.specs.Limits.{chainsMax}
+use Rattle.soc.specs.Record.{chainsOf, flipFlops}
+use Rattle.soc.specs.Rules.{goodSoc}
+use Rattle.soc.specs.Sized.{Sized}
+use Rattle.soc.specs.declared.record.Module.{Module}
+use Rattle.soc.specs.declared.record.Soc.{Soc}
+use Rattle.wrapper.specs.Fit.{total}
+use Rattle.wrapper.specs.Chains.{threaded}
+use Rattle.wrapper.specs.Times.{figure, moduleBest}
+use Rattle.wrapper.specs.Answers.{widthMax, moduleAt, askedModule, askedTest, layoutOf, noLayout, layoutAnswer, noModuleTime, moduleTimeOf, moduleTimeAnswer}
+use Rattle.wrapper.specs.Laid.{testAt, lengthsIn}
+use Rattle.wrapper.specs.declared.laid.WrapperLayout.{WrapperLayout}
+use Rattle.wrapper.specs.declared.asked.ModuleTime.{ModuleTime}
+use Rattle.wrapper.proofs.BestLaws.{time-at, time-wires, time-least, time-first}
+use Rattle.wrapper.proofs.KeptLaws.{good-kept, good-count}
+use Rattle.wrapper.proofs.LayoutLaws.{in-one-chain, in-no-chain, unused, layout-flip-flops, input-cells-sum, output-cells-sum}
+
+-- what was asked for is there
+record Asked (s : Soc) (m w : ℕ) : Type 0 where
+  good : goodSoc s ≡ true
+  low : 1 ≤ w
+  there : m < s .«module_count»
+
+asked-is : (s : Soc) (m w : ℕ) → goodSoc s ≡ true → (leb 1 w && leb w widthMax) ≡ true → ltb m (s .«module_count») ≡ true → Asked s m w
+asked-is s m w a b c = record { good = a; low = leb-true 1 w (and-both (leb 1 w) (leb w widthMax) b .0); there = ltb-true m (s .«module_count») c }
+
+-- the layout that is answered
+module _ (s : Soc) (m i w : ℕ) where
+  record LaidOut (a : WrapperLayout) : Type 0 where
+    asked : Asked s m w
+    is : a ≡ layoutOf (moduleAt s m) (threaded (moduleAt s m) (testAt (moduleAt s m) i .«scan_use») w)
+
+  laid-out : layoutAnswer s m i w .refusal .number ≡ 0 → LaidOut (layoutAnswer s m i w)
+  unfolding layoutAnswer askedModule askedTest noLayout
+  laid-out h =
+      go (goodSoc s) (leb 1 w && leb w widthMax) (ltb m (s .«module_count»)) (leb 1 i && leb i (moduleAt s m .«test_count»)) refl refl refl h
+    where
+      found : WrapperLayout
+      found = layoutOf (moduleAt s m) (threaded (moduleAt s m) (testAt (moduleAt s m) i .«scan_use») w)
+
+      go : (x y z t : Bool) → goodSoc s ≡ x → (leb 1 w && leb w widthMax) ≡ y → ltb m (s .«module_count») ≡ z →
+          let a = cond x (cond y (cond z (cond t found (noLayout 13)) (noLayout 13)) (noLayout 7)) (noLayout 14) in
+          a .refusal .number ≡ 0 → LaidOut a
+      go true true true true a b c h = record { asked = asked-is s m w a b c; is = refl }
+      go true true true false a b c h = let no : ⊥ = omega arith in absurd no
+      go true true false t a b c h = let no : ⊥ = omega arith in absurd no
+      go true false z t a b c h = let no : ⊥ = omega arith in absurd no
+      go false y z t a b c h = let no : ⊥ = omega arith in absurd no
+
+module _ (s : Soc) (m i w : ℕ) (h : layoutAnswer s m i w .refusal .number ≡ 0) where
+  told : LaidOut s m i w (layoutAnswer s m i w)
+  told = laid-out s m i w h
+
+  -- "input cells over all chains sum to inputs + bidirs, output cells to outputs + bidirs"
+  pub answer-input-cells : total (layoutAnswer s m i w .«input_cells») ≡ moduleAt s m .inputs + moduleAt s m .bidirs
+  answer-input-cells = rw (told .is) (input-cells-sum (moduleAt s m) (testAt (moduleAt s m) i .«scan_use») w (told .asked .low))
+
+  pub answer-output-cells : total (layoutAnswer s m i w .«output_cells») ≡ moduleAt s m .outputs + moduleAt s m .bidirs
+  answer-output-cells = rw (told .is) (output-cells-sum (moduleAt s m) (testAt (moduleAt s m) i .«scan_use») w (told .asked .low))
+
+  -- entries past the chains, and those of internal chains that the test does not use, are 0
+  pub answer-unused : testAt (moduleAt s m) i .«scan_use» ≡ false → (j : ℕ) → getD (layoutAnswer s m i w .«chain_of») j 0 ≡ 0
+  unfolding layoutOf
+  answer-unused u j = rw (told .is, u) (unused (moduleAt s m) w j)
+
+  module _ (used : testAt (moduleAt s m) i .«scan_use» ≡ true) where
+    pub answer-past : (j : ℕ) → moduleAt s m .«chain_count» ≤ j → getD (layoutAnswer s m i w .«chain_of») j 0 ≡ 0
+    unfolding layoutOf
+    answer-past j k = rw (told .is, used) (in-no-chain (moduleAt s m) w j k)
+
+  module _ (sized : Sized s) where
+    chains-sized : length (moduleAt s m .chains) ≡ chainsMax
+    chains-sized = sized .each m (omega (arith, told .asked .there, good-count s (told .asked .good))) .chains
+
+    -- "Every internal chain that the test uses lies in exactly one wrapper chain from 1 to k"
+    pub answer-used : testAt (moduleAt s m) i .«scan_use» ≡ true → (j : ℕ) → j < moduleAt s m .«chain_count»
+        → (1 ≤ getD (layoutAnswer s m i w .«chain_of») j 0) × (getD (layoutAnswer s m i w .«chain_of») j 0 ≤ w)
+    unfolding layoutOf
+    answer-used u j k =
+        rw (told .is, u)
+        (in-one-chain (moduleAt s m) chains-sized (good-kept s m (told .asked .good) (told .asked .there) .chains) w (told .asked .low) j k)
+
+    -- "flip-flops of a wrapper chain are the sum of its internal chains"
+    pub answer-flip-flops : (j : ℕ)
+        → getD (layoutAnswer s m i w .«flip_flops») j (flipFlops 0)
+        ≡ flipFlops (lengthsIn (suc j) (layoutAnswer s m i w .«chain_of») (chainsOf (moduleAt s m)))
+    answer-flip-flops j =
+        rw (told .is) (layout-flip-flops (moduleAt s m) chains-sized (testAt (moduleAt s m) i .«scan_use») w (told .asked .low) j)
+
+-- the time that is answered
+module _ (s : Soc) (m w : ℕ) where
+  record Timed (a : ModuleTime) : Type 0 where
+    asked : Asked s m w
+    is : a ≡ moduleTimeOf (moduleBest (moduleAt s m) w)
+
+  timed : moduleTimeAnswer s m w .refusal .number ≡ 0 → Timed (moduleTimeAnswer s m w)
+  unfolding moduleTimeAnswer askedModule
+  timed h = go (goodSoc s) (leb 1 w && leb w widthMax) (ltb m (s .«module_count»)) refl refl refl h
+    where
+      go : (x y z : Bool) → goodSoc s ≡ x → (leb 1 w && leb w widthMax) ≡ y → ltb m (s .«module_count») ≡ z →
+          let a = cond x (cond y (cond z (moduleTimeOf (moduleBest (moduleAt s m) w)) (noModuleTime 13)) (noModuleTime 7)) (noModuleTime 14) in
+          a .refusal .number ≡ 0 → Timed a
+      go true true true a b c h = record { asked = asked-is s m w a b c; is = refl }
+      go true true false a b c h = let no : ⊥ = omega arith in absurd no
+      go true false z a b c h = let no : ⊥ = omega arith in absurd no
+      go false y z a b c h = let no : ⊥ = omega arith in absurd no
+
+-- "Its time on a bus of width w is the least figure over u = 1 to w, and its wires the smallest such u."
+module _ (s : Soc) (m w : ℕ) (h : moduleTimeAnswer s m w .refusal .number ≡ 0) where
+  at-width : Timed s m w (moduleTimeAnswer s m w)
+  at-width = timed s m w h
+
+  pub answer-figure : figure (moduleAt s m) (moduleTimeAnswer s m w .wires .0) ≡ moduleTimeAnswer s m w .cycles .0
+  answer-figure = rw (at-width .is) (time-at (moduleAt s m) w (at-width .asked .low))
+
+  pub answer-wires : (1 ≤ moduleTimeAnswer s m w .wires .0) × (moduleTimeAnswer s m w .wires .0 ≤ w)
+  answer-wires = rw (at-width .is) (time-wires (moduleAt s m) w (at-width .asked .low))
+
+  pub answer-least : (u : ℕ) → 1 ≤ u → u ≤ w → moduleTimeAnswer s m w .cycles .0 ≤ figure (moduleAt s m) u
+  answer-least u k l = rw (at-width .is) (time-least (moduleAt s m) w (at-width .asked .low) u k l)
+
+  pub answer-smallest : (u : ℕ) → 1 ≤ u → u < moduleTimeAnswer s m w .wires .0 → moduleTimeAnswer s m w .cycles .0 < figure (moduleAt s m) u
+  answer-smallest u k l = rw (at-width .is) (time-first (moduleAt s m) w (at-width .asked .low) u k (rw (at-width .is) at l))
