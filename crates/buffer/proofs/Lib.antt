@@ -1,5 +1,6 @@
-pub mod PutLaws
+pub mod AnswerLaws
 pub mod LittleLaws
+pub mod PutLaws
+pub mod RoomLaws
 pub mod RowLaws
 pub mod StandLaws
-pub mod RoomLaws

@@ -1,3 +1,4 @@
+pub mod AnswerLaws
 pub mod AskedLaws
 pub mod FrontLaws
 pub mod LineLaws

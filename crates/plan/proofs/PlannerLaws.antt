@@ -159,3 +159,22 @@ module _ (s : Soc) (W B : ℕ) (a : PlanAnswer) (e : a ≡ planAnswer s W B) (h 
 
   pub planner-accepts-good : goodSoc s ≡ true
   planner-accepts-good = answered s W B (rw e at h) .good
+
+-- a refusal has no line
+pub answer-told : (s : Soc) (W B : ℕ) → (planAnswer s W B .refusal .number ≤ 14) × (planAnswer s W B .refusal .line ≡ 0)
+unfolding planAnswer
+answer-told s W B =
+    go (goodSoc s) (leb 1 W && leb W widthMax) (leb 1 B && leb B limitMax) (leb 1 (length (plannedOf s))) (leb (length (plannedOf s)) plannedMax)
+  where
+    found : PlanAnswer
+    found = record { refusal = accepted; plan = recordOf s W B (bestFor s W B) }
+
+    go : (v w x y z : Bool) →
+        let a = cond v (cond w (cond x (cond y (cond z found (refusedPlan 10)) (refusedPlan 9)) (refusedPlan 8)) (refusedPlan 7)) (refusedPlan 14) in
+        (a .refusal .number ≤ 14) × (a .refusal .line ≡ 0)
+    go true true true true true = (omega arith, refl)
+    go true true true true false = (omega arith, refl)
+    go true true true false z = (omega arith, refl)
+    go true true false y z = (omega arith, refl)
+    go true false x y z = (omega arith, refl)
+    go false w x y z = (omega arith, refl)

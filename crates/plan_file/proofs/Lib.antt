@@ -1,5 +1,6 @@
+pub mod AnswerLaws
+pub mod BytesBack
+pub mod FileBack
 pub mod FileLaws
 pub mod ReadLaws
 pub mod SpareLaws
-pub mod BytesBack
-pub mod FileBack

@@ -1,11 +1,12 @@
 -- Laws of a refusal's line (document 01, "Refusal numbers"): "Number 1 and 6 come with line 0, 2 to 5 with the line, counted from 1."
 -- Assumes nothing.
 use Prim.Native.Nat.{ℕ, suc, _+_, _≤_, _<_}
-use mathlib.Core.Path.{_≡_, refl}
+use mathlib.Core.Path.{_≡_, refl, ap}
 use mathlib.Core.Bool.{Bool, true, false, cond, _&&_}
 use mathlib.Core.List.{List, [], _∷_}
 use mathlib.Core.Logic.{_⊎_, inl, inr}
 use native.Mathlib.Omega.{arith}
+use borrow.Author.Tests.{leb-true, leb-false}
 use lib.Dec.{eqb, leb}
 use lib.ListN.{length}
 use Rattle.units.proofs.TestLaws.{clash}
@@ -20,9 +21,10 @@ use Rattle.fields.specs.declared.byte.BadByte.the-variants.{OnLine, Nowhere}
 use Rattle.soc.specs.Limits.{textMax}
 use Rattle.soc.specs.declared.record.Soc.{Soc}
 use Rattle.text_reader.specs.Lines.{LinesRead}
-use Rattle.text_reader.specs.Reading.{refusedSoc, soc, answer, unlessBad, readSoc}
+use Rattle.text_reader.specs.Reading.{refusedSoc, acceptedSoc, soc, answer, unlessBad, readSoc}
 use Rattle.text_reader.specs.declared.read.SocRead.{SocRead}
 use Rattle.text.specs.LineCount.{linesBehind, lineCount}
+use Rattle.text.proofs.Acceptance.{accepts-or-refuses}
 use Rattle.text.proofs.Refused.{SameFields, none, more, Refuses, soc-refuses-so}
 
 -- a line that has begun is one, whatever byte comes next
@@ -133,3 +135,52 @@ module _ (t : List ℕ) where
   pub refused-line-counted : 2 ≤ readSoc t .refusal .number → readSoc t .refusal .number ≤ 5
       → (1 ≤ readSoc t .refusal .line) × (readSoc t .refusal .line ≤ lineCount t)
   refused-line-counted = lined .counted
+
+-- a text has no more lines than bytes
+lines-most : (begun : Bool) (t : List ℕ) → linesBehind begun t ≤ length t + 1
+unfolding linesBehind
+lines-most true [] = omega arith
+lines-most false [] = omega arith
+lines-most begun (b ∷ bs) = go (eqb b lf) (lines-most false bs) (lines-most true bs)
+  where
+    go : (u : Bool) → linesBehind false bs ≤ length bs + 1 → linesBehind true bs ≤ length bs + 1
+        → cond u (suc (linesBehind false bs)) (linesBehind true bs) ≤ suc (length bs) + 1
+    go true h k = omega arith
+    go false h k = omega arith
+
+-- so a refusal's line is at most as many as a text may have
+module _ (t : List ℕ) where
+  long-line : length t ≤ textMax ⊎ (readSoc t .refusal .number ≡ 1)
+  unfolding readSoc
+  long-line = go (leb (length t) textMax) refl
+    where
+      go : (b : Bool) → leb (length t) textMax ≡ b
+          → length t ≤ textMax
+          ⊎ (cond b (unlessBad (badByte 1 t) (answer (soc (linesFrom 1 t 0)))) (refusedSoc (refused 1 0)) .refusal .number ≡ 1)
+      go true e = inl (leb-true (length t) textMax e)
+      go false e = inr refl
+
+  pub refused-line-most : (readSoc t .refusal .number ≤ 6) × (readSoc t .refusal .line ≤ textMax + 1)
+  refused-line-most = go (accepts-or-refuses t)
+    where
+      low : (n : ℕ) → 1 ≤ n → n ≤ 6 → ((n ≡ 1) ⊎ (n ≡ 6)) ⊎ ((2 ≤ n) × (n ≤ 5))
+      low n h k = at (leb n 1) refl (leb n 5) refl
+        where
+          at : (u : Bool) → leb n 1 ≡ u → (v : Bool) → leb n 5 ≡ v → ((n ≡ 1) ⊎ (n ≡ 6)) ⊎ ((2 ≤ n) × (n ≤ 5))
+          at true e v f = inl (inl (omega (arith, leb-true n 1 e)))
+          at false e true f = inr (omega (arith, leb-false n 1 e), omega (arith, leb-true n 5 f))
+          at false e false f = inl (inr (omega (arith, leb-false n 5 f)))
+
+      line : ((readSoc t .refusal .number ≡ 1) ⊎ (readSoc t .refusal .number ≡ 6))
+          ⊎ ((2 ≤ readSoc t .refusal .number) × (readSoc t .refusal .number ≤ 5))
+          → length t ≤ textMax ⊎ (readSoc t .refusal .number ≡ 1) → readSoc t .refusal .line ≤ textMax + 1
+      line (inl h) l = omega (arith, lined t .none h)
+      line (inr h) (inl l) = omega (arith, lined t .counted (h .0) (h .1) .1, lines-most false t)
+      line (inr h) (inr l) = absurd (omega (arith, h .0, l))
+
+      go : ((s : Soc) × (readSoc t ≡ acceptedSoc s)) ⊎ ((r : Refusal) × (readSoc t ≡ refusedSoc r) × (1 ≤ r .number) × (r .number ≤ 6))
+          → (readSoc t .refusal .number ≤ 6) × (readSoc t .refusal .line ≤ textMax + 1)
+      go (inl (s, e)) = rw e (omega arith, omega arith)
+      go (inr (r, e, h, k)) =
+          let n : readSoc t .refusal .number ≡ r .number = ap (λ (q : SocRead). q .refusal .number) e in
+          (omega arith, line (low (readSoc t .refusal .number) (omega arith) (omega arith)) long-line)

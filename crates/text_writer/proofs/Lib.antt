@@ -1,3 +1,4 @@
+pub mod AnswerLaws
 pub mod FigureLaws
 pub mod GoodLaws
 pub mod LineLaws

@@ -1,12 +1,13 @@
 -- What document 01 demands of a layout and of a module's time ("The wrapper rule"), of the answers themselves where nothing is refused.
 -- Assumes nothing.
-use Prim.Native.Nat.{ℕ, suc, _+_, _≤_, _<_}
+use Prim.Native.Nat.{ℕ, suc, _+_, _-_, _≤_, _<_}
 use mathlib.Core.Path.{_≡_, refl, ap, _∙_}
 use mathlib.Core.Bool.{Bool, true, false, cond, _&&_}
 use native.Mathlib.Omega.{arith}
 use borrow.Author.Tests.{leb-true, ltb-true}
 use lib.Dec.{leb, ltb}
 use lib.ListN.{length, getD}
+use Rattle.units.specs.Refusals.{accepted}
 use Rattle.units.proofs.TestLaws.{and-both}
 use Rattle.soc.specs.Limits.{chainsMax}
 use Rattle.soc.specs.Record.{chainsOf, flipFlops}
@@ -16,13 +17,18 @@ use Rattle.soc.specs.declared.record.Module.{Module}
 use Rattle.soc.specs.declared.record.Soc.{Soc}
 use Rattle.wrapper.specs.Fit.{total}
 use Rattle.wrapper.specs.Chains.{threaded}
-use Rattle.wrapper.specs.Times.{figure, moduleBest}
-use Rattle.wrapper.specs.Answers.{widthMax, moduleAt, askedModule, askedTest, layoutOf, noLayout, layoutAnswer, noModuleTime, moduleTimeOf, moduleTimeAnswer}
+use Rattle.wrapper.specs.Maxima.{testTimeMax, moduleTimeMax}
+use Rattle.wrapper.specs.Times.{figure, testTime, moduleBest}
+use Rattle.wrapper.specs.Answers.{widthMax, cycles, moduleAt, askedModule, askedTest, layoutOf, noLayout, layoutAnswer}
+use Rattle.wrapper.specs.Answers.{noTestTime, testTimeAnswer, noModuleTime, moduleTimeOf, moduleTimeAnswer}
 use Rattle.wrapper.specs.Laid.{testAt, lengthsIn}
 use Rattle.wrapper.specs.declared.laid.WrapperLayout.{WrapperLayout}
+use Rattle.wrapper.specs.declared.asked.TestTime.{TestTime}
 use Rattle.wrapper.specs.declared.asked.ModuleTime.{ModuleTime}
 use Rattle.wrapper.proofs.BestLaws.{time-at, time-wires, time-least, time-first}
 use Rattle.wrapper.proofs.KeptLaws.{good-kept, good-count}
+use Rattle.wrapper.proofs.PromisedTimes.{time-most}
+use Rattle.wrapper.proofs.TimeLaws.{test-most}
 use Rattle.wrapper.proofs.LayoutLaws.{in-one-chain, in-no-chain, unused, layout-flip-flops, input-cells-sum, output-cells-sum}
 
 -- what was asked for is there
@@ -32,7 +38,8 @@ record Asked (s : Soc) (m w : ℕ) : Type 0 where
   there : m < s .«module_count»
 
 asked-is : (s : Soc) (m w : ℕ) → goodSoc s ≡ true → (leb 1 w && leb w widthMax) ≡ true → ltb m (s .«module_count») ≡ true → Asked s m w
-asked-is s m w a b c = record { good = a; low = leb-true 1 w (and-both (leb 1 w) (leb w widthMax) b .0); there = ltb-true m (s .«module_count») c }
+asked-is s m w a b c =
+    record { good = a; low = leb-true 1 w (and-both (leb 1 w) (leb w widthMax) b .0); there = ltb-true m (s .«module_count») c }
 
 -- the layout that is answered
 module _ (s : Soc) (m i w : ℕ) where
@@ -43,7 +50,8 @@ module _ (s : Soc) (m i w : ℕ) where
   laid-out : layoutAnswer s m i w .refusal .number ≡ 0 → LaidOut (layoutAnswer s m i w)
   unfolding layoutAnswer askedModule askedTest noLayout
   laid-out h =
-      go (goodSoc s) (leb 1 w && leb w widthMax) (ltb m (s .«module_count»)) (leb 1 i && leb i (moduleAt s m .«test_count»)) refl refl refl h
+      go (goodSoc s) (leb 1 w && leb w widthMax) (ltb m (s .«module_count»)) (leb 1 i && leb i (moduleAt s m .«test_count»))
+      refl refl refl h
     where
       found : WrapperLayout
       found = layoutOf (moduleAt s m) (threaded (moduleAt s m) (testAt (moduleAt s m) i .«scan_use») w)
@@ -108,7 +116,8 @@ module _ (s : Soc) (m w : ℕ) where
   timed h = go (goodSoc s) (leb 1 w && leb w widthMax) (ltb m (s .«module_count»)) refl refl refl h
     where
       go : (x y z : Bool) → goodSoc s ≡ x → (leb 1 w && leb w widthMax) ≡ y → ltb m (s .«module_count») ≡ z →
-          let a = cond x (cond y (cond z (moduleTimeOf (moduleBest (moduleAt s m) w)) (noModuleTime 13)) (noModuleTime 7)) (noModuleTime 14) in
+          let found = moduleTimeOf (moduleBest (moduleAt s m) w) in
+          let a = cond x (cond y (cond z found (noModuleTime 13)) (noModuleTime 7)) (noModuleTime 14) in
           a .refusal .number ≡ 0 → Timed a
       go true true true a b c h = record { asked = asked-is s m w a b c; is = refl }
       go true true false a b c h = let no : ⊥ = omega arith in absurd no
@@ -131,3 +140,55 @@ module _ (s : Soc) (m w : ℕ) (h : moduleTimeAnswer s m w .refusal .number ≡ 
 
   pub answer-smallest : (u : ℕ) → 1 ≤ u → u < moduleTimeAnswer s m w .wires .0 → moduleTimeAnswer s m w .cycles .0 < figure (moduleAt s m) u
   answer-smallest u k l = rw (at-width .is) (time-first (moduleAt s m) w (at-width .asked .low) u k (rw (at-width .is) at l))
+
+-- a refusal has no line, and a time keeps its maximum
+module _ (s : Soc) (m i w : ℕ) where
+  pub layout-told : (layoutAnswer s m i w .refusal .number ≤ 14) × (layoutAnswer s m i w .refusal .line ≡ 0)
+  unfolding layoutAnswer askedModule askedTest noLayout layoutOf
+  layout-told =
+      go (goodSoc s) (leb 1 w && leb w widthMax) (ltb m (s .«module_count»)) (leb 1 i && leb i (moduleAt s m .«test_count»))
+    where
+      go : (x y z t : Bool) →
+          let found = layoutOf (moduleAt s m) (threaded (moduleAt s m) (testAt (moduleAt s m) i .«scan_use») w) in
+          let a = cond x (cond y (cond z (cond t found (noLayout 13)) (noLayout 13)) (noLayout 7)) (noLayout 14) in
+          (a .refusal .number ≤ 14) × (a .refusal .line ≡ 0)
+      go true true true true = (omega arith, refl)
+      go true true true false = (omega arith, refl)
+      go true true false t = (omega arith, refl)
+      go true false z t = (omega arith, refl)
+      go false y z t = (omega arith, refl)
+
+  pub test-time-told : let a = testTimeAnswer s m i w in (a .refusal .number ≤ 14) × (a .refusal .line ≡ 0) × (a .cycles .0 ≤ testTimeMax)
+  unfolding testTimeAnswer askedModule askedTest
+  test-time-told =
+      go (goodSoc s) (leb 1 w && leb w widthMax) (ltb m (s .«module_count»)) (leb 1 i && leb i (moduleAt s m .«test_count»)) refl refl
+    where
+      go : (x y z t : Bool) → goodSoc s ≡ x → ltb m (s .«module_count») ≡ z →
+          let found : TestTime = record { refusal = accepted; cycles = cycles (testTime (moduleAt s m) w (testAt (moduleAt s m) i)) } in
+          let a = cond x (cond y (cond z (cond t found (noTestTime 13)) (noTestTime 13)) (noTestTime 7)) (noTestTime 14) in
+          (a .refusal .number ≤ 14) × (a .refusal .line ≡ 0) × (a .cycles .0 ≤ testTimeMax)
+      go true true true true a b =
+          let k = good-kept s m a (ltb-true m (s .«module_count») b) in
+          (omega arith, refl, test-most (moduleAt s m) w (testAt (moduleAt s m) i) k (k .patterns (i - 1)))
+      go true true true false a b = (omega arith, refl, omega arith)
+      go true true false t a b = (omega arith, refl, omega arith)
+      go true false z t a b = (omega arith, refl, omega arith)
+      go false y z t a b = (omega arith, refl, omega arith)
+
+module _ (s : Soc) (m w : ℕ) where
+  pub module-time-told : let a = moduleTimeAnswer s m w in
+      (a .refusal .number ≤ 14) × (a .refusal .line ≡ 0) × (a .cycles .0 ≤ moduleTimeMax) × (a .wires .0 ≤ widthMax)
+  unfolding moduleTimeAnswer askedModule
+  module-time-told = go (goodSoc s) (leb 1 w && leb w widthMax) (ltb m (s .«module_count»)) refl refl refl
+    where
+      go : (x y z : Bool) → goodSoc s ≡ x → (leb 1 w && leb w widthMax) ≡ y → ltb m (s .«module_count») ≡ z →
+          let found = moduleTimeOf (moduleBest (moduleAt s m) w) in
+          let a = cond x (cond y (cond z found (noModuleTime 13)) (noModuleTime 7)) (noModuleTime 14) in
+          (a .refusal .number ≤ 14) × (a .refusal .line ≡ 0) × (a .cycles .0 ≤ moduleTimeMax) × (a .wires .0 ≤ widthMax)
+      go true true true a b c =
+          let l = leb-true 1 w (and-both (leb 1 w) (leb w widthMax) b .0) in
+          let n = leb-true w widthMax (and-both (leb 1 w) (leb w widthMax) b .1) in
+          (omega arith, refl, time-most s m a (ltb-true m (s .«module_count») c) w l, omega (arith, time-wires (moduleAt s m) w l .1))
+      go true true false a b c = (omega arith, refl, omega arith, omega arith)
+      go true false z a b c = (omega arith, refl, omega arith, omega arith)
+      go false y z a b c = (omega arith, refl, omega arith, omega arith)
