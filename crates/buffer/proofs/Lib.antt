@@ -1,4 +1,4 @@
-pub mod AnswerLaws
+pub mod WriterAnswerLaws
 pub mod LittleLaws
 pub mod PutLaws
 pub mod RoomLaws

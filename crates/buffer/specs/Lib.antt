@@ -1,5 +1,5 @@
 pub mod Puts
 pub mod Little
 pub mod Rows
-pub mod Written
+pub mod WriterAnswers
 pub mod Room

@@ -4,7 +4,7 @@ use units::Refusal;
 ghost use mathlib.Core.Path.{_≡_};
 ghost use Rattle.buffer.specs.Puts.{putFront};
 ghost use Rattle.buffer.specs.Room.{allOrNone};
-ghost use Rattle.buffer.specs.Written.{refusedWrite, written};
+ghost use Rattle.buffer.specs.WriterAnswers.{refusedWrite, written};
 
 // How many bytes were written; or the refusal.
 pub struct Written {

@@ -13,7 +13,7 @@ use Rattle.soc.specs.Sized.{SizedModule, Sized}
 use Rattle.soc.specs.declared.record.Test.{Test}
 use Rattle.soc.specs.declared.record.Module.{Module}
 use Rattle.soc.specs.declared.record.Soc.{Soc}
-use Rattle.wrapper.specs.Answers.{widthMax}
+use Rattle.wrapper.specs.WrapperAnswers.{widthMax}
 use Rattle.wrapper.specs.declared.laid.WrapperLayout.{WrapperLayout}
 use Rattle.plan_record.specs.Record.{busPlaces, modulePlaces, noBus, noPlaced}
 use Rattle.plan_record.specs.Whole.{Whole}

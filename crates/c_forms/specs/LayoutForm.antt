@@ -4,7 +4,7 @@ use Prim.Native.Nat.{ℕ, _+_, _*_}
 use mathlib.Core.List.{List, _++_}
 use Rattle.buffer.specs.Rows.{each}
 use Rattle.soc.specs.Limits.{chainsMax}
-use Rattle.wrapper.specs.Answers.{widthMax}
+use Rattle.wrapper.specs.WrapperAnswers.{widthMax}
 use Rattle.wrapper.specs.declared.laid.WrapperLayout.{WrapperLayout}
 use Rattle.c_forms.specs.Words.{wordLength, words}
 use Rattle.c_forms.specs.SocForm.{lengthBytes}

@@ -10,20 +10,20 @@ use lib.Dec.{leb, eqb}
 use lib.ListN.{length}
 use Rattle.units.specs.Refusals.{accepted, refused}
 use Rattle.units.specs.declared.Refusal.{Refusal}
-use Rattle.buffer.proofs.AnswerLaws.{Fits}
+use Rattle.buffer.proofs.WriterAnswerLaws.{Fits}
 use Rattle.buffer.specs.declared.written.Written.{Written}
 use Rattle.text_reader.specs.Reading.{readSoc}
-use Rattle.text_writer.specs.Written as soctext
-use Rattle.text_writer.proofs.AnswerLaws as socwriter
+use Rattle.text_writer.specs.WrittenSoc as soctext
+use Rattle.text_writer.proofs.SocWriterLaws as socwriter
 use Rattle.text.proofs.RefusedLine.{refused-line-most}
-use Rattle.wrapper.specs.Answers.{layoutAnswer, testTimeAnswer, moduleTimeAnswer}
-use Rattle.wrapper.proofs.AnswerLaws.{layout-told, test-time-told, module-time-told}
-use Rattle.plan.specs.Answers.{planAnswer}
+use Rattle.wrapper.specs.WrapperAnswers.{layoutAnswer, testTimeAnswer, moduleTimeAnswer}
+use Rattle.wrapper.proofs.WrapperAnswerLaws.{layout-told, test-time-told, module-time-told}
+use Rattle.plan.specs.PlanAnswers.{planAnswer}
 use Rattle.plan.proofs.PlannerLaws.{answer-told}
 use Rattle.plan_file.specs.Files as planfile
-use Rattle.plan_file.proofs.AnswerLaws as filelaws
+use Rattle.plan_file.proofs.FileAnswerLaws as filelaws
 use Rattle.listing.specs.Listing.{listingAnswer, showAnswer}
-use Rattle.listing.proofs.AnswerLaws.{listing-fits, show-fits}
+use Rattle.listing.proofs.ListingAnswerLaws.{listing-fits, show-fits}
 use Rattle.c_forms.specs.SocForm.{socIn, socBytes}
 use Rattle.c_forms.specs.PlanForm.{planIn, planBytes}
 use Rattle.c_forms.specs.LayoutForm.{layoutBytes}

@@ -8,9 +8,9 @@ use lib.Dec.{leb, eqb}
 use Rattle.units.specs.declared.Refusal.{Refusal}
 use Rattle.buffer.specs.Puts.{putFront}
 use Rattle.text_reader.specs.Reading.{readSoc}
-use Rattle.text_writer.specs.Written as soctext
-use Rattle.wrapper.specs.Answers.{layoutAnswer, testTimeAnswer, moduleTimeAnswer}
-use Rattle.plan.specs.Answers.{planAnswer}
+use Rattle.text_writer.specs.WrittenSoc as soctext
+use Rattle.wrapper.specs.WrapperAnswers.{layoutAnswer, testTimeAnswer, moduleTimeAnswer}
+use Rattle.plan.specs.PlanAnswers.{planAnswer}
 use Rattle.plan_file.specs.Files as planfile
 use Rattle.listing.specs.Listing.{listingAnswer, listingLeaves, showAnswer, showLeaves}
 use Rattle.c_forms.specs.SocForm.{socIn, socBytes}

@@ -9,7 +9,7 @@ use borrow.Author.Tests.{eqb-true, eqb-false, eq-eqb, leb-true}
 use lib.Dec.{eqb, leb}
 use Rattle.fields.specs.Bytes.{sameBytes}
 use Rattle.fields.specs.Numbers.{digit, digits, more, decimalOf}
-use Rattle.fields.specs.Written.{decimal}
+use Rattle.fields.specs.WrittenLines.{decimal}
 use Rattle.units.proofs.TestLaws.{clash, and-both}
 use Rattle.fields.proofs.WrittenLaws.{decimal-small, decimal-large}
 

@@ -11,7 +11,7 @@ use Rattle.fields.specs.Bytes.{tab, lf, cr, space, badByte}
 use Rattle.fields.specs.Lines.{onLine, linesOf, Line, withLine, numbered}
 use Rattle.fields.specs.Names.{nameByte, nameBytes, nameMax, isName}
 use Rattle.fields.specs.Numbers.{digit}
-use Rattle.fields.specs.Written.{decimal, joined}
+use Rattle.fields.specs.WrittenLines.{decimal, joined}
 use Rattle.fields.proofs.NameLaws.{name-byte-no}
 use Rattle.units.proofs.TestLaws.{and-both, within-true, below-false, above-false}
 use Rattle.fields.proofs.WrittenLaws.{allDigits, plainFields, decimal-plain, joined-fields}

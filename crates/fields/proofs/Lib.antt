@@ -1,4 +1,4 @@
-pub mod AnswerLaws
+pub mod PlaceAnswerLaws
 pub mod BackLaws
 pub mod CountLaws
 pub mod FieldLaws

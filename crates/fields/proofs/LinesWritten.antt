@@ -7,7 +7,7 @@ use native.Mathlib.Numerals.{add-one}
 use lib.ListN.{length, getD, take, length-append}
 use lib.Seq.{take-suc, take-add}
 use Rattle.fields.specs.Bytes.{lf}
-use Rattle.fields.specs.Written.{joined, writtenLines}
+use Rattle.fields.specs.WrittenLines.{joined, writtenLines}
 
 pub written-append : (xs ys : List (List (List ℕ))) → writtenLines (xs ++ ys) ≡ writtenLines xs ++ writtenLines ys
 unfolding writtenLines

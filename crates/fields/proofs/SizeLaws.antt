@@ -9,7 +9,7 @@ use borrow.Author.Tests.{ltb-true, ltb-false, leb-true}
 use lib.ListN.{length, length-append}
 use lib.Dec.{leb, ltb}
 use Rattle.fields.specs.Names.{nameBytes, nameMax, isName}
-use Rattle.fields.specs.Written.{decimal, joined}
+use Rattle.fields.specs.WrittenLines.{decimal, joined}
 use Rattle.units.proofs.TestLaws.{and-both}
 use Rattle.fields.proofs.WrittenLaws.{decimal-small, length-large}
 

@@ -14,7 +14,7 @@ use Rattle.fields.specs.Bytes.{space, tab}
 use Rattle.fields.specs.Fields.{gap, begins, onField, fieldsOf}
 use Rattle.fields.specs.Names.{nameByte, nameBytes, nameMax, isName}
 use Rattle.fields.specs.Numbers.{digit, digits, more, decimalOf}
-use Rattle.fields.specs.Written.{digitsOf, decimal, joined}
+use Rattle.fields.specs.WrittenLines.{digitsOf, decimal, joined}
 use Rattle.fields.proofs.NameLaws.{name-byte-no}
 use Rattle.units.proofs.TestLaws.{clash, and-both, within-true, below-false}
 

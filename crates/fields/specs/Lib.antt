@@ -4,4 +4,4 @@ pub mod Lines
 pub mod Numbers
 pub mod Names
 pub mod Readers
-pub mod Written
+pub mod WrittenLines

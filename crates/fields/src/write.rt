@@ -4,7 +4,7 @@ ghost use Prim.Native.Nat.{_≤_};
 ghost use mathlib.Core.List.{_++_};
 ghost use lib.ListN.{length, drop};
 ghost use Rattle.buffer.specs.Puts.{putFront, putCount};
-ghost use Rattle.fields.specs.Written.{decimal};
+ghost use Rattle.fields.specs.WrittenLines.{decimal};
 
 fn digit_count(v: u64) -> usize
     ensures { λ r. ⌜ r ≡ length (decimal v) ⌝ }

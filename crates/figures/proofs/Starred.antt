@@ -11,7 +11,7 @@ use Rattle.wrapper.specs.Times.{scanIn, scanOut, testCycles, testTime, sumTimes
 use Rattle.plan_rules.specs.Plans.{sum, busyFrom, busies, largest, timeOf}
 use Rattle.plan_rules.specs.Listed.{upward, widthLists, placements, plansOn, plans, firstLeast, firstOf, bestOf}
 use Rattle.plan_record.specs.Record.{cyclesOn, busRecords, moduleRecords, planRecord}
-use Rattle.plan.specs.Answers.{timeIn, wiresIn, bestFor, planAnswer}
+use Rattle.plan.specs.PlanAnswers.{timeIn, wiresIn, bestFor, planAnswer}
 use Rattle.figures.proofs.Read.{t1-read, copies-read}
 use Rattle.soc.specs.declared.record.Soc.{Soc}
 use Rattle.text_reader.specs.Reading.{readSoc}

@@ -8,7 +8,7 @@ use Rattle.soc.specs.declared.record.Soc.{Soc}
 use Rattle.text_reader.specs.Reading.{readSoc}
 use Rattle.plan_record.specs.Record.{modulesOf, placesOf}
 use Rattle.plan_record.specs.declared.record.BusPlan.{BusPlan}
-use Rattle.plan.specs.Answers.{planAnswer}
+use Rattle.plan.specs.PlanAnswers.{planAnswer}
 use Rattle.figures.specs.Cores.{coreA, oneChain, terminals, nothing}
 use Rattle.figures.specs.Texts.{t1Text, twoCopiesText}
 

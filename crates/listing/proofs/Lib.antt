@@ -1,4 +1,4 @@
-pub mod AnswerLaws
+pub mod ListingAnswerLaws
 pub mod AskedLaws
 pub mod FrontLaws
 pub mod LineLaws

@@ -9,7 +9,7 @@ use lib.Seq.{length-take-le}
 use Rattle.units.specs.declared.Refusal.{Refusal}
 use Rattle.fields.specs.Bytes.{bytes, lf}
 use Rattle.fields.specs.Names.{nameMax}
-use Rattle.fields.specs.Written.{decimal, joined, writtenLines}
+use Rattle.fields.specs.WrittenLines.{decimal, joined, writtenLines}
 use Rattle.fields.proofs.SizeLaws.{decimal-size}
 use Rattle.buffer.specs.Puts.{putEnd, putIn}
 use Rattle.buffer.proofs.PutLaws.{Due, due-all, due-room, due-next, put-is}

@@ -21,8 +21,8 @@ use Rattle.text_lines.specs.Parts.{Whole, refuses, says}
 use Rattle.soc.specs.Limits.{textMax}
 use Rattle.text_reader.specs.Reading.{refusedSoc, acceptedSoc, readSoc}
 use Rattle.text_reader.specs.declared.read.SocRead.{SocRead}
-use Rattle.fields.specs.Written.{writtenLines}
-use Rattle.plan.specs.Answers.{planAnswer}
+use Rattle.fields.specs.WrittenLines.{writtenLines}
+use Rattle.plan.specs.PlanAnswers.{planAnswer}
 use Rattle.plan.specs.declared.answer.PlanAnswer.{PlanAnswer}
 use Rattle.listing.specs.Asked.{planLineMax, Wanted, textBehind, asked, askedAnswer}
 use Rattle.listing.specs.Listing.{refusalFields, planLines, planPrinted, textPrinted, printed, listed, listingMax, listingAnswer, listingLeaves}

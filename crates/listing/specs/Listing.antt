@@ -7,15 +7,15 @@ use Rattle.units.specs.Refusals.{refused}
 use Rattle.units.specs.declared.Refusal.{Refusal}
 use Rattle.fields.specs.Bytes.{bytes}
 use Rattle.buffer.specs.Puts.{putFront}
-use Rattle.buffer.specs.Written.{refusedWrite, written}
+use Rattle.buffer.specs.WriterAnswers.{refusedWrite, written}
 use Rattle.buffer.specs.declared.written.Written.{Written}
-use Rattle.fields.specs.Written.{decimal, writtenLines}
+use Rattle.fields.specs.WrittenLines.{decimal, writtenLines}
 use Rattle.soc.specs.Record.{nameOf}
 use Rattle.soc.specs.declared.record.Soc.{Soc}
 use Rattle.text_lines.specs.Parts.{Whole, refuses, says}
 use Rattle.text_reader.specs.Reading.{readSoc}
 use Rattle.text_reader.specs.declared.read.SocRead.{SocRead}
-use Rattle.plan.specs.Answers.{planAnswer}
+use Rattle.plan.specs.PlanAnswers.{planAnswer}
 use Rattle.plan_record.specs.declared.record.Bus.{Bus}
 use Rattle.plan_record.specs.declared.record.PlacedModule.{PlacedModule}
 use Rattle.plan_record.specs.declared.record.BusPlan.{BusPlan}

@@ -14,8 +14,8 @@ ghost use Prim.Native.Nat.{_≤_};
 ghost use lib.ListN.{length};
 ghost use Rattle.buffer.specs.Puts.{Put};
 ghost use Rattle.text_reader.specs.Reading.{readSoc};
-ghost use Rattle.fields.specs.Written.{writtenLines};
-ghost use Rattle.plan.specs.Answers.{planAnswer};
+ghost use Rattle.fields.specs.WrittenLines.{writtenLines};
+ghost use Rattle.plan.specs.PlanAnswers.{planAnswer};
 ghost use Rattle.listing.specs.Listing.{planPrinted, textPrinted, listed, listingMax, listingAnswer, listingLeaves, showAnswer, showLeaves};
 
 // A buffer of this length is always enough.

@@ -10,7 +10,7 @@ ghost use mathlib.Core.List.{[], _∷_};
 ghost use lib.ListN.{length, take};
 ghost use Rattle.buffer.specs.Puts.{Put};
 ghost use Rattle.fields.specs.Names.{nameMax};
-ghost use Rattle.fields.specs.Written.{writtenLines};
+ghost use Rattle.fields.specs.WrittenLines.{writtenLines};
 ghost use Rattle.plan_record.specs.Record.{busPlaces, modulePlaces, busesOf, modulesOf};
 ghost use Rattle.listing.specs.Listing.{refusalFields, countFields, socFields, busFields, busLines, moduleFields, moduleLines, planLines, shown};
 ghost use Rattle.listing.specs.Room.{refusalRoom, countRoom, nameRoom, busRoom, moduleRoom, restRoom, planRoom};

@@ -17,14 +17,14 @@ use Rattle.soc.specs.Planned.{plannedOf, plannedIs}
 use Rattle.soc.specs.declared.planned.Planned.{Planned}
 use Rattle.soc.specs.declared.record.Soc.{Soc}
 use Rattle.units.proofs.PlaceLaws.{padded-take, padded-set, padded-at}
-use Rattle.wrapper.specs.Answers.{widthMax, wires, cycles}
+use Rattle.wrapper.specs.WrapperAnswers.{widthMax, wires, cycles}
 use Rattle.plan_rules.specs.Plans.{Plan, IsPlan, sum, busyFrom, busies, timeOf}
 use Rattle.plan_rules.specs.Listed.{bestPlan}
 use Rattle.plan_rules.proofs.Demand.{best-first}
 use Rattle.plan_record.specs.Record.{busPlaces, modulePlaces, noBus, noPlaced, busRecords, moduleRecords, planRecord}
 use Rattle.plan_record.proofs.RecordLaws.{length-records}
 use Rattle.plan_search.specs.Search.{searchBuses, searchModules, tableTime, foundOf}
-use Rattle.plan.specs.Answers.{limitMax, timeIn, wiresIn, bestFor, recordOf}
+use Rattle.plan.specs.PlanAnswers.{limitMax, timeIn, wiresIn, bestFor, recordOf}
 use Rattle.plan.specs.Records.{IsFound, busesIs, placedAt, placedFrom, modulesIs}
 use Rattle.plan.specs.Tables.{TablesAre}
 use Rattle.plan_record.specs.declared.record.Bus.{Bus}

@@ -10,7 +10,7 @@ use Rattle.plan_rules.specs.First.{IsFirst}
 use Rattle.plan_rules.proofs.Demand.{best-unique}
 use Rattle.plan_record.specs.Record.{busesOf, modulesOf, busiesOf, numbersOf, planOf, cyclesOn, planRecord}
 use Rattle.plan_record.proofs.RecordLaws.{record-plan, record-numbers, record-time, record-busy}
-use Rattle.plan.specs.Answers.{timeIn, wiresIn, bestFor, recordOf, planAnswer}
+use Rattle.plan.specs.PlanAnswers.{timeIn, wiresIn, bestFor, recordOf, planAnswer}
 use Rattle.plan.specs.declared.answer.PlanAnswer.{PlanAnswer}
 use Rattle.plan.proofs.PlannerLaws.{Answered, answered, best-for-first}
 

@@ -19,12 +19,12 @@ use Rattle.soc.proofs.GoodSocLaws.{soc-figures}
 use Rattle.soc.specs.declared.record.Module.{Module}
 use Rattle.soc.specs.declared.record.Soc.{Soc}
 use Rattle.wrapper.specs.Maxima.{moduleTimeMax}
-use Rattle.wrapper.specs.Answers.{widthMax}
+use Rattle.wrapper.specs.WrapperAnswers.{widthMax}
 use Rattle.wrapper.proofs.BestLaws.{time-wires}
 use Rattle.wrapper.proofs.PromisedTimes.{time-most, time-some}
 use Rattle.plan_record.specs.Good.{ascendingFrom, goodPlan}
 use Rattle.plan_record.proofs.RecordLaws.{Recordable, record-good}
-use Rattle.plan.specs.Answers.{limitMax, plannedMax, plannedModule, timeIn, wiresIn, bestFor, recordOf, refusedPlan, planAnswer}
+use Rattle.plan.specs.PlanAnswers.{limitMax, plannedMax, plannedModule, timeIn, wiresIn, bestFor, recordOf, refusedPlan, planAnswer}
 use Rattle.plan.specs.declared.answer.PlanAnswer.{PlanAnswer}
 use Rattle.plan.proofs.TableLaws.{planned-number}
 use Rattle.plan_rules.specs.Plans.{timeOf}

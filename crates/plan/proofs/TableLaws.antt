@@ -13,13 +13,13 @@ use Rattle.soc.specs.Planned.{isPlanned, plannedFrom, plannedOf}
 use Rattle.soc.specs.Rules.{goodSoc}
 use Rattle.soc.specs.declared.record.Module.{Module}
 use Rattle.soc.specs.declared.record.Soc.{Soc}
-use Rattle.wrapper.specs.Answers.{widthMax, moduleTimesAnswer}
+use Rattle.wrapper.specs.WrapperAnswers.{widthMax, moduleTimesAnswer}
 use Rattle.wrapper.proofs.BestLaws.{time-falls}
 use Rattle.wrapper.proofs.PromisedTimes.{time-most, times-at, wires-at, times-past}
 use Rattle.plan_rules.specs.Plans.{Plan, IsPlan, sum, busyFrom, busies, largest, timeOf}
 use Rattle.plan_rules.specs.Listed.{plans, firstLeast, firstOf, bestPlan, bestOf}
 use Rattle.plan_rules.proofs.ListedLaws.{sound}
-use Rattle.plan.specs.Answers.{limitMax, plannedMax, plannedModule, timeIn, wiresIn}
+use Rattle.plan.specs.PlanAnswers.{limitMax, plannedMax, plannedModule, timeIn, wiresIn}
 use Rattle.wrapper.specs.Maxima.{moduleTimeMax}
 use Rattle.plan_search.specs.Search.{searchBuses, searchModules, rowPlaces, tableTime, IsTable}
 use Rattle.plan.specs.Tables.{tablePlaces, TimesStand, TablesAre}

@@ -1,3 +1,3 @@
-pub mod Answers
+pub mod PlanAnswers
 pub mod Tables
 pub mod Records

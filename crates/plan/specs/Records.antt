@@ -4,12 +4,12 @@ use mathlib.Core.List.{List, [], _∷_}
 use lib.ListN.{getD, take}
 use Rattle.units.specs.Places.{padded}
 use Rattle.soc.specs.declared.planned.Planned.{Planned}
-use Rattle.wrapper.specs.Answers.{wires, cycles, widthMax}
+use Rattle.wrapper.specs.WrapperAnswers.{wires, cycles, widthMax}
 use Rattle.plan_rules.specs.Plans.{busies}
 use Rattle.plan_record.specs.Record.{busPlaces, modulePlaces, noBus, noPlaced, busRecords}
 use Rattle.plan_record.specs.declared.record.Bus.{Bus}
 use Rattle.plan_record.specs.declared.record.PlacedModule.{PlacedModule}
-use Rattle.plan.specs.Answers.{limitMax}
+use Rattle.plan.specs.PlanAnswers.{limitMax}
 use Rattle.plan.specs.declared.tables.Tables.{Tables}
 use Rattle.plan_search.specs.Search.{rowPlaces}
 use Rattle.plan_search.specs.declared.widths.Found.{Found}

@@ -8,10 +8,10 @@ use Rattle.soc.specs.Rules.{goodSoc}
 use Rattle.soc.specs.Planned.{plannedOf, plannedIs}
 use Rattle.soc.specs.declared.planned.Planned.{Planned}
 use Rattle.soc.specs.declared.record.Soc.{Soc}
-use Rattle.wrapper.specs.Answers.{wires, cycles, widthMax}
+use Rattle.wrapper.specs.WrapperAnswers.{wires, cycles, widthMax}
 use Rattle.wrapper.specs.declared.times.Times.{Times}
 use Rattle.plan_search.specs.Search.{rowPlaces}
-use Rattle.plan.specs.Answers.{plannedMax, timeIn, wiresIn}
+use Rattle.plan.specs.PlanAnswers.{plannedMax, timeIn, wiresIn}
 use Rattle.plan.specs.declared.tables.Tables.{Tables}
 
 -- the places of a table

@@ -26,7 +26,7 @@ use wrapper::WIDTH_MAX;
 ghost use mathlib.Core.Path.{_≡_};
 ghost use Prim.Native.Nat.{_≤_};
 ghost use Rattle.plan_search.specs.Search.{tableTime, IsTable};
-ghost use Rattle.plan.specs.Answers.{limitMax, plannedMax, refusedPlan, bestFor, recordOf, planAnswer};
+ghost use Rattle.plan.specs.PlanAnswers.{limitMax, plannedMax, refusedPlan, bestFor, recordOf, planAnswer};
 ghost use Rattle.plan.specs.Records.{IsFound, busesIs, modulesIs};
 ghost use Rattle.plan.specs.Tables.{Plannable};
 

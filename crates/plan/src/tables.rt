@@ -8,7 +8,7 @@ use wrapper::Times;
 ghost use Prim.Native.Nat.{_<_};
 ghost use lib.ListN.{length};
 ghost use Rattle.soc.specs.Planned.{plannedOf};
-ghost use Rattle.plan.specs.Answers.{plannedMax};
+ghost use Rattle.plan.specs.PlanAnswers.{plannedMax};
 ghost use Rattle.plan.specs.Tables.{Plannable, TablesAre, TimesStand};
 
 // A row of places for each planned module, with a place for each width.

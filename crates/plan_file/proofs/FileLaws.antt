@@ -15,7 +15,7 @@ use Rattle.units.specs.Refusals.{accepted}
 use Rattle.buffer.specs.Little.{little}
 use Rattle.buffer.specs.Rows.{each}
 use Rattle.buffer.specs.Puts.{putFront, putEnd, putIn, putAt, Put}
-use Rattle.buffer.specs.Written.{refusedWrite}
+use Rattle.buffer.specs.WriterAnswers.{refusedWrite}
 use Rattle.buffer.proofs.LittleLaws.{little-length}
 use Rattle.buffer.proofs.RowLaws.{each-length, Run, run-more, run-all}
 use Rattle.buffer.proofs.PutLaws.{partFrom, part-rest, part-in, put-is, put-kept, due-all, due-room, due-next, due-put}

@@ -1,4 +1,4 @@
-pub mod AnswerLaws
+pub mod FileAnswerLaws
 pub mod BytesBack
 pub mod FileBack
 pub mod FileLaws

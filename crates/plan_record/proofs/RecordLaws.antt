@@ -12,7 +12,7 @@ use lib.Dec.{eqb}
 use Rattle.units.proofs.TestLaws.{and-holds, within-true}
 use Rattle.units.specs.Places.{allOf, padded}
 use Rattle.units.proofs.PlaceLaws.{all-replicate, padded-length, padded-take, padded-drop}
-use Rattle.wrapper.specs.Answers.{widthMax}
+use Rattle.wrapper.specs.WrapperAnswers.{widthMax}
 use Rattle.wrapper.specs.Maxima.{moduleTimeMax}
 use Rattle.plan_rules.specs.Plans.{Plan, IsPlan, sum, busyFrom, busies, largest, timeOf}
 use Rattle.plan_rules.proofs.BusyLaws.{length-busies, busies-at}

@@ -5,7 +5,7 @@ use mathlib.Core.List.{List, [], _∷_, map}
 use lib.ListN.{length, getD, take, replicate}
 use lib.Dec.{eqb}
 use Rattle.units.specs.Places.{padded}
-use Rattle.wrapper.specs.Answers.{wires, cycles}
+use Rattle.wrapper.specs.WrapperAnswers.{wires, cycles}
 use Rattle.plan_rules.specs.Plans.{Plan, busies, timeOf}
 use Rattle.plan_record.specs.declared.record.Bus.{Bus}
 use Rattle.plan_record.specs.declared.record.PlacedModule.{PlacedModule}

@@ -14,7 +14,7 @@ use Rattle.fields.specs.Bytes.{bytes}
 use Rattle.fields.specs.Lines.{Line}
 use Rattle.fields.specs.Names.{nameMax, nameBytes}
 use Rattle.fields.specs.Readers.{Got, got, Reader, each}
-use Rattle.fields.specs.Written.{decimal}
+use Rattle.fields.specs.WrittenLines.{decimal}
 use Rattle.units.proofs.TestLaws.{clash, and-both}
 use Rattle.soc.specs.Limits.{modulesMax, terminalsMax, chainsMax, testsMax}
 use Rattle.units.specs.Places.{padded, allOf, filled}
@@ -27,7 +27,7 @@ use Rattle.soc.specs.declared.record.Soc.{Soc}
 use Rattle.units.proofs.PlaceLaws.{all-replicate, padded-length, padded-take, padded-drop}
 use Rattle.text_lines.specs.Parts.{Whole, refuses, says, whole}
 use Rattle.text_lines.specs.Kinds.{Name, Options, Shape, Second, nameLine, totalLine, optionsLine, levelLine, secondLine, testsLine, testLine}
-use Rattle.text_lines.specs.Written.{givenField, moduleFields, nameFields, totalFields, optionsFields, levelFields, positionFields, testsFields}
+use Rattle.text_lines.specs.LineFields.{givenField, moduleFields, nameFields, totalFields, optionsFields, levelFields, positionFields, testsFields}
 use Rattle.text.proofs.LineBack.{position-says}
 use Rattle.text.proofs.PartOnly.{after-only}
 use Rattle.text.proofs.HeadOnly.{NameSays, name-only, TotalSays, total-only, options-only}

@@ -23,7 +23,7 @@ use Rattle.soc.specs.declared.record.Soc.{Soc}
 use Rattle.text_lines.specs.Parts.{says, whole}
 use Rattle.text_lines.specs.Kinds.{Name, Options, Shape, Second}
 use Rattle.text_lines.specs.Kinds as kinds
-use Rattle.text_lines.specs.Written.{nameFields, totalFields, optionsFields, levelFields, positionFields, testsFields}
+use Rattle.text_lines.specs.LineFields.{nameFields, totalFields, optionsFields, levelFields, positionFields, testsFields}
 use Rattle.text.proofs.LineBack.{name-back, total-back, options-back, level-back, position-back, tests-back, second-back, test-back, test-back-out}
 use Rattle.text_reader.specs.Lines.{LinesReader, judged, line, noMore}
 use Rattle.text_reader.specs.Reading.{Body, behind, body, tests, moduleOf, moduleTests, moduleRest, moduleLines, modules, socOf, rest, behindName, soc}

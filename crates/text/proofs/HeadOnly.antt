@@ -7,12 +7,12 @@ use mathlib.Core.List.{List, [], _∷_}
 use lib.ListN.{length}
 use Rattle.fields.specs.Bytes.{bytes}
 use Rattle.fields.specs.Names.{nameMax, isName}
-use Rattle.fields.specs.Written.{decimal}
+use Rattle.fields.specs.WrittenLines.{decimal}
 use Rattle.soc.specs.Limits.{modulesMax}
 use Rattle.units.specs.Places.{padded}
 use Rattle.text_lines.specs.Parts.{whole, says}
 use Rattle.text_lines.specs.Kinds.{Name, Options, namePart, nameLine, totalLine, optionsPart, optionsLine}
-use Rattle.text_lines.specs.Written.{flagField}
+use Rattle.text_lines.specs.LineFields.{flagField}
 use Rattle.text.proofs.PartOnly.{closed-only, after-only, key-only, named-only, keyed-only, key-flag-only}
 
 pub record NameSays (fs : List (List ℕ)) (n : Name) : Type 0 where

@@ -11,7 +11,7 @@ use lib.ListN.{length}
 use Rattle.units.specs.declared.FlipFlops.{FlipFlops}
 use Rattle.fields.specs.Bytes.{bytes}
 use Rattle.fields.specs.Readers.{got, each}
-use Rattle.fields.specs.Written.{decimal}
+use Rattle.fields.specs.WrittenLines.{decimal}
 use Rattle.units.proofs.TestLaws.{within-true}
 use Rattle.soc.specs.Limits.{levelMax, terminalsMax, chainsMax, lengthMax}
 use Rattle.units.specs.Places.{padded, allOf}
@@ -19,7 +19,7 @@ use Rattle.soc.specs.Record.{flipFlops}
 use Rattle.soc.specs.Rules.{goodLength, levelRule}
 use Rattle.text_lines.specs.Parts.{whole, says}
 use Rattle.text_lines.specs.Kinds.{Terminals, Shape, level, terminals, chainLength, lengthsPart, chainsPart, levelLine}
-use Rattle.text_lines.specs.Written.{lengthField, moduleFields}
+use Rattle.text_lines.specs.LineFields.{lengthField, moduleFields}
 use Rattle.text.proofs.PartOnly.{closed-only, after-only, key-only, between-only, rule-only, keyed-only, key-due-only}
 
 -- the lengths of chains

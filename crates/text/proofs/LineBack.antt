@@ -15,7 +15,7 @@ use Rattle.units.specs.declared.FlipFlops.{FlipFlops}
 use Rattle.fields.specs.Bytes.{bytes, sameBytes}
 use Rattle.fields.specs.Names.{nameMax, isName}
 use Rattle.fields.specs.Readers.{got, after, each, bytesDue, within, between}
-use Rattle.fields.specs.Written.{decimal}
+use Rattle.fields.specs.WrittenLines.{decimal}
 use Rattle.fields.proofs.BackLaws.{same-bytes-refl, same-bytes-eq}
 use Rattle.units.proofs.TestLaws.{and-both, within-true}
 use Rattle.fields.proofs.WrittenLaws.{allDigits, decimal-back, decimal-plain}
@@ -28,7 +28,7 @@ use Rattle.soc.specs.declared.record.Module.{Module}
 use Rattle.soc.specs.declared.record.Soc.{Soc}
 use Rattle.text_lines.specs.Parts.{whole, closed, says, due, dueIs, flag, givenIs, orNotGiven, name, rule, isNext}
 use Rattle.text_lines.specs.Kinds.{Second, namePart, nameLine, totalLine, optionsPart, optionsLine, level, terminals, chainLength, lengthsPart, chainsPart, levelLine, pairRule, positionPart, totalTests, testsPart, secondPart, secondLine, testsLine, powerPart, uses, testDue, patternsPart, testLine}
-use Rattle.text_lines.specs.Written.{flagField, givenField, lengthField, nameFields, totalFields, optionsFields, levelFields, positionFields, testsFields, powerFields, testFields}
+use Rattle.text_lines.specs.LineFields.{flagField, givenField, lengthField, nameFields, totalFields, optionsFields, levelFields, positionFields, testsFields, powerFields, testFields}
 use Rattle.text.specs.Describes.{Sayable}
 
 -- the parts of a line

@@ -17,7 +17,7 @@ use Rattle.soc.specs.Record.{notGiven}
 use Rattle.soc.specs.declared.record.Test.{Test}
 use Rattle.text_lines.specs.Parts.{Whole, refuses, says, whole, closed, keyDue, orNotGiven, rule, isNext}
 use Rattle.text_lines.specs.Kinds.{Second, secondPart, secondLine, positionPart, testsPart, totalTests, testsLine, testLine}
-use Rattle.text_lines.specs.Written.{givenField, powerFields, testFields}
+use Rattle.text_lines.specs.LineFields.{givenField, powerFields, testFields}
 use Rattle.text_reader.specs.Lines.{judged, line}
 use Rattle.text_reader.specs.Reading.{behind, body}
 use Rattle.text.specs.Describes.{PowerPart}

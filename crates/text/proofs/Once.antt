@@ -15,7 +15,7 @@ use lib.ListN.{length, getD, take, drop, replicate, length-take, length-drop, ta
 use Rattle.units.specs.declared.FlipFlops.{FlipFlops}
 use Rattle.fields.specs.Bytes.{bytes}
 use Rattle.fields.specs.Numbers.{decimalOf}
-use Rattle.fields.specs.Written.{decimal}
+use Rattle.fields.specs.WrittenLines.{decimal}
 use Rattle.units.proofs.TestLaws.{clash, and-both}
 use Rattle.fields.proofs.WrittenLaws.{allDigits, decimal-back, decimal-plain}
 use Rattle.units.specs.Places.{allOf}
@@ -26,7 +26,7 @@ use Rattle.soc.specs.Sized.{SizedModule, Sized}
 use Rattle.soc.specs.declared.record.Test.{Test}
 use Rattle.soc.specs.declared.record.Module.{Module}
 use Rattle.soc.specs.declared.record.Soc.{Soc}
-use Rattle.text_lines.specs.Written.{flagField, givenField, lengthField, nameFields, totalFields, optionsFields, levelFields, positionFields, testsFields, powerFields, testFields}
+use Rattle.text_lines.specs.LineFields.{flagField, givenField, lengthField, nameFields, totalFields, optionsFields, levelFields, positionFields, testsFields, powerFields, testFields}
 use Rattle.text.specs.Describes.{Sayable, PowerPart, TestLine, TestLines, PositionPart, ModuleLines, ModulesLines, spareIn, Spare, Describes, fieldLines}
 use Rattle.text.proofs.LineBack.{all-spare, spare-length}
 use Rattle.text.proofs.SparePlaces.{spare-test, spare-modules, AllSized, sized-first, sized-rest, sized-modules, sized-front, sized-back}

@@ -13,12 +13,12 @@ use Rattle.fields.specs.Bytes.{bytes, sameBytes}
 use Rattle.fields.specs.Names.{isName}
 use Rattle.fields.specs.Numbers.{decimalOf}
 use Rattle.fields.specs.Readers.{Got, no, got, FieldsGot, Reads, Reader, _>>_, after, bytesDue, within, between, keyBetween}
-use Rattle.fields.specs.Written.{decimal}
+use Rattle.fields.specs.WrittenLines.{decimal}
 use Rattle.fields.proofs.BackLaws.{same-bytes-eq, decimal-unique}
 use Rattle.units.proofs.TestLaws.{clash, and-both}
 use Rattle.soc.specs.Record.{notGiven}
 use Rattle.text_lines.specs.Parts.{closed, says, due, dueIs, keyDue, flag, keyFlag, givenIs, orNotGiven, keyGiven, name, rule}
-use Rattle.text_lines.specs.Written.{flagField, givenField}
+use Rattle.text_lines.specs.LineFields.{flagField, givenField}
 use Rattle.text.proofs.LineBack.{mayBe}
 
 -- a line that says a: its reading leaves no field

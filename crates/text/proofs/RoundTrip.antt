@@ -16,7 +16,7 @@ use Rattle.text_reader.specs.declared.read.SocRead.{SocRead}
 use Rattle.text.specs.Describes.{Describes, fieldLines}
 use Rattle.soc.specs.Limits.{textMax}
 use Rattle.text_reader.specs.Reading.{acceptedSoc, soc, answer, unlessBad, readSoc}
-use Rattle.text_writer.specs.Written.{writtenSoc}
+use Rattle.text_writer.specs.WrittenSoc.{writtenSoc}
 use Rattle.text.proofs.Described.{reads-described}
 use Rattle.text.proofs.Once.{described-once}
 use Rattle.text.proofs.WrittenForm.{written-allowed, written-read}

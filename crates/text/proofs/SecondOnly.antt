@@ -9,13 +9,13 @@ use native.Mathlib.Omega.{arith}
 use lib.IntN.{ℤ}
 use Rattle.fields.specs.Bytes.{bytes}
 use Rattle.fields.specs.Readers.{got, FieldsGot}
-use Rattle.fields.specs.Written.{decimal}
+use Rattle.fields.specs.WrittenLines.{decimal}
 use Rattle.units.proofs.TestLaws.{clash}
 use Rattle.soc.specs.Limits.{testsMax, positionMax}
 use Rattle.soc.specs.Rules.{isNotGiven, upTo, goodPosition}
 use Rattle.text_lines.specs.Parts.{whole, says, isNext}
 use Rattle.text_lines.specs.Kinds.{Second, pairRule, positionPart, totalTests, testsPart, secondPart, secondLine, testsLine}
-use Rattle.text_lines.specs.Written.{givenField, moduleFields}
+use Rattle.text_lines.specs.LineFields.{givenField, moduleFields}
 use Rattle.text.proofs.LineBack.{mayBe}
 use Rattle.text.proofs.PartOnly.{closed-only, after-only, rule-only, keyed-only, key-due-only, key-given-only}
 

@@ -10,14 +10,14 @@ use borrow.Author.Tests.{le-leb}
 use lib.IntN.{ℤ}
 use Rattle.fields.specs.Bytes.{bytes}
 use Rattle.fields.specs.Readers.{got, FieldsGot}
-use Rattle.fields.specs.Written.{decimal}
+use Rattle.fields.specs.WrittenLines.{decimal}
 use Rattle.soc.specs.Limits.{patternsMax, powerMax}
 use Rattle.soc.specs.Record.{notGiven}
 use Rattle.soc.specs.Rules.{goodPower, goodTest}
 use Rattle.soc.specs.declared.record.Test.{Test}
 use Rattle.text_lines.specs.Parts.{whole, says}
 use Rattle.text_lines.specs.Kinds.{Uses, powerPart, uses, testDue, patternsPart, testLine}
-use Rattle.text_lines.specs.Written.{flagField, givenField, moduleFields, powerFields, testFields}
+use Rattle.text_lines.specs.LineFields.{flagField, givenField, moduleFields, powerFields, testFields}
 use Rattle.text.specs.Describes.{Sayable, PowerPart}
 use Rattle.text.proofs.LineBack.{may-say}
 use Rattle.text.proofs.PartOnly.{closed-only, after-only, keyed-only, key-due-only, key-flag-only, key-given-only}

@@ -12,7 +12,7 @@ use Rattle.soc.specs.Sized.{Sized}
 use Rattle.soc.specs.declared.record.Soc.{Soc}
 use Rattle.soc.specs.Limits.{textMax}
 use Rattle.text_reader.specs.Reading.{readSoc, acceptedSoc}
-use Rattle.text_writer.specs.Written.{writtenSoc}
+use Rattle.text_writer.specs.WrittenSoc.{writtenSoc}
 use Rattle.text_writer.proofs.SizeLaws.{written-short}
 use Rattle.text.specs.Describes.{Describes, fieldLines}
 use Rattle.text.proofs.Acceptance.{accepted-good, accepted-sized, accepted-describes}

@@ -16,7 +16,7 @@ use Rattle.fields.specs.Fields.{blank}
 use Rattle.fields.specs.Lines.{linesOf, numbered, linesFrom}
 use Rattle.fields.specs.Names.{nameMax, isName}
 use Rattle.fields.specs.Numbers.{more}
-use Rattle.fields.specs.Written.{decimal, joined, writtenLines}
+use Rattle.fields.specs.WrittenLines.{decimal, joined, writtenLines}
 use Rattle.fields.proofs.FormLaws.{printable, printables, bad-written, numbered-written, joined-printable, decimal-printable, name-printable}
 use Rattle.units.proofs.TestLaws.{and-both}
 use Rattle.fields.proofs.WrittenLaws.{noGap, plainField, plainFields, decimal-field, name-field}
@@ -26,10 +26,10 @@ use Rattle.soc.specs.Rules.{none, goodPower, goodPosition, goodTest, goodModule
 use Rattle.soc.specs.declared.record.Test.{Test}
 use Rattle.soc.specs.declared.record.Module.{Module}
 use Rattle.soc.specs.declared.record.Soc.{Soc}
-use Rattle.text_lines.specs.Written.{flagField, givenField, lengthField, nameFields, totalFields, optionsFields, levelFields, positionFields, testsFields, powerFields, testFields}
+use Rattle.text_lines.specs.LineFields.{flagField, givenField, lengthField, nameFields, totalFields, optionsFields, levelFields, positionFields, testsFields, powerFields, testFields}
 use Rattle.text.proofs.LineBack.{not-given, good-test, power-says, position-says}
 use Rattle.text.specs.Describes.{PowerPart, TestLines, PositionPart, ModuleLines, ModulesLines, Describes, fieldsIn, fieldLines}
-use Rattle.text_writer.specs.Written.{testLines, positionLines, moduleLinesOf, moduleLinesFrom, socLines, writtenSoc}
+use Rattle.text_writer.specs.WrittenSoc.{testLines, positionLines, moduleLinesOf, moduleLinesFrom, socLines, writtenSoc}
 use Rattle.text.proofs.SparePlaces.{good-soc, good-spare}
 use Rattle.soc.proofs.GoodSocLaws.{module-figures, soc-figures}
 

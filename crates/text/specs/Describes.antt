@@ -17,7 +17,7 @@ use Rattle.soc.specs.Rules as rules
 use Rattle.soc.specs.declared.record.Test.{Test}
 use Rattle.soc.specs.declared.record.Module.{Module}
 use Rattle.soc.specs.declared.record.Soc.{Soc}
-use Rattle.text_lines.specs.Written.{nameFields, totalFields, optionsFields, levelFields, positionFields, testsFields, powerFields, testFields}
+use Rattle.text_lines.specs.LineFields.{nameFields, totalFields, optionsFields, levelFields, positionFields, testsFields, powerFields, testFields}
 
 -- what can stand for X, Y or Power in a text: a number from 0 on, or "-1, which means not given"
 abbrev pub Sayable : ℤ → Type 0

@@ -7,7 +7,7 @@ use lib.ListN.{drop}
 use Rattle.fields.specs.Bytes.{bytes}
 use Rattle.fields.specs.Lines.{Line}
 use Rattle.text_lines.specs.Parts.{isNext}
-use Rattle.text_lines.specs.Written.{moduleFields}
+use Rattle.text_lines.specs.LineFields.{moduleFields}
 
 -- "`Module` m `X` x `Y` y", both -1
 abbrev pub positionOut : ℕ → List (List ℕ)

@@ -21,7 +21,7 @@ use Rattle.units.specs.Places.{padded}
 use Rattle.units.proofs.PlaceLaws.{padded-set}
 use Rattle.text_lines.specs.Parts.{refuses, says, closed, whole, name}
 use Rattle.text_lines.specs.Kinds.{namePart, totalLine}
-use Rattle.text_lines.specs.Answers.{nameAnswer}
+use Rattle.text_lines.specs.LineAnswers.{nameAnswer}
 use Rattle.text_lines.specs.declared.part.Verdict.the-variants.{Taken}
 
 module _ {A : Type 0} where

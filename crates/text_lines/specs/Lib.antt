@@ -1,4 +1,4 @@
 pub mod Parts
 pub mod Kinds
-pub mod Answers
-pub mod Written
+pub mod LineAnswers
+pub mod LineFields

@@ -14,7 +14,7 @@ ghost use Rattle.fields.specs.Names.{nameMax};
 ghost use Rattle.units.specs.Places.{padded};
 ghost use Rattle.text_lines.specs.Parts.{refuses, whole};
 ghost use Rattle.text_lines.specs.Kinds.{namePart, nameLine, totalLine, optionsPart, optionsLine};
-ghost use Rattle.text_lines.specs.Answers.{nameAnswer, countAnswer, optionsAnswer};
+ghost use Rattle.text_lines.specs.LineAnswers.{nameAnswer, countAnswer, optionsAnswer};
 
 pub struct NameLine {
     pub verdict: Verdict,

@@ -15,7 +15,7 @@ ghost use Rattle.fields.specs.Readers.{each, figureIs};
 ghost use Rattle.text_lines.specs.Parts.{refuses, whole};
 ghost use Rattle.text_lines.specs.Kinds.{level, terminals, chainLength, chainsPart, lengthsPart, levelLine};
 ghost use Rattle.soc.specs.Limits.{chainsMax};
-ghost use Rattle.text_lines.specs.Answers.{levelAnswer, termsIs, lengthsIs, SpareBehind};
+ghost use Rattle.text_lines.specs.LineAnswers.{levelAnswer, termsIs, lengthsIs, SpareBehind};
 
 pub struct LevelLine {
     pub verdict: Verdict,

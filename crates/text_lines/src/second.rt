@@ -11,7 +11,7 @@ ghost use lib.ListN.{drop};
 ghost use Rattle.fields.specs.Fields.{fieldsOf};
 ghost use Rattle.text_lines.specs.Parts.{whole};
 ghost use Rattle.text_lines.specs.Kinds.{pairRule, positionPart, totalTests, testsPart, secondPart, secondLine, testsLine};
-ghost use Rattle.text_lines.specs.Answers.{countAnswer, secondAnswer};
+ghost use Rattle.text_lines.specs.LineAnswers.{countAnswer, secondAnswer};
 
 pub enum SecondLine {
     No(u8),

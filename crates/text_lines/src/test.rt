@@ -13,7 +13,7 @@ ghost use Rattle.fields.specs.Fields.{fieldsOf};
 ghost use Rattle.fields.specs.Readers.{pastIs};
 ghost use Rattle.text_lines.specs.Parts.{whole, givenFigure};
 ghost use Rattle.text_lines.specs.Kinds.{testDue, uses, powerPart, patternsPart, testLine};
-ghost use Rattle.text_lines.specs.Answers.{usesIs, testAnswer};
+ghost use Rattle.text_lines.specs.LineAnswers.{usesIs, testAnswer};
 
 pub enum TestLine {
     No(u8),

@@ -1,4 +1,4 @@
-pub mod AnswerLaws
+pub mod ReadAnswerLaws
 pub mod StepLaws
 pub mod CountLaws
 pub mod ModulesLaws

@@ -11,8 +11,8 @@ use lib.Signed.{ltZ, nonNeg}
 use mir.Syntax.{w32, w64}
 use mir.Val.{Fits, SFits, boolByte}
 use Rattle.fields.specs.Bytes.{bytes}
-use Rattle.fields.specs.Written.{digitsOf, decimal}
-use Rattle.text_lines.specs.Written.{flagField, givenField}
+use Rattle.fields.specs.WrittenLines.{digitsOf, decimal}
+use Rattle.text_lines.specs.LineFields.{flagField, givenField}
 
 pub flag-length : (b : Bool) → length (flagField b) ≡ 1
 unfolding flagField

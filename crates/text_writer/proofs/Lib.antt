@@ -1,6 +1,6 @@
-pub mod AnswerLaws
+pub mod SocWriterLaws
 pub mod FigureLaws
-pub mod GoodLaws
+pub mod GoodSocCounts
 pub mod LineLaws
 pub mod RunLaws
 pub mod SizeLaws

@@ -5,13 +5,13 @@ use mathlib.Core.Bool.{Bool, true, false, cond}
 use mathlib.Core.List.{List, [], _∷_, _++_, map, append-assoc}
 use Rattle.units.specs.declared.FlipFlops.{FlipFlops}
 use Rattle.fields.specs.Bytes.{bytes, lf, space}
-use Rattle.fields.specs.Written.{decimal, joined, writtenLines}
+use Rattle.fields.specs.WrittenLines.{decimal, joined, writtenLines}
 use Rattle.soc.specs.Record.{nameOf, chainsOf}
 use Rattle.soc.specs.declared.record.Test.{Test}
 use Rattle.soc.specs.declared.record.Module.{Module}
 use Rattle.soc.specs.declared.record.Soc.{Soc}
-use Rattle.text_lines.specs.Written.{flagField, givenField, lengthField, nameFields, totalFields, optionsFields, levelFields, positionFields, testsFields, powerFields, testFields}
-use Rattle.text_writer.specs.Written.{positionLines, spacedLengths, powerEnd}
+use Rattle.text_lines.specs.LineFields.{flagField, givenField, lengthField, nameFields, totalFields, optionsFields, levelFields, positionFields, testsFields, powerFields, testFields}
+use Rattle.text_writer.specs.WrittenSoc.{positionLines, spacedLengths, powerEnd}
 
 -- fields parted by single spaces, with t behind the last
 unfoldable joinedWith : List (List ℕ) → List ℕ → List ℕ

@@ -10,14 +10,14 @@ use lib.ListN.{length, getD, take, drop, length-take, drop-of-length-le}
 use lib.Seq.{drop-cons, getD-take}
 use Rattle.units.specs.declared.FlipFlops.{FlipFlops}
 use Rattle.fields.specs.Bytes.{bytes}
-use Rattle.fields.specs.Written.{decimal, writtenLines}
+use Rattle.fields.specs.WrittenLines.{decimal, writtenLines}
 use Rattle.fields.proofs.LinesWritten.{written-append}
 use Rattle.soc.specs.Record.{modulesOf, testsOf}
 use Rattle.soc.specs.declared.record.Test.{Test}
 use Rattle.soc.specs.declared.record.Module.{Module}
 use Rattle.soc.specs.declared.record.Soc.{Soc}
-use Rattle.text_lines.specs.Written.{lengthField, nameFields, totalFields, optionsFields, levelFields, testsFields, powerFields, testFields}
-use Rattle.text_writer.specs.Written.{testLines, positionLines, moduleLinesOf, moduleLinesFrom, socLines, writtenSoc, spacedLengths}
+use Rattle.text_lines.specs.LineFields.{lengthField, nameFields, totalFields, optionsFields, levelFields, testsFields, powerFields, testFields}
+use Rattle.text_writer.specs.WrittenSoc.{testLines, positionLines, moduleLinesOf, moduleLinesFrom, socLines, writtenSoc, spacedLengths}
 
 -- of the first n of a list, those from i on: the next before the others, and none at the end
 module _ {A : Type 0} (n : ℕ) (l : List A) (i : ℕ) where

@@ -18,9 +18,9 @@ use Rattle.soc.specs.Rules.{isNotGiven, upTo, goodLength, goodPower, goodPositi
 use Rattle.soc.specs.declared.record.Test.{Test}
 use Rattle.soc.specs.declared.record.Module.{Module}
 use Rattle.soc.specs.declared.record.Soc.{Soc}
-use Rattle.text_lines.specs.Written.{givenField, lengthField, nameFields, totalFields, optionsFields, levelFields, positionFields, testsFields, powerFields, testFields}
-use Rattle.fields.specs.Written.{writtenLines}
-use Rattle.text_writer.specs.Written.{testLines, positionLines, moduleLinesOf, moduleLinesFrom, socLines, writtenSoc}
+use Rattle.text_lines.specs.LineFields.{givenField, lengthField, nameFields, totalFields, optionsFields, levelFields, positionFields, testsFields, powerFields, testFields}
+use Rattle.fields.specs.WrittenLines.{writtenLines}
+use Rattle.text_writer.specs.WrittenSoc.{testLines, positionLines, moduleLinesOf, moduleLinesFrom, socLines, writtenSoc}
 use Rattle.text_writer.proofs.FigureLaws.{flag-length}
 use Rattle.soc.proofs.GoodSocLaws.{TestFigures, test-figures, ModuleFigures, module-figures, SocFigures, soc-figures}
 

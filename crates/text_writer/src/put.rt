@@ -1,6 +1,6 @@
 // A flag, or a figure that may be -1, put into a buffer at a place behind its key (document 01, "The SOC text": the written form). The
 // answer is the place behind it.
-ghost use Rattle.text_lines.specs.Written.{flagField, givenField};
+ghost use Rattle.text_lines.specs.LineFields.{flagField, givenField};
 ghost use Rattle.text_writer.specs.Puts.{PutKey};
 
 pub(crate) fn put_flag(buf: &mut [u8], at: usize, w: &[u8], b: bool) -> usize

@@ -14,8 +14,8 @@ ghost use Prim.Native.Nat.{_+_, _≤_};
 ghost use lib.ListN.{length, take};
 ghost use Rattle.soc.specs.Limits.{modulesMax, chainsMax, testsMax};
 ghost use Rattle.soc.specs.Rules.{goodSoc};
-ghost use Rattle.fields.specs.Written.{writtenLines};
-ghost use Rattle.text_writer.specs.Written.{testLines, moduleLinesOf, moduleLinesFrom, writtenSoc, writeAnswer, writeLeaves, Countable};
+ghost use Rattle.fields.specs.WrittenLines.{writtenLines};
+ghost use Rattle.text_writer.specs.WrittenSoc.{testLines, moduleLinesOf, moduleLinesFrom, writtenSoc, writeAnswer, writeLeaves, Countable};
 ghost use Rattle.buffer.specs.Puts.{Put};
 
 // The lines of the first n tests of module m.

@@ -9,10 +9,10 @@ ghost use mathlib.Core.Bool.{cond};
 ghost use mathlib.Core.List.{[], _∷_};
 ghost use lib.ListN.{length, take};
 ghost use Rattle.soc.specs.Limits.{chainsMax};
-ghost use Rattle.text_lines.specs.Written.{nameFields, totalFields, optionsFields, levelFields, testsFields, powerFields, testFields};
+ghost use Rattle.text_lines.specs.LineFields.{nameFields, totalFields, optionsFields, levelFields, testsFields, powerFields, testFields};
 ghost use Rattle.fields.specs.Names.{nameMax};
-ghost use Rattle.fields.specs.Written.{writtenLines};
-ghost use Rattle.text_writer.specs.Written.{positionLines, spacedLengths, powerEnd};
+ghost use Rattle.fields.specs.WrittenLines.{writtenLines};
+ghost use Rattle.text_writer.specs.WrittenSoc.{positionLines, spacedLengths, powerEnd};
 ghost use Rattle.buffer.specs.Puts.{Put};
 
 // `SocName` name, `TotalModules` n, `Options Power` 0/1 `XY` 0/1.

@@ -23,7 +23,7 @@ use Rattle.soc.specs.declared.record.Soc.{Soc}
 use Rattle.units.proofs.PlaceLaws.{padded-at}
 use Rattle.wrapper.specs.Fit.{longest, total, longestAfter}
 use Rattle.wrapper.specs.Chains.{noChain, numberedFrom, usedChains, thread, empty, threaded}
-use Rattle.wrapper.specs.Answers.{widthMax}
+use Rattle.wrapper.specs.WrapperAnswers.{widthMax}
 use Rattle.wrapper.specs.Held.{front, orderOf, chainLengths, frontLengths, Measured, Threadable}
 use Rattle.wrapper.specs.Scans.{withChains, scanOf, scanWith, scanIf, Short, Kept}
 use Rattle.wrapper.specs.declared.chains.Chain.{Chain}

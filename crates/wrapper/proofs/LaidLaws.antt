@@ -8,7 +8,7 @@ use lib.ListN.{length, getD, take, drop, replicate, length-map, take-append-drop
 use lib.Seq.{drop-at}
 use Rattle.units.specs.Places.{padded}
 use Rattle.wrapper.specs.Fit.{longest}
-use Rattle.wrapper.specs.Answers.{widthMax, gained}
+use Rattle.wrapper.specs.WrapperAnswers.{widthMax, gained}
 
 pub gained-at : (xs ys : List ℕ) (i : ℕ) → i < length xs → i < length ys → getD (gained xs ys) i 0 ≡ getD ys i 0 - getD xs i 0
 unfolding gained

@@ -21,7 +21,7 @@ use Rattle.wrapper.specs.Cells.{evened}
 use Rattle.wrapper.specs.Fit.{longest, total, goes, placed, withCells, longestAfter}
 use Rattle.wrapper.specs.Chains.{numberedFrom, ordered, sumOver, howMany, usedChains, Threaded, thread, empty, threaded}
 use Rattle.wrapper.specs.Times.{inputCells, outputCells, scanIn, scanOut}
-use Rattle.wrapper.specs.Answers.{widthMax, gained, layoutOf}
+use Rattle.wrapper.specs.WrapperAnswers.{widthMax, gained, layoutOf}
 use Rattle.wrapper.specs.Laid.{lengthsIn, added}
 use Rattle.wrapper.specs.declared.chains.Chain.{Chain}
 use Rattle.wrapper.proofs.FitLaws.{goes-below, placed-length, cells-length, cells-grow, total-cells}

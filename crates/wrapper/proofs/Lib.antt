@@ -1,4 +1,4 @@
-pub mod AnswerLaws
+pub mod WrapperAnswerLaws
 pub mod BestLaws
 pub mod CellLaws
 pub mod ChainLaws

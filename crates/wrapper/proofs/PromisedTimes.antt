@@ -21,8 +21,8 @@ use Rattle.soc.specs.declared.record.Soc.{Soc}
 use Rattle.units.proofs.PlaceLaws.{padded-at}
 use Rattle.wrapper.specs.Times.{Best, moduleBest}
 use Rattle.wrapper.specs.Maxima.{moduleTimeMax}
-use Rattle.wrapper.specs.Answers.{widthMax, wires, cycles, moduleAt, askedModule, moduleTimeOf, moduleTimeAnswer}
-use Rattle.wrapper.specs.Answers.{bestsFrom, cyclesIn, wiresIn, timesOf, moduleTimesAnswer}
+use Rattle.wrapper.specs.WrapperAnswers.{widthMax, wires, cycles, moduleAt, askedModule, moduleTimeOf, moduleTimeAnswer}
+use Rattle.wrapper.specs.WrapperAnswers.{bestsFrom, cyclesIn, wiresIn, timesOf, moduleTimesAnswer}
 use Rattle.wrapper.proofs.BestLaws.{time-at, planned-least, good-patterns}
 use Rattle.wrapper.proofs.KeptLaws.{good-parts, good-kept}
 use Rattle.wrapper.proofs.TimeLaws.{module-most}

@@ -23,7 +23,7 @@ use Rattle.units.proofs.PlaceLaws.{padded-set}
 use Rattle.wrapper.specs.Chains.{usedChains}
 use Rattle.wrapper.specs.Times.{scanIn, scanOut, testCycles, testTime, sumTimes, figure, Best, bestTo, moduleBest}
 use Rattle.wrapper.specs.Maxima.{testTimeMax, moduleTimeMax}
-use Rattle.wrapper.specs.Answers.{widthMax, askedModule, askedTest, bestsFrom}
+use Rattle.wrapper.specs.WrapperAnswers.{widthMax, askedModule, askedTest, bestsFrom}
 use Rattle.wrapper.specs.Held.{chainLengths, noAsked, isAsked, foundModule, foundTest}
 use Rattle.wrapper.specs.Scans.{scanOf, scanWith, scanIf, scanNeeded, Short, Kept, plannedWith, plannedCycles, sumScans}
 use Rattle.wrapper.specs.declared.times.Scan.{Scan}

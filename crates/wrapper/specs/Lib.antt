@@ -3,7 +3,7 @@ pub mod Cells
 pub mod Chains
 pub mod Times
 pub mod Maxima
-pub mod Answers
+pub mod WrapperAnswers
 pub mod Laid
 pub mod Held
 pub mod Scans

@@ -5,7 +5,7 @@ use super::maxima::WIDTH_PLACES;
 ghost use mathlib.Core.Path.{_≡_};
 ghost use Prim.Native.Nat.{_+_, _≤_, _<_};
 ghost use lib.ListN.{length, replicate};
-ghost use Rattle.wrapper.specs.Answers.{widthMax};
+ghost use Rattle.wrapper.specs.WrapperAnswers.{widthMax};
 ghost use Rattle.wrapper.specs.Fit.{longest, total, better, goes, placed, withCells};
 ghost use Rattle.wrapper.specs.Cells.{evened};
 ghost use Rattle.wrapper.specs.Scans.{withChains};

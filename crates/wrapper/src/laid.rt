@@ -20,7 +20,7 @@ ghost use Rattle.units.specs.Places.{padded};
 ghost use Rattle.soc.specs.Record.{flipFlops};
 ghost use Rattle.wrapper.specs.Fit.{longest, withCells};
 ghost use Rattle.wrapper.specs.Chains.{threaded};
-ghost use Rattle.wrapper.specs.Answers.{widthMax, gained, layoutOf, noLayout, layoutAnswer};
+ghost use Rattle.wrapper.specs.WrapperAnswers.{widthMax, gained, layoutOf, noLayout, layoutAnswer};
 ghost use Rattle.wrapper.specs.Scans.{Kept};
 
 // For each wrapper chain its flip-flops, input cells and output cells; for each internal chain its wrapper chain from 1. Entries past the

@@ -16,7 +16,7 @@ ghost use Rattle.units.specs.Places.{anyOf};
 ghost use Rattle.soc.specs.Limits.{patternsMax};
 ghost use Rattle.soc.specs.Record.{testsOf};
 ghost use Rattle.wrapper.specs.Times.{testCycles, testTime, figure};
-ghost use Rattle.wrapper.specs.Answers.{widthMax, timesOf};
+ghost use Rattle.wrapper.specs.WrapperAnswers.{widthMax, timesOf};
 ghost use Rattle.wrapper.specs.Held.{Measured};
 ghost use Rattle.wrapper.specs.Scans.{scanOf, Short, Kept, plannedWith, sumScans, plannedCycles, scanIf, plainOf};
 

@@ -2,7 +2,7 @@
 use borrow.Author.Needs.{needs}
 use native.Mathlib.Omega.{arith}
 use mathlib.Core.Path.{_≡_, ap, _∙_}
-use Rattle.plan.specs.Answers.{planAnswer}
+use Rattle.plan.specs.PlanAnswers.{planAnswer}
 use Rattle.c_forms.specs.SocForm.{socIn}
 use Rattle.c_forms.specs.PlanForm.{planBytes}
 use Rattle.c_interface.proofs.CodeLaws.{refused-given, whole-given}

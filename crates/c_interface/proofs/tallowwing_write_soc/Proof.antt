@@ -1,7 +1,7 @@
 -- `c_interface::tallowwing_write_soc` meets its contract: what the writer answers for the record in the bytes, as a code. Assumes nothing.
 use borrow.Author.Needs.{needs}
 use mathlib.Core.Path.{ap, _∙_}
-use Rattle.text_writer.specs.Written.{writeAnswer, writeLeaves}
+use Rattle.text_writer.specs.WrittenSoc.{writeAnswer, writeLeaves}
 use Rattle.c_interface.specs.Codes.{code}
 use Rattle.c_interface.proofs.tallowwing_write_soc.Statement.{statement}
 use Rattle.c_interface.proofs.tallowwing_write_soc.Tie as tie

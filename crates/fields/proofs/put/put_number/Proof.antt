@@ -3,7 +3,7 @@ use borrow.Author.Needs.{needs}
 use native.Mathlib.Omega.{arith}
 use mathlib.Core.Path.{ap}
 use lib.ListN.{length, length-drop}
-use Rattle.fields.specs.Written.{decimal}
+use Rattle.fields.specs.WrittenLines.{decimal}
 use Rattle.buffer.proofs.PutLaws.{partFrom, part-rest, count-most, end-none, in-none, part-end, part-in}
 use Rattle.fields.proofs.put.put_number.Statement.{statement}
 use Rattle.fields.proofs.put.put_number.Tie as tie

@@ -10,7 +10,7 @@ use Rattle.fields.specs.Numbers.{decimalOf, cut}
 use Rattle.fields.specs.Readers.{between, within}
 use Rattle.fields.specs.declared.number.Number.the-variants.{Value}
 use Rattle.fields.proofs.FieldLaws.{FieldIs, next-field, next-end, next-nothing}
-use Rattle.fields.proofs.AnswerLaws.{number-no, number-got}
+use Rattle.fields.proofs.PlaceAnswerLaws.{number-no, number-got}
 use Rattle.fields.proofs.ReaderLaws.{within-bad, within-below, within-above, within-got}
 use Rattle.fields.proofs.reader.figure_at.Statement.{statement}
 use Rattle.fields.proofs.reader.figure_at.Tie as tie

@@ -1,7 +1,7 @@
 -- `fields::reader::key_figure` meets its contract. The definition goes on behind the keyword as the code does. Assumes nothing.
 use borrow.Author.Needs.{needs}
 use mathlib.Core.Path.{sym, _∙_}
-use Rattle.fields.proofs.AnswerLaws.{key-number-no, key-number-past}
+use Rattle.fields.proofs.PlaceAnswerLaws.{key-number-no, key-number-past}
 use Rattle.fields.proofs.reader.key_figure.Statement.{statement}
 use Rattle.fields.proofs.reader.key_figure.Tie as tie
 

@@ -7,7 +7,7 @@ use lib.ListN.{drop}
 use Rattle.fields.specs.Fields.{fieldsOf, fieldEnd}
 use Rattle.fields.specs.Readers.{bytesDue}
 use Rattle.fields.proofs.FieldLaws.{FieldIs, next-field, next-end, next-nothing}
-use Rattle.fields.proofs.AnswerLaws.{word-no, word-got}
+use Rattle.fields.proofs.PlaceAnswerLaws.{word-no, word-got}
 use Rattle.fields.proofs.reader.past_word.Statement.{statement}
 use Rattle.fields.proofs.reader.past_word.Tie as tie
 

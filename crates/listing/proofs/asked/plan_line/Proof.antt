@@ -4,7 +4,7 @@ use mathlib.Core.Path.{_≡_, sym, ap, _∙_}
 use Rattle.fields.specs.Bytes.{bytes}
 use Rattle.fields.specs.Fields.{fieldsOf}
 use Rattle.fields.specs.Readers.{bytesDue, pastIs}
-use Rattle.fields.proofs.AnswerLaws.{word-is}
+use Rattle.fields.proofs.PlaceAnswerLaws.{word-is}
 use Rattle.fields.proofs.ReaderLaws.{after-no, after-got}
 use Rattle.text_lines.specs.Parts.{closed}
 use Rattle.text_lines.proofs.HeadLaws.{closed-no}

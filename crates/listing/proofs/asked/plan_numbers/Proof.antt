@@ -6,7 +6,7 @@ use mathlib.Core.Path.{_≡_, sym, ap, _∙_}
 use lib.ListN.{drop}
 use Rattle.fields.specs.Fields.{fieldsOf}
 use Rattle.fields.specs.Readers.{got, between, figureIs}
-use Rattle.fields.proofs.AnswerLaws.{number-is}
+use Rattle.fields.proofs.PlaceAnswerLaws.{number-is}
 use Rattle.fields.proofs.ReaderLaws.{after-no, after-got, between-within}
 use Rattle.text_lines.proofs.HeadLaws.{closed-no, closed-blank, closed-more}
 use Rattle.listing.specs.Asked.{askedMax, planNumbers, askedAnswer}

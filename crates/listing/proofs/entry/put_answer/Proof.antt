@@ -3,7 +3,7 @@
 use borrow.Author.Needs.{needs}
 use native.Mathlib.Omega.{arith}
 use mathlib.Core.Path.{ap}
-use Rattle.fields.specs.Written.{writtenLines}
+use Rattle.fields.specs.WrittenLines.{writtenLines}
 use Rattle.soc.proofs.GoodSocLaws.{soc-figures}
 use Rattle.plan_record.proofs.GoodPlanLaws.{GoodFigures, good-figures}
 use Rattle.plan.proofs.PlannerLaws.{planner-answers-good, planner-accepts-good}

@@ -11,7 +11,7 @@ use Rattle.fields.specs.declared.line.OneLine.{OneLine}
 use Rattle.buffer.proofs.PutLaws.{partFrom, part-rest}
 use Rattle.text_lines.specs.Parts.{refuses, says}
 use Rattle.text_reader.specs.Reading.{readSoc}
-use Rattle.fields.specs.Written.{writtenLines}
+use Rattle.fields.specs.WrittenLines.{writtenLines}
 use Rattle.listing.specs.Asked.{Wanted, asked, textBehind}
 use Rattle.listing.specs.Listing.{refusalFields, textPrinted, listingMax}
 use Rattle.listing.specs.Room.{refusalRoom}

@@ -2,7 +2,7 @@
 use borrow.Author.Needs.{needs}
 use native.Mathlib.Omega.{arith}
 use mathlib.Core.Path.{ap}
-use Rattle.fields.specs.Written.{writtenLines}
+use Rattle.fields.specs.WrittenLines.{writtenLines}
 use Rattle.listing.specs.Listing.{listingMax}
 use Rattle.listing.specs.Room.{refusalRoom}
 use Rattle.listing.proofs.ListingLaws.{put-as, text-refused, text-read}

@@ -9,7 +9,7 @@ use lib.ListN.{length, getD, take, length-map, length-append}
 use Rattle.buffer.specs.Puts.{Put}
 use Rattle.buffer.proofs.PutLaws.{put-none, put-then}
 use Rattle.plan_record.specs.Record.{noPlaced}
-use Rattle.fields.specs.Written.{writtenLines}
+use Rattle.fields.specs.WrittenLines.{writtenLines}
 use Rattle.listing.specs.Listing.{moduleFields, moduleLines}
 use Rattle.listing.specs.Room.{moduleRoom}
 use Rattle.listing.proofs.LineLaws.{modulesText, modules-more}

@@ -6,7 +6,7 @@ use Prim.Native.Nat.{_+_, _≤_}
 use mathlib.Core.List.{[], _∷_}
 use lib.ListN.{length}
 use Rattle.fields.specs.Bytes.{bytes}
-use Rattle.fields.specs.Written.{decimal, writtenLines}
+use Rattle.fields.specs.WrittenLines.{decimal, writtenLines}
 use Rattle.buffer.proofs.PutLaws.{due-all, due-key, put-is}
 use Rattle.listing.specs.Listing.{refusalFields}
 use Rattle.listing.specs.Room.{refusalRoom}

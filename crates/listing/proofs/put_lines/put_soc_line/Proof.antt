@@ -8,7 +8,7 @@ use mathlib.Core.List.{[], _∷_}
 use lib.ListN.{length, length-map}
 use lib.Seq.{length-take-le}
 use Rattle.fields.specs.Names.{nameMax}
-use Rattle.fields.specs.Written.{writtenLines}
+use Rattle.fields.specs.WrittenLines.{writtenLines}
 use Rattle.listing.specs.Listing.{socFields}
 use Rattle.listing.specs.Room.{nameRoom, countRoom}
 use Rattle.listing.proofs.LineLaws.{soc-size, soc-front}

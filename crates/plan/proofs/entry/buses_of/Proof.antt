@@ -8,7 +8,7 @@ use lib.ListN.{length, take}
 use Rattle.units.specs.Places.{padded}
 use Rattle.units.specs.declared.Cycles.{Cycles}
 use Rattle.units.proofs.PlaceLaws.{padded-none}
-use Rattle.wrapper.specs.Answers.{cycles}
+use Rattle.wrapper.specs.WrapperAnswers.{cycles}
 use Rattle.plan_search.specs.Search.{searchBuses, tableTime}
 use Rattle.plan_record.specs.Record.{busPlaces, noBus}
 use Rattle.plan.proofs.EntryLaws.{busFront, front-none, front-fill, front-all}

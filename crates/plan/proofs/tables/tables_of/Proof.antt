@@ -9,7 +9,7 @@ use Rattle.soc.specs.Limits.{modulesMax}
 use Rattle.soc.specs.Planned.{plannedOf}
 use Rattle.wrapper.proofs.KeptLaws.{good-count}
 use Rattle.units.proofs.PlaceLaws.{padded-at}
-use Rattle.wrapper.specs.Answers.{moduleTimesAnswer}
+use Rattle.wrapper.specs.WrapperAnswers.{moduleTimesAnswer}
 use Rattle.plan.specs.Tables.{TablesAre}
 use Rattle.plan.proofs.TableLaws.{planned-number, tables-none, tables-more}
 use Rattle.plan.proofs.tables.tables_of.Statement.{statement}

@@ -8,9 +8,9 @@ use mathlib.Core.List.{List}
 use native.Mathlib.Omega.{arith}
 use lib.Seq.{getD-set-same, getD-set-other}
 use lib.ListN.{length, length-set, length-map, getD, set}
-use Rattle.wrapper.specs.Answers as answers
+use Rattle.wrapper.specs.WrapperAnswers as answers
 use Rattle.plan_search.specs.Search.{rowPlaces}
-use Rattle.plan.specs.Answers.{plannedMax}
+use Rattle.plan.specs.PlanAnswers.{plannedMax}
 use Rattle.plan.specs.Tables.{tablePlaces}
 use Rattle.plan.proofs.tables.with_times.Statement.{statement}
 use Rattle.plan.proofs.tables.with_times.Tie as tie

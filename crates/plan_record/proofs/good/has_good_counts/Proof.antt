@@ -5,7 +5,7 @@ use mathlib.Core.Path.{_≡_, sym, _∙_}
 use mathlib.Core.Bool.{_&&_}
 use Rattle.units.proofs.TestLaws.{within-true, below-false, above-false}
 use Rattle.units.proofs.TestLaws.{and-stops, and-goes}
-use Rattle.wrapper.specs.Answers.{widthMax}
+use Rattle.wrapper.specs.WrapperAnswers.{widthMax}
 use Rattle.plan_record.specs.Record.{busPlaces, modulePlaces}
 use Rattle.plan_record.specs.Good.{within, goodCounts}
 use Rattle.plan_record.proofs.good.has_good_counts.Statement.{statement}

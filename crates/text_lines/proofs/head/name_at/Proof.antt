@@ -9,7 +9,7 @@ use mathlib.Core.Bool.{true}
 use lib.ListN.{length, length-take, length-drop}
 use Rattle.fields.specs.Fields.{part}
 use Rattle.fields.specs.Names.{isName}
-use Rattle.text_lines.specs.Answers.{nameAnswer}
+use Rattle.text_lines.specs.LineAnswers.{nameAnswer}
 use Rattle.text_lines.proofs.HeadLaws.{closed-no, closed-blank, closed-more, name-no, name-got, name-short, name-says}
 use Rattle.text_lines.proofs.head.name_at.Statement.{statement}
 use Rattle.text_lines.proofs.head.name_at.Tie as tie

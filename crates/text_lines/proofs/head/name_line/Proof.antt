@@ -6,12 +6,12 @@ use mathlib.Core.Path.{_≡_, sym, ap, _∙_}
 use lib.ListN.{drop}
 use Rattle.fields.specs.Fields.{fieldsOf}
 use Rattle.fields.specs.Readers.{pastIs}
-use Rattle.fields.proofs.AnswerLaws.{word-is}
+use Rattle.fields.proofs.PlaceAnswerLaws.{word-is}
 use Rattle.fields.proofs.FieldLaws.{FieldIs, next-field, next-nothing}
 use Rattle.fields.proofs.ReaderLaws.{after-no, after-got}
 use Rattle.text_lines.specs.Kinds.{namePart, nameLine}
 use Rattle.text_lines.specs.Parts.{closed}
-use Rattle.text_lines.specs.Answers.{nameAnswer}
+use Rattle.text_lines.specs.LineAnswers.{nameAnswer}
 use Rattle.text_lines.proofs.HeadLaws.{closed-no, name-none}
 use Rattle.text_lines.proofs.head.name_line.Statement.{statement}
 use Rattle.text_lines.proofs.head.name_line.Tie as tie

@@ -9,7 +9,7 @@ use Rattle.fields.specs.Readers.{got}
 use Rattle.fields.proofs.ReaderLaws.{after-no, after-got}
 use Rattle.text_lines.specs.Parts.{keyFlag, flagIs}
 use Rattle.text_lines.specs.Kinds.{optionsPart}
-use Rattle.text_lines.specs.Answers.{optionsAnswer}
+use Rattle.text_lines.specs.LineAnswers.{optionsAnswer}
 use Rattle.text_lines.proofs.HeadLaws.{closed-no, closed-blank, closed-more}
 use Rattle.text_lines.proofs.head.options_at.Statement.{statement}
 use Rattle.text_lines.proofs.head.options_at.Tie as tie

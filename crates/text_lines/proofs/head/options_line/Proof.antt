@@ -2,11 +2,11 @@
 use borrow.Author.Needs.{needs}
 use mathlib.Core.Path.{sym, ap, _∙_}
 use Rattle.fields.specs.Readers.{pastIs}
-use Rattle.fields.proofs.AnswerLaws.{word-is}
+use Rattle.fields.proofs.PlaceAnswerLaws.{word-is}
 use Rattle.fields.proofs.ReaderLaws.{after-no, after-got}
 use Rattle.text_lines.specs.Parts.{closed}
 use Rattle.text_lines.specs.Kinds.{optionsLine}
-use Rattle.text_lines.specs.Answers.{optionsAnswer}
+use Rattle.text_lines.specs.LineAnswers.{optionsAnswer}
 use Rattle.text_lines.proofs.HeadLaws.{closed-no}
 use Rattle.text_lines.proofs.head.options_line.Statement.{statement}
 use Rattle.text_lines.proofs.head.options_line.Tie as tie

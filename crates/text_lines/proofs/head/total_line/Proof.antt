@@ -4,9 +4,9 @@ use mathlib.Core.Path.{_≡_, sym, ap, _∙_}
 use lib.ListN.{drop}
 use Rattle.fields.specs.Fields.{fieldsOf}
 use Rattle.fields.specs.Readers.{got, figureIs}
-use Rattle.fields.proofs.AnswerLaws.{key-number-is}
+use Rattle.fields.proofs.PlaceAnswerLaws.{key-number-is}
 use Rattle.text_lines.specs.Kinds.{totalLine}
-use Rattle.text_lines.specs.Answers.{countAnswer}
+use Rattle.text_lines.specs.LineAnswers.{countAnswer}
 use Rattle.text_lines.proofs.HeadLaws.{closed-no, closed-blank, closed-more}
 use Rattle.text_lines.proofs.head.total_line.Statement.{statement}
 use Rattle.text_lines.proofs.head.total_line.Tie as tie

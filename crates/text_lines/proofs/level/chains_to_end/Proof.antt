@@ -6,12 +6,12 @@ use lib.ListN.{drop}
 use Rattle.fields.specs.Bytes.{bytes}
 use Rattle.fields.specs.Fields.{fieldsOf}
 use Rattle.fields.specs.Readers.{got, pastIs, figureIs}
-use Rattle.fields.proofs.AnswerLaws.{word-is, key-number-is}
+use Rattle.fields.proofs.PlaceAnswerLaws.{word-is, key-number-is}
 use Rattle.fields.proofs.ReaderLaws.{after-no, after-got, key-between-within}
 use Rattle.soc.specs.Limits.{chainsMax}
 use Rattle.text_lines.specs.Parts.{keyed, closed}
 use Rattle.text_lines.specs.Kinds.{chainsPart}
-use Rattle.text_lines.specs.Answers.{levelAnswer}
+use Rattle.text_lines.specs.LineAnswers.{levelAnswer}
 use Rattle.text_lines.proofs.HeadLaws.{closed-no}
 use Rattle.text_lines.proofs.level.chains_to_end.Statement.{statement}
 use Rattle.text_lines.proofs.level.chains_to_end.Tie as tie

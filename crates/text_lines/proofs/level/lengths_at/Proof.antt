@@ -9,7 +9,7 @@ use lib.ListN.{length, take, drop, replicate, length-set}
 use lib.Seq.{take-suc-set}
 use Rattle.fields.specs.Fields.{fieldsOf}
 use Rattle.fields.specs.Readers.{each, figureIs, between, no, got}
-use Rattle.fields.proofs.AnswerLaws.{number-is}
+use Rattle.fields.proofs.PlaceAnswerLaws.{number-is}
 use Rattle.fields.proofs.ReaderLaws.{prepend, prepend-none, each-no, each-more, each-end, between-within}
 use Rattle.soc.specs.Record.{flipFlops}
 use Rattle.soc.specs.Limits.{lengthMax}

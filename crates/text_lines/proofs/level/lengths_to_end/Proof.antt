@@ -8,7 +8,7 @@ use Rattle.fields.specs.Fields.{fieldsOf}
 use Rattle.fields.specs.Readers.{got, each}
 use Rattle.fields.proofs.ReaderLaws.{after-no, after-got}
 use Rattle.text_lines.specs.Kinds.{chainLength, lengthsPart}
-use Rattle.text_lines.specs.Answers.{levelAnswer, lengthsAt}
+use Rattle.text_lines.specs.LineAnswers.{levelAnswer, lengthsAt}
 use Rattle.text_lines.proofs.HeadLaws.{closed-no, closed-blank, closed-more}
 use Rattle.text_lines.proofs.level.lengths_to_end.Statement.{statement}
 use Rattle.text_lines.proofs.level.lengths_to_end.Tie as tie

@@ -9,7 +9,7 @@ use Rattle.fields.specs.Readers.{got, figureIs}
 use Rattle.fields.proofs.ReaderLaws.{after-no, after-got}
 use Rattle.text_lines.specs.Parts.{closed}
 use Rattle.text_lines.specs.Kinds.{level, levelLine}
-use Rattle.text_lines.specs.Answers.{levelAnswer, termsIs}
+use Rattle.text_lines.specs.LineAnswers.{levelAnswer, termsIs}
 use Rattle.text_lines.proofs.HeadLaws.{closed-no}
 use Rattle.text_lines.proofs.LevelLaws.{level-within}
 use Rattle.text_lines.proofs.level.level_line.Statement.{statement}

@@ -7,7 +7,7 @@ use lib.ListN.{drop}
 use Rattle.fields.specs.Bytes.{bytes}
 use Rattle.fields.specs.Fields.{fieldsOf}
 use Rattle.fields.specs.Readers.{got, pastIs, figureIs}
-use Rattle.fields.proofs.AnswerLaws.{key-number-is}
+use Rattle.fields.proofs.PlaceAnswerLaws.{key-number-is}
 use Rattle.fields.proofs.ReaderLaws.{after-no, after-got, key-between-within}
 use Rattle.soc.specs.Limits.{levelMax}
 use Rattle.text_lines.specs.Parts.{keyed}

@@ -1,6 +1,6 @@
 -- `text_lines::level::no_level` meets its contract: the answer is written out. Assumes nothing.
 use mathlib.Core.Path.{refl}
-use Rattle.text_lines.specs.Answers.{levelAnswer}
+use Rattle.text_lines.specs.LineAnswers.{levelAnswer}
 use Rattle.text_lines.proofs.level.no_level.Statement.{statement}
 use Rattle.text_lines.proofs.level.no_level.Tie as tie
 

@@ -2,7 +2,7 @@
 use borrow.Author.Needs.{needs}
 use mathlib.Core.Path.{sym, ap, _∙_}
 use Rattle.fields.specs.Readers.{pastIs}
-use Rattle.fields.proofs.AnswerLaws.{word-is}
+use Rattle.fields.proofs.PlaceAnswerLaws.{word-is}
 use Rattle.fields.proofs.ReaderLaws.{after-no, after-got}
 use Rattle.text_lines.proofs.part.key_flag.Statement.{statement}
 use Rattle.text_lines.proofs.part.key_flag.Tie as tie

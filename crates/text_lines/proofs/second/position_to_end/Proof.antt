@@ -14,7 +14,7 @@ use Rattle.soc.specs.Limits.{positionMax}
 use Rattle.soc.proofs.FigureLaws.{figure-back}
 use Rattle.text_lines.specs.Parts.{keyGiven, rule, closed, givenFigure}
 use Rattle.text_lines.specs.Kinds.{Second, pairRule, positionPart}
-use Rattle.text_lines.specs.Answers.{secondAnswer}
+use Rattle.text_lines.specs.LineAnswers.{secondAnswer}
 use Rattle.text_lines.proofs.PartLaws.{rule-broken, rule-kept, closed-end, closed-more}
 use Rattle.text_lines.proofs.second.position_to_end.Statement.{statement}
 use Rattle.text_lines.proofs.second.position_to_end.Tie as tie

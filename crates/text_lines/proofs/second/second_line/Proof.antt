@@ -5,7 +5,7 @@ use Rattle.fields.specs.Readers.{pastIs}
 use Rattle.fields.proofs.ReaderLaws.{after-no, after-got}
 use Rattle.text_lines.specs.Parts.{closed}
 use Rattle.text_lines.specs.Kinds.{secondLine}
-use Rattle.text_lines.specs.Answers.{secondAnswer}
+use Rattle.text_lines.specs.LineAnswers.{secondAnswer}
 use Rattle.text_lines.proofs.second.second_line.Statement.{statement}
 use Rattle.text_lines.proofs.second.second_line.Tie as tie
 

@@ -10,7 +10,7 @@ use Rattle.fields.specs.Fields.{fieldsOf}
 use Rattle.fields.specs.Readers.{no, got, FieldsGot, after, give}
 use Rattle.text_lines.specs.Parts.{closed}
 use Rattle.text_lines.specs.Kinds.{Second, testsPart, secondPart}
-use Rattle.text_lines.specs.Answers.{countAnswer, secondAnswer}
+use Rattle.text_lines.specs.LineAnswers.{countAnswer, secondAnswer}
 use Rattle.text_lines.specs.declared.head.Count.{Count}
 use Rattle.text_lines.specs.declared.head.Count.the-variants as count
 use Rattle.text_lines.specs.declared.second.SecondLine.{SecondLine}

@@ -5,7 +5,7 @@ use Rattle.fields.specs.Readers.{pastIs}
 use Rattle.fields.proofs.ReaderLaws.{after-no, after-got}
 use Rattle.text_lines.specs.Parts.{closed}
 use Rattle.text_lines.specs.Kinds.{testsLine}
-use Rattle.text_lines.specs.Answers.{countAnswer}
+use Rattle.text_lines.specs.LineAnswers.{countAnswer}
 use Rattle.text_lines.proofs.second.tests_line.Statement.{statement}
 use Rattle.text_lines.proofs.second.tests_line.Tie as tie
 

@@ -5,10 +5,10 @@ use mathlib.Core.Path.{_≡_, sym, ap, _∙_}
 use lib.ListN.{drop}
 use Rattle.fields.specs.Fields.{fieldsOf}
 use Rattle.fields.specs.Readers.{got, figureIs}
-use Rattle.fields.proofs.AnswerLaws.{key-number-is}
+use Rattle.fields.proofs.PlaceAnswerLaws.{key-number-is}
 use Rattle.text_lines.specs.Parts.{closed}
 use Rattle.text_lines.specs.Kinds.{totalTests}
-use Rattle.text_lines.specs.Answers.{countAnswer}
+use Rattle.text_lines.specs.LineAnswers.{countAnswer}
 use Rattle.text_lines.proofs.PartLaws.{closed-end, closed-more}
 use Rattle.text_lines.proofs.second.tests_to_end.Statement.{statement}
 use Rattle.text_lines.proofs.second.tests_to_end.Tie as tie

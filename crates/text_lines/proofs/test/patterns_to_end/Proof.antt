@@ -10,13 +10,13 @@ use mir.Val.{SFits}
 use Rattle.fields.specs.Bytes.{bytes}
 use Rattle.fields.specs.Fields.{fieldsOf}
 use Rattle.fields.specs.Readers.{got, figureIs}
-use Rattle.fields.proofs.AnswerLaws.{key-number-is}
+use Rattle.fields.proofs.PlaceAnswerLaws.{key-number-is}
 use Rattle.fields.proofs.ReaderLaws.{after-no, after-got, key-between-within}
 use Rattle.soc.specs.Limits.{patternsMax}
 use Rattle.soc.proofs.FigureLaws.{figure-back}
 use Rattle.text_lines.specs.Parts.{keyed, closed, givenFigure}
 use Rattle.text_lines.specs.Kinds.{patternsPart}
-use Rattle.text_lines.specs.Answers.{testAnswer}
+use Rattle.text_lines.specs.LineAnswers.{testAnswer}
 use Rattle.text_lines.proofs.PartLaws.{closed-end, closed-more}
 use Rattle.text_lines.proofs.test.patterns_to_end.Statement.{statement}
 use Rattle.text_lines.proofs.test.patterns_to_end.Tie as tie

@@ -8,7 +8,7 @@ use Rattle.fields.specs.Readers.{got, pastIs}
 use Rattle.fields.proofs.ReaderLaws.{after-no, after-got}
 use Rattle.text_lines.specs.Parts.{closed, whole}
 use Rattle.text_lines.specs.Kinds.{testDue, patternsPart, testLine}
-use Rattle.text_lines.specs.Answers.{usesIs, testAnswer}
+use Rattle.text_lines.specs.LineAnswers.{usesIs, testAnswer}
 use Rattle.text_lines.proofs.test.test_line.Statement.{statement}
 use Rattle.text_lines.proofs.test.test_line.Tie as tie
 

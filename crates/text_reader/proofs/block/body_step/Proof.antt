@@ -12,7 +12,7 @@ use Rattle.text_lines.specs.Kinds.{Second, secondLine}
 use Rattle.text_reader.specs.Lines.{line}
 use Rattle.text_reader.specs.Reading.{behind, body}
 use Rattle.text_line_reader.specs.Due.{linesAt, LineIs}
-use Rattle.text_reader.proofs.AnswerLaws.{second-no, second-tests, second-position}
+use Rattle.text_reader.proofs.ReadAnswerLaws.{second-no, second-tests, second-position}
 use Rattle.text_reader.proofs.StepLaws.{line-missing, line-refuses, line-says, due-found, due-missing, count-step-no, count-step-is}
 use Rattle.text_reader.proofs.block.body_step.Statement.{statement}
 use Rattle.text_reader.proofs.block.body_step.Tie as tie

@@ -4,7 +4,7 @@ use native.Mathlib.Omega.{arith}
 use mathlib.Core.Path.{sym, ap, _∙_}
 use Rattle.fields.specs.Readers.{no}
 use Rattle.text_line_reader.specs.Due.{LineIs}
-use Rattle.text_reader.proofs.AnswerLaws.{test-no, test-is}
+use Rattle.text_reader.proofs.ReadAnswerLaws.{test-no, test-is}
 use Rattle.text_reader.proofs.StepLaws.{line-missing, line-refuses, line-says, due-found, due-missing}
 use Rattle.text_reader.proofs.block.test_step.Statement.{statement}
 use Rattle.text_reader.proofs.block.test_step.Tie as tie

@@ -3,9 +3,9 @@ use borrow.Author.Needs.{needs}
 use Prim.Native.Nat.{ℕ}
 use mathlib.Core.List.{List, [], _∷_, _++_}
 use Rattle.soc.specs.Record.{testsOf}
-use Rattle.text_lines.specs.Written.{levelFields, testsFields}
-use Rattle.fields.specs.Written.{writtenLines}
-use Rattle.text_writer.specs.Written.{positionLines, moduleLinesOf}
+use Rattle.text_lines.specs.LineFields.{levelFields, testsFields}
+use Rattle.fields.specs.WrittenLines.{writtenLines}
+use Rattle.text_writer.specs.WrittenSoc.{positionLines, moduleLinesOf}
 use Rattle.buffer.proofs.PutLaws.{Due, due-all, due-room, due-next}
 use Rattle.text_writer.proofs.RunLaws.{testsText, module-text}
 use Rattle.text_writer.proofs.write.put_module.Statement.{statement}

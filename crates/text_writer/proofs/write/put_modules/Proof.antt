@@ -10,9 +10,9 @@ use lib.ListN.{length, getD, take, drop, length-map}
 use Rattle.soc.specs.Limits.{modulesMax}
 use Rattle.soc.specs.Record.{noModule}
 use Rattle.soc.specs.declared.record.Module.{Module}
-use Rattle.fields.specs.Written.{writtenLines}
-use Rattle.text_writer.specs.Written.{moduleLinesOf, moduleLinesFrom}
-use Rattle.text_writer.proofs.GoodLaws.{getD-same}
+use Rattle.fields.specs.WrittenLines.{writtenLines}
+use Rattle.text_writer.specs.WrittenSoc.{moduleLinesOf, moduleLinesFrom}
+use Rattle.text_writer.proofs.GoodSocCounts.{getD-same}
 use Rattle.buffer.proofs.PutLaws.{Due, due-all, due-room, due-next, put-none}
 use Rattle.text_writer.proofs.RunLaws.{modulesText, modules-more, rest-none}
 use Rattle.text_writer.proofs.write.put_modules.Statement.{statement}

@@ -5,11 +5,11 @@ use native.Mathlib.Omega.{arith}
 use Prim.Native.Nat.{ℕ}
 use mathlib.Core.List.{List, [], _∷_, _++_}
 use Rattle.soc.specs.Record.{modulesOf}
-use Rattle.text_lines.specs.Written.{nameFields, totalFields, optionsFields}
-use Rattle.fields.specs.Written.{writtenLines}
-use Rattle.text_writer.specs.Written.{writtenSoc}
+use Rattle.text_lines.specs.LineFields.{nameFields, totalFields, optionsFields}
+use Rattle.fields.specs.WrittenLines.{writtenLines}
+use Rattle.text_writer.specs.WrittenSoc.{writtenSoc}
 use Rattle.soc.proofs.GoodSocLaws.{soc-figures}
-use Rattle.text_writer.proofs.GoodLaws.{good-countable}
+use Rattle.text_writer.proofs.GoodSocCounts.{good-countable}
 use Rattle.buffer.proofs.PutLaws.{Due, due-all, due-room, due-next}
 use Rattle.text_writer.proofs.RunLaws.{modulesText, soc-text}
 use Rattle.text_writer.proofs.write.put_soc.Statement.{statement}

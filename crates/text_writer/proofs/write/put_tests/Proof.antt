@@ -8,9 +8,9 @@ use mathlib.Core.List.{[], _∷_, _++_}
 use lib.ListN.{length, getD, take, drop, length-map}
 use Rattle.soc.specs.Limits.{testsMax}
 use Rattle.soc.specs.Record.{noTest}
-use Rattle.text_lines.specs.Written.{testFields}
-use Rattle.fields.specs.Written.{writtenLines}
-use Rattle.text_writer.specs.Written.{testLines}
+use Rattle.text_lines.specs.LineFields.{testFields}
+use Rattle.fields.specs.WrittenLines.{writtenLines}
+use Rattle.text_writer.specs.WrittenSoc.{testLines}
 use Rattle.buffer.proofs.PutLaws.{Due, due-all, due-room, due-next, put-none}
 use Rattle.text_writer.proofs.RunLaws.{testsText, testText, tests-more, rest-none}
 use Rattle.text_writer.proofs.write.put_tests.Statement.{statement}

@@ -11,7 +11,7 @@ use lib.ListN.{length, replicate, length-replicate}
 use lib.Seq.{length-take-le}
 use Rattle.soc.specs.Limits.{textMax}
 use Rattle.soc.specs.Rules.{goodSoc}
-use Rattle.text_writer.specs.Written.{writtenSoc, writeAnswer, writeLeaves}
+use Rattle.text_writer.specs.WrittenSoc.{writtenSoc, writeAnswer, writeLeaves}
 use Rattle.buffer.proofs.PutLaws.{front-within, front-text}
 use Rattle.text_writer.proofs.SizeLaws.{written-short}
 use Rattle.text_writer.proofs.write.write_soc.Statement.{statement}

@@ -7,9 +7,9 @@ use lib.ListN.{length, length-map}
 use lib.Seq.{length-take-le}
 use Rattle.fields.specs.Bytes.{bytes, lf}
 use Rattle.fields.specs.Names.{nameMax}
-use Rattle.fields.specs.Written.{decimal}
+use Rattle.fields.specs.WrittenLines.{decimal}
 use Rattle.soc.specs.Record.{nameOf}
-use Rattle.text_lines.specs.Written.{flagField}
+use Rattle.text_lines.specs.LineFields.{flagField}
 use Rattle.buffer.proofs.PutLaws.{due-all, due-key, due-put, put-is}
 use Rattle.text_writer.proofs.LineLaws.{head-text}
 use Rattle.text_writer.proofs.write_lines.put_head.Statement.{statement}

@@ -6,11 +6,11 @@ use Prim.Native.Nat.{_-_, _≤_}
 use mathlib.Core.Path.{_≡_, refl, _∙_}
 use lib.ListN.{length, getD, take, drop, length-map}
 use Rattle.fields.specs.Bytes.{bytes}
-use Rattle.fields.specs.Written.{decimal}
+use Rattle.fields.specs.WrittenLines.{decimal}
 use Rattle.soc.specs.Limits.{chainsMax}
 use Rattle.soc.specs.Record.{flipFlops}
 use Rattle.buffer.proofs.PutLaws.{Due, due-all, due-key, put-none}
-use Rattle.text_writer.specs.Written.{spacedLengths}
+use Rattle.text_writer.specs.WrittenSoc.{spacedLengths}
 use Rattle.text_writer.proofs.RunLaws.{spaced-more, rest-none}
 use Rattle.text_writer.proofs.write_lines.put_lengths.Statement.{statement}
 use Rattle.text_writer.proofs.write_lines.put_lengths.Tie as tie

@@ -3,11 +3,11 @@ use borrow.Author.Needs.{needs}
 use native.Mathlib.Omega.{arith}
 use mathlib.Core.List.{[], _∷_, _++_}
 use Rattle.fields.specs.Bytes.{bytes, lf}
-use Rattle.fields.specs.Written.{decimal, writtenLines}
+use Rattle.fields.specs.WrittenLines.{decimal, writtenLines}
 use Rattle.soc.specs.Record.{chainsOf}
-use Rattle.text_lines.specs.Written.{levelFields}
+use Rattle.text_lines.specs.LineFields.{levelFields}
 use Rattle.buffer.proofs.PutLaws.{Due, due-all, due-key, due-put, due-room, due-next, put-is, put-kept}
-use Rattle.text_writer.specs.Written.{spacedLengths}
+use Rattle.text_writer.specs.WrittenSoc.{spacedLengths}
 use Rattle.text_writer.proofs.LineLaws.{level-text}
 use Rattle.text_writer.proofs.write_lines.put_level_line.Statement.{statement}
 use Rattle.text_writer.proofs.write_lines.put_level_line.Tie as tie

@@ -7,8 +7,8 @@ use mir.Syntax.{w32}
 use mir.Val.{toZ, ofZ}
 use Rattle.soc.proofs.FigureLaws.{figure-back}
 use Rattle.fields.specs.Bytes.{bytes}
-use Rattle.fields.specs.Written.{decimal}
-use Rattle.text_lines.specs.Written.{givenField}
+use Rattle.fields.specs.WrittenLines.{decimal}
+use Rattle.text_lines.specs.LineFields.{givenField}
 use Rattle.buffer.proofs.PutLaws.{put-none, due-all, due-key, put-is}
 use Rattle.text_writer.proofs.LineLaws.{position-none, position-text}
 use Rattle.text_writer.proofs.write_lines.put_position_line.Statement.{statement}

@@ -7,7 +7,7 @@ use mir.Syntax.{w32}
 use mir.Val.{toZ, ofZ}
 use Rattle.soc.proofs.FigureLaws.{figure-back}
 use Rattle.fields.specs.Bytes.{bytes}
-use Rattle.text_lines.specs.Written.{givenField}
+use Rattle.text_lines.specs.LineFields.{givenField}
 use Rattle.buffer.proofs.PutLaws.{due-all, due-key, put-is}
 use Rattle.text_writer.proofs.LineLaws.{power-none, power-text}
 use Rattle.text_writer.proofs.write_lines.put_power.Statement.{statement}

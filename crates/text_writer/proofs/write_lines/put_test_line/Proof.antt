@@ -3,10 +3,10 @@ use borrow.Author.Needs.{needs}
 use mathlib.Core.Bool.{cond}
 use mathlib.Core.List.{[], _∷_}
 use Rattle.fields.specs.Bytes.{bytes}
-use Rattle.fields.specs.Written.{decimal, writtenLines}
-use Rattle.text_lines.specs.Written.{flagField, powerFields, testFields}
+use Rattle.fields.specs.WrittenLines.{decimal, writtenLines}
+use Rattle.text_lines.specs.LineFields.{flagField, powerFields, testFields}
 use Rattle.buffer.proofs.PutLaws.{Due, due-all, due-key}
-use Rattle.text_writer.specs.Written.{powerEnd}
+use Rattle.text_writer.specs.WrittenSoc.{powerEnd}
 use Rattle.text_writer.proofs.LineLaws.{test-text}
 use Rattle.text_writer.proofs.write_lines.put_test_line.Statement.{statement}
 use Rattle.text_writer.proofs.write_lines.put_test_line.Tie as tie

@@ -1,7 +1,7 @@
 -- `text_writer::write_lines::put_tests_line` meets its contract: each call puts what is due behind the call before it. Assumes nothing.
 use borrow.Author.Needs.{needs}
 use Rattle.fields.specs.Bytes.{bytes}
-use Rattle.fields.specs.Written.{decimal}
+use Rattle.fields.specs.WrittenLines.{decimal}
 use Rattle.buffer.proofs.PutLaws.{due-all, due-key, put-is}
 use Rattle.text_writer.proofs.LineLaws.{tests-text}
 use Rattle.text_writer.proofs.write_lines.put_tests_line.Statement.{statement}

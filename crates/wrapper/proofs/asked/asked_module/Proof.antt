@@ -11,7 +11,7 @@ use lib.ListN.{length, length-map, getD}
 use Rattle.units.proofs.TestLaws.{within-true, below-false, above-false}
 use Rattle.soc.specs.Record.{noModule}
 use Rattle.soc.specs.Rules.{goodSoc}
-use Rattle.wrapper.specs.Answers.{widthMax, askedModule}
+use Rattle.wrapper.specs.WrapperAnswers.{widthMax, askedModule}
 use Rattle.wrapper.specs.Held.{isAsked, foundModule}
 use Rattle.wrapper.proofs.KeptLaws.{good-count}
 use Rattle.wrapper.proofs.asked.asked_module.Statement.{statement}

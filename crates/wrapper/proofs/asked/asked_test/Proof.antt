@@ -2,7 +2,7 @@
 use borrow.Author.Needs.{needs}
 use native.Mathlib.Omega.{arith}
 use Rattle.units.proofs.TestLaws.{within-true, below-false, above-false}
-use Rattle.wrapper.specs.Answers.{askedTest}
+use Rattle.wrapper.specs.WrapperAnswers.{askedTest}
 use Rattle.wrapper.specs.Held.{foundTest}
 use Rattle.wrapper.proofs.asked.asked_test.Statement.{statement}
 use Rattle.wrapper.proofs.asked.asked_test.Tie as tie

@@ -8,8 +8,8 @@ use lib.ListN.{getD}
 use Rattle.units.specs.Places.{padded}
 use Rattle.soc.specs.declared.record.Module.{Module}
 use Rattle.wrapper.specs.Times.{Best, moduleBest}
-use Rattle.wrapper.specs.Answers.{widthMax, wires, cycles, bestsFrom, noModuleTime, moduleTimeOf, moduleTimeAnswer, cyclesIn, wiresIn}
-use Rattle.wrapper.specs.Answers.{timesOf}
+use Rattle.wrapper.specs.WrapperAnswers.{widthMax, wires, cycles, bestsFrom, noModuleTime, moduleTimeOf, moduleTimeAnswer, cyclesIn, wiresIn}
+use Rattle.wrapper.specs.WrapperAnswers.{timesOf}
 use Rattle.wrapper.specs.declared.asked.ModuleTime.{ModuleTime}
 use Rattle.wrapper.proofs.TimeLaws.{bests-last, module-refused, module-found, Found, found-kept}
 use Rattle.wrapper.proofs.asked.module_time.Statement.{statement}

@@ -5,7 +5,7 @@ use Prim.Native.Nat.{ℕ}
 use mathlib.Core.Path.{_∙_}
 use Rattle.units.specs.Refusals.{accepted}
 use Rattle.soc.specs.declared.record.Module.{Module}
-use Rattle.wrapper.specs.Answers.{timesOf, noModuleTimes, moduleTimesAnswer}
+use Rattle.wrapper.specs.WrapperAnswers.{timesOf, noModuleTimes, moduleTimesAnswer}
 use Rattle.wrapper.specs.declared.asked.ModuleTimes.{ModuleTimes}
 use Rattle.wrapper.proofs.TimeLaws.{module-refused, module-found, found-kept}
 use Rattle.wrapper.proofs.asked.module_times.Statement.{statement}

@@ -7,7 +7,7 @@ use Rattle.units.specs.Refusals.{accepted}
 use Rattle.soc.specs.declared.record.Test.{Test}
 use Rattle.soc.specs.declared.record.Module.{Module}
 use Rattle.wrapper.specs.Times.{testTime}
-use Rattle.wrapper.specs.Answers.{cycles, askedTest, noTestTime, testTimeAnswer}
+use Rattle.wrapper.specs.WrapperAnswers.{cycles, askedTest, noTestTime, testTimeAnswer}
 use Rattle.wrapper.specs.Held.{foundTest}
 use Rattle.wrapper.specs.declared.asked.AskedTest.the-variants.{Is}
 use Rattle.wrapper.specs.declared.asked.TestTime.{TestTime}

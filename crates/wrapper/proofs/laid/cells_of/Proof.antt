@@ -9,7 +9,7 @@ use lib.ListN.{length, getD, take, drop, set}
 use lib.Seq.{length-take-le, length-front}
 use Rattle.units.specs.Places.{padded}
 use Rattle.wrapper.specs.Fit.{withCells}
-use Rattle.wrapper.specs.Answers.{gained}
+use Rattle.wrapper.specs.WrapperAnswers.{gained}
 use Rattle.wrapper.proofs.FitLaws.{cells-length, cells-grow}
 use Rattle.wrapper.proofs.ChainLaws.{over-at, over-set, over-end}
 use Rattle.wrapper.proofs.LaidLaws.{gained-at, gained-length, gained-padded, grown-at}

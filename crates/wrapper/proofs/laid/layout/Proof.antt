@@ -6,7 +6,7 @@ use mathlib.Core.Path.{_≡_, sym, _∙_}
 use Rattle.soc.specs.declared.record.Test.{Test}
 use Rattle.soc.specs.declared.record.Module.{Module}
 use Rattle.wrapper.specs.Chains.{threaded}
-use Rattle.wrapper.specs.Answers.{askedTest, layoutOf, noLayout, layoutAnswer}
+use Rattle.wrapper.specs.WrapperAnswers.{askedTest, layoutOf, noLayout, layoutAnswer}
 use Rattle.wrapper.specs.declared.laid.WrapperLayout.{WrapperLayout}
 use Rattle.wrapper.proofs.TimeLaws.{module-refused, module-found, Found, found-kept, test-refused, test-found}
 use Rattle.wrapper.proofs.laid.layout.Statement.{statement}

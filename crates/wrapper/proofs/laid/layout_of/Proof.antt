@@ -11,7 +11,7 @@ use Rattle.soc.specs.Record.{flipFlops}
 use Rattle.wrapper.specs.Fit.{longest, withCells}
 use Rattle.wrapper.specs.Chains.{Threaded, thread, empty, threaded}
 use Rattle.wrapper.specs.Times.{inputCells, outputCells}
-use Rattle.wrapper.specs.Answers.{widthMax, gained, layoutOf}
+use Rattle.wrapper.specs.WrapperAnswers.{widthMax, gained, layoutOf}
 use Rattle.wrapper.specs.Held.{front, threadingOf}
 use Rattle.wrapper.proofs.KeptLaws.{kept-threadable, held-threaded, threaded-held, threaded-short}
 use Rattle.wrapper.proofs.LaidLaws.{map-padded, padded-longest}

@@ -1,6 +1,6 @@
 -- `wrapper::laid::no_layout` meets its contract: its refusal is what `Refusal::at` answers. Assumes nothing.
 use borrow.Author.Needs.{needs}
-use Rattle.wrapper.specs.Answers.{noLayout}
+use Rattle.wrapper.specs.WrapperAnswers.{noLayout}
 use Rattle.wrapper.proofs.laid.no_layout.Statement.{statement}
 use Rattle.wrapper.proofs.laid.no_layout.Tie as tie
 

@@ -12,7 +12,7 @@ use Rattle.units.specs.declared.Cycles.{Cycles}
 use Rattle.units.specs.Places.{padded}
 use Rattle.soc.specs.declared.record.Module.{Module}
 use Rattle.wrapper.specs.Times.{figure, moduleBest}
-use Rattle.wrapper.specs.Answers.{widthMax, wires, cycles, bestsFrom, cyclesIn, wiresIn, timesOf}
+use Rattle.wrapper.specs.WrapperAnswers.{widthMax, wires, cycles, bestsFrom, cyclesIn, wiresIn, timesOf}
 use Rattle.wrapper.proofs.TimeLaws.{best-one, best-less, best-stays, bests-first, bests-set}
 use Rattle.wrapper.proofs.times.times_of.Statement.{statement}
 use Rattle.wrapper.proofs.times.times_of.Tie as tie

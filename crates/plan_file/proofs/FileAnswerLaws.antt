@@ -6,7 +6,7 @@ use mathlib.Core.Bool.{Bool, true, false, cond}
 use mathlib.Core.List.{List}
 use native.Mathlib.Omega.{arith}
 use Rattle.units.specs.Refusals.{accepted}
-use Rattle.buffer.proofs.AnswerLaws.{Fits, unless-fits}
+use Rattle.buffer.proofs.WriterAnswerLaws.{Fits, unless-fits}
 use Rattle.plan_record.specs.Good.{goodPlan}
 use Rattle.plan_record.specs.declared.record.BusPlan.{BusPlan}
 use Rattle.plan_file.specs.Bytes.{fileBytes}

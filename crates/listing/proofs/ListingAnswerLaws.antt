@@ -2,7 +2,7 @@
 use Prim.Native.Nat.{ℕ}
 use mathlib.Core.List.{List}
 use native.Mathlib.Omega.{arith}
-use Rattle.buffer.proofs.AnswerLaws.{Fits, written-fits, unless-fits}
+use Rattle.buffer.proofs.WriterAnswerLaws.{Fits, written-fits, unless-fits}
 use Rattle.plan_record.specs.Good.{goodPlan}
 use Rattle.plan_record.specs.declared.record.BusPlan.{BusPlan}
 use Rattle.listing.specs.Listing.{listed, shown, listingAnswer, showAnswer}

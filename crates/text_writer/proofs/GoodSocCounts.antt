@@ -10,7 +10,7 @@ use Rattle.soc.specs.Record.{noModule, modulesOf}
 use Rattle.soc.specs.Rules.{goodSoc}
 use Rattle.soc.specs.declared.record.Soc.{Soc}
 use Rattle.soc.proofs.GoodSocLaws.{soc-figures, modules-counts}
-use Rattle.text_writer.specs.Written.{Countable}
+use Rattle.text_writer.specs.WrittenSoc.{Countable}
 
 pub good-countable : (s : Soc) → goodSoc s ≡ true → Countable s
 good-countable s h i k =

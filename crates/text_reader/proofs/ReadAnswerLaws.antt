@@ -8,7 +8,7 @@ use Rattle.units.proofs.TestLaws.{clash}
 use Rattle.soc.specs.declared.record.Test.{Test}
 use Rattle.text_lines.specs.Parts.{Whole, refuses, says}
 use Rattle.text_lines.specs.Kinds.{Name, Options, Shape, Second}
-use Rattle.text_lines.specs.Answers.{nameAnswer, countAnswer, optionsAnswer, levelAnswer, secondAnswer, testAnswer}
+use Rattle.text_lines.specs.LineAnswers.{nameAnswer, countAnswer, optionsAnswer, levelAnswer, secondAnswer, testAnswer}
 use Rattle.text_lines.specs.declared.part.Verdict.the-variants.{Refused, Taken}
 use Rattle.text_lines.specs.declared.head.NameLine.{NameLine}
 use Rattle.text_lines.specs.declared.head.Count.the-variants as count

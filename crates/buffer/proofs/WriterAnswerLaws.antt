@@ -8,7 +8,7 @@ use borrow.Author.Tests.{leb-true}
 use lib.Dec.{leb}
 use lib.ListN.{length}
 use Rattle.units.specs.Refusals.{accepted}
-use Rattle.buffer.specs.Written.{written, refusedWrite}
+use Rattle.buffer.specs.WriterAnswers.{written, refusedWrite}
 use Rattle.buffer.specs.declared.written.Written.{Written}
 
 pub record Fits (buf : List ℕ) (a : Written) : Type 0 where

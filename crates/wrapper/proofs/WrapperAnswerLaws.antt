@@ -19,8 +19,8 @@ use Rattle.wrapper.specs.Fit.{total}
 use Rattle.wrapper.specs.Chains.{threaded}
 use Rattle.wrapper.specs.Maxima.{testTimeMax, moduleTimeMax}
 use Rattle.wrapper.specs.Times.{figure, testTime, moduleBest}
-use Rattle.wrapper.specs.Answers.{widthMax, cycles, moduleAt, askedModule, askedTest, layoutOf, noLayout, layoutAnswer}
-use Rattle.wrapper.specs.Answers.{noTestTime, testTimeAnswer, noModuleTime, moduleTimeOf, moduleTimeAnswer}
+use Rattle.wrapper.specs.WrapperAnswers.{widthMax, cycles, moduleAt, askedModule, askedTest, layoutOf, noLayout, layoutAnswer}
+use Rattle.wrapper.specs.WrapperAnswers.{noTestTime, testTimeAnswer, noModuleTime, moduleTimeOf, moduleTimeAnswer}
 use Rattle.wrapper.specs.Laid.{testAt, lengthsIn}
 use Rattle.wrapper.specs.declared.laid.WrapperLayout.{WrapperLayout}
 use Rattle.wrapper.specs.declared.asked.TestTime.{TestTime}

@@ -5,10 +5,10 @@ use mathlib.Core.Bool.{Bool, true, false, cond}
 use mathlib.Core.List.{List, [], _∷_, _++_}
 use lib.ListN.{getD}
 use Rattle.buffer.specs.Puts.{putFront}
-use Rattle.buffer.specs.Written.{refusedWrite, written}
+use Rattle.buffer.specs.WriterAnswers.{refusedWrite, written}
 use Rattle.buffer.specs.declared.written.Written.{Written}
 use Rattle.fields.specs.Bytes.{bytes, lf, space}
-use Rattle.fields.specs.Written.{writtenLines}
+use Rattle.fields.specs.WrittenLines.{writtenLines}
 use Rattle.units.specs.declared.FlipFlops.{FlipFlops}
 use Rattle.soc.specs.Limits.{chainsMax, testsMax}
 use Rattle.soc.specs.Record.{noModule, modulesOf, testsOf}
@@ -16,7 +16,7 @@ use Rattle.soc.specs.Rules.{goodSoc}
 use Rattle.soc.specs.declared.record.Test.{Test}
 use Rattle.soc.specs.declared.record.Module.{Module}
 use Rattle.soc.specs.declared.record.Soc.{Soc}
-use Rattle.text_lines.specs.Written.{givenField, lengthField, nameFields, totalFields, optionsFields, levelFields, positionFields, testsFields, powerFields, testFields}
+use Rattle.text_lines.specs.LineFields.{givenField, lengthField, nameFields, totalFields, optionsFields, levelFields, positionFields, testsFields, powerFields, testFields}
 
 -- the fields of a module's lines: of its tests from number i on, and of all
 unfoldable pub testLines : Bool → ℕ → ℕ → List Test → List (List (List ℕ))

@@ -10,7 +10,7 @@ use Rattle.soc.specs.Planned.{plannedOf}
 use Rattle.soc.specs.declared.record.Module.{Module}
 use Rattle.soc.specs.declared.record.Soc.{Soc}
 use Rattle.wrapper.specs.Times.{moduleBest}
-use Rattle.wrapper.specs.Answers.{widthMax}
+use Rattle.wrapper.specs.WrapperAnswers.{widthMax}
 use Rattle.plan_rules.specs.Plans.{Plan}
 use Rattle.plan_rules.specs.Listed.{bestPlan}
 use Rattle.plan_record.specs.Record.{noPlan, planRecord}
