@@ -5,14 +5,14 @@ ghost use Rattle.io.specs.Counts.{Counts};
 pub const BEFORE: u8 = 170;
 
 // n, or the slice's length where that is less: so many bytes can be taken from its front.
-pub fn at_most(n: usize, s: &[u8]) -> usize
+pub(crate) fn at_most(n: usize, s: &[u8]) -> usize
     ensures { λ r. ⌜ Counts r (now (s .entry)) ⌝ }
 {
     if n <= s.len() { n } else { s.len() }
 }
 
 // The place of the first byte from a place on that is not as before, or the end.
-pub fn kept_to(s: &[u8], from: usize) -> usize {
+pub(crate) fn kept_to(s: &[u8], from: usize) -> usize {
     let mut i = from;
     while i < s.len() {
         if s[i] != BEFORE {

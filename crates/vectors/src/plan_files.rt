@@ -68,7 +68,7 @@ fn show_into(p: BusPlan, buf: &mut [u8], n: usize) {
 }
 
 // The file of the plan of the text that is argument i, with n bytes lent. A limit that is not b makes the plan's record another.
-pub fn show_plan_file(i: usize, w: u32, b: u32, limit: u32, n: usize) {
+pub(crate) fn show_plan_file(i: usize, w: u32, b: u32, limit: u32, n: usize) {
     let answer = plan::plan(soc_in(i), Wires(w), b);
     let mut p = answer.plan;
     p.limit = limit;
@@ -78,7 +78,7 @@ pub fn show_plan_file(i: usize, w: u32, b: u32, limit: u32, n: usize) {
 }
 
 // The first n bytes of the file by hand from a place on, as a file.
-pub fn show_part(from: usize, n: usize) {
+pub(crate) fn show_part(from: usize, n: usize) {
     let hand = by_hand();
     let k = at_most(from, &hand);
     show_file(&hand[k..], n);
@@ -98,7 +98,7 @@ fn refusal_with(at: usize, b: u8) -> u8 {
 }
 
 // Which other values of which bytes of the file by hand are accepted.
-pub fn show_changes() {
+pub(crate) fn show_changes() {
     let mut k: usize = 0;
     while k < 16384 {
         let b = (k % 256) as u8;

@@ -40,7 +40,7 @@ fn print_placed(p: BusPlan) {
 }
 
 // The plan of the text that is argument i.
-pub fn show_plan(i: usize, w: u32, b: u32) {
+pub(crate) fn show_plan(i: usize, w: u32, b: u32) {
     let answer = plan::plan(soc_in(i), Wires(w), b);
     let p = answer.plan;
     print_line(
@@ -55,7 +55,7 @@ pub fn show_plan(i: usize, w: u32, b: u32) {
 }
 
 // Every W of Table 9 of document 000, with limits 2 and 3.
-pub fn show_table_9(i: usize) {
+pub(crate) fn show_table_9(i: usize) {
     let mut w: u32 = 16;
     while w < 65 {
         show_plan(i, w, 2);

@@ -54,7 +54,7 @@ pub const WRONG: usize = 23;
 // Stands for a figure that is not given, and is printed as the text has it: -1. All other figures are smaller.
 pub const NOT_GIVEN: u64 = 18446744073709551615;
 
-pub fn print(w: &[u8]) {
+pub(crate) fn print(w: &[u8]) {
     io::write_all(STDOUT_FILENO, w);
 }
 
@@ -90,7 +90,7 @@ fn print_part(lines: &[u8], line: usize, figures: [u64; 4]) {
 }
 
 // Prints a line, in which each # stands for the next figure.
-pub fn print_line(line: usize, a: u64, b: u64, c: u64, d: u64) {
+pub(crate) fn print_line(line: usize, a: u64, b: u64, c: u64, d: u64) {
     let lines = b"| # bytes: \
         |refused # line #\n\
         | power # xy #\n\
@@ -118,7 +118,7 @@ pub fn print_line(line: usize, a: u64, b: u64, c: u64, d: u64) {
 }
 
 // Reads the text that is argument i to the front of a buffer and prints its name and length, so that one that is not there is seen.
-pub fn read_text(i: usize, buf: &mut [u8]) -> usize
+pub(crate) fn read_text(i: usize, buf: &mut [u8]) -> usize
     ensures { λ r. ⌜ Counts r (now (buf .exit)) ⌝ }
 {
     let mut path = [0u8; 256];
@@ -132,7 +132,7 @@ pub fn read_text(i: usize, buf: &mut [u8]) -> usize
 }
 
 // The record of the text that is argument i; one that says nothing where it is refused.
-pub fn soc_in(i: usize) -> Soc {
+pub(crate) fn soc_in(i: usize) -> Soc {
     let mut buffer = io::large_buffer();
     let n = read_text(i, &mut buffer);
     let read = text::read_soc(&buffer[..n]);

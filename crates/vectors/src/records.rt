@@ -85,7 +85,7 @@ fn print_modules(s: Soc) {
     }
 }
 
-pub fn print_soc(s: Soc) {
+pub(crate) fn print_soc(s: Soc) {
     let n = s.name_len;
     let name = s.name;
     if n <= NAME_MAX {

@@ -78,7 +78,7 @@ fn show_text(text: &[u8]) {
 }
 
 // The texts that the arguments name. The buffer has more bytes than a text may have.
-pub fn show_arguments() {
+pub(crate) fn show_arguments() {
     let n = os::arg_count();
     let mut i: usize = 1;
     while i < n {
@@ -90,7 +90,7 @@ pub fn show_arguments() {
 }
 
 // A text with blank lines behind it, n bytes in all, and with a first byte of its own.
-pub fn show_padded(i: usize, first: u8, n: usize) {
+pub(crate) fn show_padded(i: usize, first: u8, n: usize) {
     let mut buffer = [b'\n'; 65536];
     read_text(i, &mut buffer);
     buffer[0] = first;

@@ -27,7 +27,7 @@ fn print_layout(l: WrapperLayout) {
 }
 
 // The layout of a module of the text that is argument i.
-pub fn show_layout(i: usize, module: u32, test: u32, width: u32) {
+pub(crate) fn show_layout(i: usize, module: u32, test: u32, width: u32) {
     let l = wrapper::layout(soc_in(i), module, test, Wires(width));
     print_line(
         LAYOUT,
@@ -55,7 +55,7 @@ fn show_time(s: Soc, module: u32, width: u32) {
 }
 
 // The times of a module of the text that is argument i, at some widths.
-pub fn show_times(i: usize, module: u32, from: u32, to: u32) {
+pub(crate) fn show_times(i: usize, module: u32, from: u32, to: u32) {
     let s = soc_in(i);
     print_line(TIMES, module as u64, 0, 0, 0);
     let mut w = from;
