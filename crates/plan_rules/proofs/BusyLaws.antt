@@ -90,3 +90,15 @@ unfolding largest
 largest-set [] b v h k = absurd (omega arith)
 largest-set (x ∷ l) zero v h k = omega arith
 largest-set (x ∷ l) (suc b) v h k = let r = largest-set l b v (omega arith) k in omega arith
+
+-- none is above the largest
+pub largest-le : (xs : List ℕ) (j : ℕ) → getD xs j 0 ≤ largest xs
+unfolding largest
+largest-le [] j = omega arith
+largest-le (x ∷ xs) zero = omega arith
+largest-le (x ∷ xs) (suc j) = let t = largest-le xs j in omega arith
+
+pub largest-append : (xs ys : List ℕ) → largest (xs ++ ys) ≡ max (largest xs) (largest ys)
+unfolding largest
+largest-append [] ys = omega arith
+largest-append (x ∷ xs) ys = omega (arith, largest-append xs ys)

@@ -11,12 +11,8 @@ use lib.Dec.{eqb}
 use borrow.Author.Tests.{eqb-true, eq-eqb, ne-eqb}
 use Rattle.plan_rules.specs.Plans.{Plan, IsPlan, sum}
 use Rattle.plan_rules.specs.Listed.{upward, widthLists, placements, plan, plansOn, plans}
+use Rattle.plan_rules.specs.Widths.{Rising, none, more}
 use Rattle.plan_rules.proofs.ListLaws.{upward-in, upward-of}
-
--- widths that do not decrease, the first at least low
-pub data Rising : ℕ → List ℕ → Type 0 where
-  none : {low : ℕ} → Rising low []
-  more : {low w : ℕ} {ws : List ℕ} → low ≤ w → Rising w ws → Rising low (w ∷ ws)
 
 -- what a listed list of widths is
 pub record Widths (c low W : ℕ) (ws : List ℕ) : Type 0 where

@@ -13,6 +13,7 @@ use borrow.Author.Tests.{eq-eqb}
 use Rattle.plan_rules.specs.Plans.{Plan, busyFrom, busies, largest, timeOf}
 use Rattle.plan_rules.specs.Listed.{firstLeast}
 use Rattle.plan_rules.proofs.LeastLaws.{least-is, least-same}
+use Rattle.plan_rules.proofs.BusyLaws.{largest-le}
 
 -- a list may be looked at in two stretches
 pub least-append : (time : Plan → ℕ) (p : Plan) (qs rs : List Plan) → firstLeast time p (qs ++ rs) ≡ firstLeast time (firstLeast time p qs) rs
@@ -37,12 +38,6 @@ unfolding busyFrom
 busy-le time i b w [] k j e h f = absurd (omega arith)
 busy-le time i b w (x ∷ xs) zero j e h f = let g : i ≡ j = omega arith in rw (eq-eqb x b f, g) (omega arith)
 busy-le time i b w (x ∷ xs) (suc k) j e h f = let t = busy-le time (suc i) b w xs k j (omega arith) (omega arith) f in omega arith
-
-largest-le : (xs : List ℕ) (j : ℕ) → getD xs j 0 ≤ largest xs
-unfolding largest
-largest-le [] j = omega arith
-largest-le (x ∷ xs) zero = omega arith
-largest-le (x ∷ xs) (suc j) = let t = largest-le xs j in omega arith
 
 busies-at : (time : ℕ → ℕ → ℕ) (bs : List ℕ) (b : ℕ) (ws : List ℕ) (j x : ℕ) → j < length ws → b + j ≡ x → getD (busies time bs b ws) j 0 ≡ busyFrom time 0 x (getD ws j 0) bs
 unfolding busies
