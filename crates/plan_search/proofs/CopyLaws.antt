@@ -1,11 +1,13 @@
--- Laws of copying a list behind the first place of another, place by place (`Behind`). Assumes nothing.
+-- Laws of copying a list behind the first place of another, place by place (`Behind`), and back to the front of places. Assumes nothing.
 use Prim.Native.Nat.{ℕ, suc, _+_, _≤_, _<_}
 use mathlib.Core.Path.{_≡_, refl, sym, ap, _∙_}
-use mathlib.Core.List.{List, _∷_, _++_}
+use mathlib.Core.List.{List, [], _∷_, _++_}
 use native.Mathlib.Omega.{arith}
 use native.Mathlib.Numerals.{add-one}
-use lib.ListN.{length, getD, take, drop, set, length-set, take-append-drop}
-use lib.Seq.{take-suc, take-suc-set, take-length, drop-set-lt, drop-drop}
+use lib.ListN.{length, getD, take, drop, set, length-set, length-drop, take-append-drop}
+use lib.Seq.{take-suc, take-suc-set, take-length, drop-set-lt, drop-drop, getD-drop, length-take-le}
+use Rattle.units.specs.Places.{padded}
+use Rattle.units.proofs.PlaceLaws.{padded-set}
 
 -- the first i of what is copied stand behind the first place, and all other places are as they were
 pub record Behind (from to₀ to : List ℕ) (i : ℕ) : Type 0 where
@@ -36,3 +38,17 @@ module _ (from to₀ : List ℕ) (room : length from < length to₀) where
     behind-all h =
         let e : i ≡ length from = omega (arith, b .upto) in
         sym (take-append-drop (suc i) to) ∙ rw (b .front, b .rest, e, take-length from, add-one)
+
+-- one more of the numbers behind the first of l is stored
+taken-more : (l : List ℕ) (i k : ℕ) → k ≡ i + 1 → k < length l → take k (drop 1 l) ≡ take i (drop 1 l) ++ getD l k 0 ∷ []
+taken-more l i k e m =
+    let d : i < length (drop 1 l) = simp length-drop (omega arith) in
+    let q : k ≡ suc i = omega arith in
+    let g : 1 + i ≡ k = omega arith in
+    ap (λ j. take j (drop 1 l)) q ∙ take-suc (drop 1 l) i 0 d ∙ ap (λ x. take i (drop 1 l) ++ x ∷ []) (getD-drop 1 l i 0 ∙ ap (λ j. getD l j 0) g)
+
+pub padded-more : (n : ℕ) (l : List ℕ) (i k : ℕ) → i < n → k ≡ i + 1 → k < length l → set (padded n 0 (take i (drop 1 l))) i (getD l k 0) ≡ padded n 0 (take k (drop 1 l))
+padded-more n l i k h e m = rw (taken-more l i k e m) (stored (take i (drop 1 l)) (length-take-le i (drop 1 l) (simp length-drop (omega arith))))
+  where
+    stored : (xs : List ℕ) → length xs ≡ i → set (padded n 0 xs) i (getD l k 0) ≡ padded n 0 (xs ++ getD l k 0 ∷ [])
+    stored xs f = ap (λ j. set (padded n 0 xs) j (getD l k 0)) (sym f) ∙ padded-set n 0 (getD l k 0) xs (omega arith)

@@ -1,8 +1,15 @@
 pub mod SearchLaws
 pub mod PlaceLaws
-pub mod KeepLaws
+pub mod OrderLaws
 pub mod WidthLaws
-pub mod OverLaws
+pub mod RestLaws
+pub mod LentLaws
+pub mod LeastLaws
+pub mod ThumbLaws
+pub mod ListLaws
+pub mod GroupLaws
 pub mod SoughtLaws
+pub mod CountedLaws
+pub mod FoundLaws
 pub mod BusyLaws
 pub mod CopyLaws

@@ -8,7 +8,8 @@ use lib.ListN.{length, getD, take, set, replicate, length-set}
 use lib.Seq.{take-suc-set, take-set-le, take-take, take-length, length-take-le, set-set, set-getD}
 use Rattle.plan_rules.specs.Plans.{busies, largest, timeOf}
 use Rattle.plan_rules.specs.Listed.{upward, placements}
-use Rattle.plan_search.specs.Search.{searchModules, rowPlaces, keepAll, timeOn, tableTime, timeBound, TimeIn, Ready, Placed}
+use Rattle.plan_rules.specs.Least.{keepAll}
+use Rattle.plan_search.specs.Search.{searchModules, rowPlaces, timeOn, tableTime, timeBound, TimeIn, Ready, Placed}
 use Rattle.plan_rules.proofs.BusyLaws.{largest-grows, length-busies, busies-one, busies-most, largest-set, busies-none, largest-zeros}
 use Rattle.plan_search.proofs.SearchLaws.{keep-append, keep-none, keep-one, upward-step, upward-end, tries, placements-more}
 

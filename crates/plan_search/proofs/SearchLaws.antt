@@ -2,14 +2,15 @@
 use Prim.Native.Nat.{ℕ, zero, suc, _+_, _-_, _≤_, _<_}
 use mathlib.Core.Path.{_≡_, refl, ap, _∙_}
 use mathlib.Core.Bool.{Bool, true, false, cond}
-use mathlib.Core.List.{List, [], _∷_, _++_, map, append-assoc, List·Memᴰ, List·Memᴰ·head, List·Memᴰ·tail}
+use mathlib.Core.List.{List, [], _∷_, _++_, map, List·Memᴰ, List·Memᴰ·head, List·Memᴰ·tail}
 use native.Mathlib.Omega.{arith}
 use native.Mathlib.Numerals.{add-one}
 use lib.ListN.{getD}
 use lib.Dec.{ltb}
 use borrow.Author.Tests.{lt-ltb, le-ltb}
 use Rattle.plan_rules.specs.Listed.{upward, placements}
-use Rattle.plan_search.specs.Search.{keepAll}
+use Rattle.plan_rules.specs.Least.{keepAll}
+use Rattle.plan_rules.proofs.FromLaws.{map-upward}
 
 module _ (time : List ℕ → ℕ) where
   keep-append-at : (b x : List ℕ) (xs ys : List (List ℕ)) (t : Bool)
@@ -47,15 +48,6 @@ upward-end c b f h = let e : c - b ≡ 0 = omega arith in rw e
 -- the placements of which the modules before have the buses pre, the next one the bus x, and k modules behind it one of c buses
 unfoldable pub tries : List ℕ → ℕ → ℕ → ℕ → List (List ℕ)
 tries pre k c x = map (λ bs. (pre ++ x ∷ []) ++ bs) (placements k c)
-
-map-append : (pre : List ℕ) (x : ℕ) (xss yss : List (List ℕ)) → map (λ bs. pre ++ bs) (map (λ bs. x ∷ bs) xss ++ yss) ≡ map (λ bs. (pre ++ x ∷ []) ++ bs) xss ++ map (λ bs. pre ++ bs) yss
-map-append pre x [] yss = refl
-map-append pre x (xs ∷ xss) yss = rw (map-append pre x xss yss, append-assoc)
-
-map-upward : (pre : List ℕ) (xss : List (List ℕ)) (n i : ℕ) → map (λ bs. pre ++ bs) (upward n i (λ x. map (λ bs. x ∷ bs) xss)) ≡ upward n i (λ x. map (λ bs. (pre ++ x ∷ []) ++ bs) xss)
-unfolding upward
-map-upward pre xss zero i = refl
-map-upward pre xss (suc n) i = map-append pre i xss (upward n (suc i) (λ x. map (λ bs. x ∷ bs) xss)) ∙ ap (λ r. map (λ bs. (pre ++ i ∷ []) ++ bs) xss ++ r) (map-upward pre xss n (suc i))
 
 pub placements-more : (pre : List ℕ) (n i c : ℕ) → i < n → map (λ bs. pre ++ bs) (placements (n - i) c) ≡ upward (c - 0) 1 (tries pre (n - (i + 1)) c)
 unfolding placements tries

@@ -1,7 +1,11 @@
-// The search for the first plan of least time (document 01, "The plan") over a table of times: width lists in their order, and on each the
-// placements in theirs. It knows numbers alone. What it shows is for the planner above it, which asks it for good tables only.
+// The search for the first plan of least time (document 01, "The plan") over a table of times. It knows numbers alone. What it shows is for the
+// planner above it, which asks it for good tables only.
 mod busy;
+mod groups;
+mod least;
+mod order;
 mod place;
+mod thumb;
 mod widths;
 
 pub use busy::busy_of;

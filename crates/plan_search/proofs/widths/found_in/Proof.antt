@@ -8,7 +8,7 @@ use lib.Seq.{take-all, length-take-le}
 use Rattle.units.specs.Places.{padded}
 use Rattle.units.proofs.PlaceLaws.{padded-none}
 use Rattle.plan_search.specs.Search.{searchBuses, searchModules}
-use Rattle.plan_search.proofs.WidthLaws.{padded-more}
+use Rattle.plan_search.proofs.CopyLaws.{padded-more}
 use Rattle.plan_search.proofs.widths.found_in.Statement.{statement}
 use Rattle.plan_search.proofs.widths.found_in.Tie as tie
 

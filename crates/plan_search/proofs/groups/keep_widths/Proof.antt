@@ -1,4 +1,4 @@
--- `widths::keep_widths` meets its contract. The loop's invariant is `Behind`: the widths before i stand behind their count.
+-- `groups::keep_widths` meets its contract. The loop's invariant is `Behind`: the widths before i stand behind their count.
 -- Assumes nothing.
 use borrow.Author.Needs.{needs}
 use native.Mathlib.Omega.{arith}
@@ -7,8 +7,8 @@ use mathlib.Core.Path.{_∙_}
 use lib.ListN.{length, set, length-set}
 use lib.Seq.{getD-set-same, drop-set-lt}
 use Rattle.plan_search.proofs.CopyLaws.{Behind, behind-first, behind-more, behind-all}
-use Rattle.plan_search.proofs.widths.keep_widths.Statement.{statement}
-use Rattle.plan_search.proofs.widths.keep_widths.Tie as tie
+use Rattle.plan_search.proofs.groups.keep_widths.Statement.{statement}
+use Rattle.plan_search.proofs.groups.keep_widths.Tie as tie
 
 abbrev Inv-loop : tie.InvT-loop
 Inv-loop widths found₀ i₀ found i = (length widths < length found₀) × Behind widths found₀ found i
