@@ -30,7 +30,8 @@ module _ (t : ℕ → ℕ → ℕ) where
   length-busies k (w ∷ ws) xs = ap suc (length-busies (suc k) ws xs)
 
   -- the busy figure of the bus that stands at place j
-  pub busies-at : (bs : List ℕ) (k : ℕ) (ws : List ℕ) (j : ℕ) → j < length ws → getD (busies t bs k ws) j 0 ≡ busyFrom t 0 (k + j) (getD ws j 0) bs
+  pub busies-at : (bs : List ℕ) (k : ℕ) (ws : List ℕ) (j : ℕ) → j < length ws
+      → getD (busies t bs k ws) j 0 ≡ busyFrom t 0 (k + j) (getD ws j 0) bs
   unfolding busies
   busies-at bs k [] j h = absurd (omega arith)
   busies-at bs k (w ∷ ws) zero h = let e : k + 0 ≡ k = omega arith in rw e

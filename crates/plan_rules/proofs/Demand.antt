@@ -1,4 +1,5 @@
--- Demand 3 over any cost of a plan: the first of least cost among all plans is first of least cost, and it is the only such plan. Assumes nothing.
+-- Demand 3 over any cost of a plan: the first of least cost among all plans is first of least cost, and it is the only such plan.
+-- Assumes nothing.
 use Prim.Native.Nat.{ℕ, _≤_}
 use mathlib.Core.Path.{_≡_, refl, sym}
 use mathlib.Core.Logic.{_⊎_, inl, inr, ⊎-elim}

@@ -1,4 +1,5 @@
--- The last search: on the list of widths that was kept, in ascending order of the modules, from one above the time that was kept. Assumes nothing.
+-- The last search: on the list of widths that was kept, in ascending order of the modules, from one above the time that was kept.
+-- Assumes nothing.
 use Prim.Native.Nat.{ℕ, suc, _≤_, _<_, min}
 use mathlib.Core.Path.{_≡_, refl, sym, ap, _∙_}
 use mathlib.Core.Bool.{Bool, true, false, cond}
@@ -22,7 +23,8 @@ module _ (key : List ℕ → ℕ) where
   keep-all-time b (x ∷ xs) = pick (keep-all-time (key x ∷ x) xs) (keep-all-time b xs) (ltb (key x) (getD b 0 0)) refl
     where
       pick : getD (keepAll key (key x ∷ x) xs) 0 0 ≡ leastAll key (key x) xs → getD (keepAll key b xs) 0 0 ≡ leastAll key (getD b 0 0) xs
-          → (t : Bool) → ltb (key x) (getD b 0 0) ≡ t → getD (cond t (keepAll key (key x ∷ x) xs) (keepAll key b xs)) 0 0 ≡ leastAll key (min (getD b 0 0) (key x)) xs
+          → (t : Bool) → ltb (key x) (getD b 0 0) ≡ t → getD (cond t (keepAll key (key x ∷ x) xs) (keepAll key b xs)) 0 0 ≡ leastAll key
+          (min (getD b 0 0) (key x)) xs
       pick p q true e = let m : min (getD b 0 0) (key x) ≡ key x = omega (arith, ltb-true (key x) (getD b 0 0) e) in rw m p
       pick p q false e = let m : min (getD b 0 0) (key x) ≡ getD b 0 0 = omega (arith, ltb-false (key x) (getD b 0 0) e) in rw m q
 
@@ -32,13 +34,16 @@ module _ (key : List ℕ → ℕ) where
   keep-all-none b (x ∷ xs) h = rw (le-ltb (key x) (getD b 0 0) (h x (List·Memᴰ·head refl))) (keep-all-none b xs (λ y m. h y (List·Memᴰ·tail m)))
 
   -- and where it is less than at the start, the placement is the first that takes no more
-  pub keep-all-first : (b : List ℕ) (xs : List (List ℕ)) (T : ℕ) → leastAll key (getD b 0 0) xs ≡ T → T < getD b 0 0 → keepAll key b xs ≡ T ∷ firstWithin key T xs
+  pub keep-all-first : (b : List ℕ) (xs : List (List ℕ)) (T : ℕ) → leastAll key (getD b 0 0) xs ≡ T → T < getD b 0 0
+      → keepAll key b xs ≡ T ∷ firstWithin key T xs
   unfolding keepAll leastAll firstWithin
   keep-all-first b [] T e h = absurd (omega arith)
   keep-all-first b (x ∷ xs) T e h = pick (keep-all-first (key x ∷ x) xs T) (keep-all-first b xs T) (ltb (key x) (getD b 0 0)) refl (leb (key x) T) refl
     where
-      pick : (leastAll key (key x) xs ≡ T → T < key x → keepAll key (key x ∷ x) xs ≡ T ∷ firstWithin key T xs) → (leastAll key (getD b 0 0) xs ≡ T → T < getD b 0 0 → keepAll key b xs ≡ T ∷ firstWithin key T xs)
-          → (t : Bool) → ltb (key x) (getD b 0 0) ≡ t → (s : Bool) → leb (key x) T ≡ s → cond t (keepAll key (key x ∷ x) xs) (keepAll key b xs) ≡ T ∷ cond s x (firstWithin key T xs)
+      pick : (leastAll key (key x) xs ≡ T → T < key x → keepAll key (key x ∷ x) xs ≡ T ∷ firstWithin key T xs)
+          → (leastAll key (getD b 0 0) xs ≡ T → T < getD b 0 0 → keepAll key b xs ≡ T ∷ firstWithin key T xs)
+          → (t : Bool) → ltb (key x) (getD b 0 0) ≡ t → (s : Bool) → leb (key x) T ≡ s → cond t (keepAll key (key x ∷ x) xs)
+          (keepAll key b xs) ≡ T ∷ cond s x (firstWithin key T xs)
       pick p q true f true g =
           let m : min (getD b 0 0) (key x) ≡ key x = omega (arith, ltb-true (key x) (getD b 0 0) f) in
           let l : leastAll key (key x) xs ≡ T = rw m at e in
@@ -83,11 +88,13 @@ module _ (cost : Plan → ℕ) (W B n : ℕ) (wires : 1 ≤ W) (buses : 1 ≤ B)
       omega (
         arith,
         all-in (costOn cost (k .widths)) (suc (k .time)) xs bs m,
-        all-ge (costOn cost (k .widths)) (suc (k .time)) (k .time) xs (omega arith) (λ cs o. omega (arith, s .time-is, best-first cost W B n wires buses .least (plan (k .widths) cs) (plan-on cs o))),
+        all-ge (costOn cost (k .widths)) (suc (k .time)) (k .time) xs (omega arith)
+            (λ cs o. omega (arith, s .time-is, best-first cost W B n wires buses .least (plan (k .widths) cs) (plan-on cs o))),
       )
 
   -- what is kept from one above that time on is the first plan of least time
-  pub last-search : (b : List ℕ) → getD b 0 0 ≡ suc (k .time) → keepAll (costOn cost (k .widths)) b (placements n (length (k .widths))) ≡ k .time ∷ bestOf cost W B n .buses
+  pub last-search : (b : List ℕ) → getD b 0 0 ≡ suc (k .time)
+      → keepAll (costOn cost (k .widths)) b (placements n (length (k .widths))) ≡ k .time ∷ bestOf cost W B n .buses
   last-search b e =
       keep-all-first (costOn cost (k .widths)) b (placements n (length (k .widths))) (k .time) (rw e last-least) (omega arith)
       ∙ ap (λ (v : List ℕ). k .time ∷ v) (sym (ap (λ (p : Plan). p .buses) (s .plan-is)))

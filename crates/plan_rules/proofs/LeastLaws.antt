@@ -50,7 +50,8 @@ module _ (time : Plan → ℕ) where
       }
 
   -- q is no better than p
-  least-no-better : (p q r : Plan) (qs : List Plan) → time p ≤ time q → (time p ≤ time r → r ≡ p) → Least time (p ∷ qs) r → Least time (p ∷ q ∷ qs) r
+  least-no-better : (p q r : Plan) (qs : List Plan) → time p ≤ time q → (time p ≤ time r → r ≡ p) → Least time (p ∷ qs) r
+      → Least time (p ∷ q ∷ qs) r
   least-no-better p q r qs h s l =
       let k = l .least p (List·Memᴰ·head refl) in
       record {
@@ -70,7 +71,8 @@ module _ (time : Plan → ℕ) where
   least-le p [] = omega arith
   least-le p (q ∷ qs) = pick (least-le q qs) (least-le p qs) (ltb (time q) (time p)) refl
     where
-      pick : time (firstLeast time q qs) ≤ time q → time (firstLeast time p qs) ≤ time p → (t : Bool) → ltb (time q) (time p) ≡ t → time (cond t (firstLeast time q qs) (firstLeast time p qs)) ≤ time p
+      pick : time (firstLeast time q qs) ≤ time q → time (firstLeast time p qs) ≤ time p → (t : Bool) → ltb (time q) (time p) ≡ t
+          → time (cond t (firstLeast time q qs) (firstLeast time p qs)) ≤ time p
       pick a b true e = omega (arith, ltb-true (time q) (time p) e)
       pick a b false e = b
 
@@ -80,7 +82,8 @@ module _ (time : Plan → ℕ) where
   least-same p [] h = refl
   least-same p (q ∷ qs) h = pick (least-same p qs) (ltb (time q) (time p)) refl h
     where
-      pick : (time p ≤ time (firstLeast time p qs) → firstLeast time p qs ≡ p) → (t : Bool) → ltb (time q) (time p) ≡ t → time p ≤ time (cond t (firstLeast time q qs) (firstLeast time p qs))
+      pick : (time p ≤ time (firstLeast time p qs) → firstLeast time p qs ≡ p) → (t : Bool) → ltb (time q) (time p) ≡ t
+          → time p ≤ time (cond t (firstLeast time q qs) (firstLeast time p qs))
           → cond t (firstLeast time q qs) (firstLeast time p qs) ≡ p
       pick ih true e k = absurd (omega (arith, ltb-true (time q) (time p) e, least-le q qs))
       pick ih false e k = ih k
@@ -90,7 +93,8 @@ module _ (time : Plan → ℕ) where
   least-is p [] = least-one p
   least-is p (q ∷ qs) = pick (least-is q qs) (least-is p qs) (ltb (time q) (time p)) refl
     where
-      pick : Least time (q ∷ qs) (firstLeast time q qs) → Least time (p ∷ qs) (firstLeast time p qs) → (t : Bool) → ltb (time q) (time p) ≡ t
+      pick : Least time (q ∷ qs) (firstLeast time q qs) → Least time (p ∷ qs) (firstLeast time p qs) → (t : Bool)
+          → ltb (time q) (time p) ≡ t
           → Least time (p ∷ q ∷ qs) (cond t (firstLeast time q qs) (firstLeast time p qs))
       pick a b true e = least-better p q (firstLeast time q qs) qs (ltb-true (time q) (time p) e) a
       pick a b false e = least-no-better p q (firstLeast time p qs) qs (ltb-false (time q) (time p) e) (least-same p qs) b

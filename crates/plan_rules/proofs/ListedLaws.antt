@@ -1,4 +1,5 @@
--- The list `plans W B n` holds the plans for W wires, limit B and n planned modules, all of them and nothing else, and it is not empty. Assumes nothing.
+-- The list `plans W B n` holds the plans for W wires, limit B and n planned modules, all of them and nothing else, and it is not empty.
+-- Assumes nothing.
 use Prim.Native.Nat.{ℕ, zero, suc, _+_, _-_, _≤_, _<_, min}
 use mathlib.Core.Path.{_≡_, refl, sym, ap, _∙_, subst}
 use mathlib.Core.Bool.{Bool, true, false, cond}

@@ -45,7 +45,8 @@ before-trans p q r (lower e s) (lower f t) = lower (e ∙ f) (smaller-trans s t)
 pub before-not : (p q : Plan) → Before p q → Before q p → ⊥
 before-not p q b c = before-irr p (before-trans p q p b c)
 
-front-smaller : (j k : ℕ) → j < k → (xss yss : List (List ℕ)) (x y : List ℕ) → List·Memᴰ x (map (λ v. j ∷ v) xss) → List·Memᴰ y (map (λ v. k ∷ v) yss) → Smaller x y
+front-smaller : (j k : ℕ) → j < k → (xss yss : List (List ℕ)) (x y : List ℕ) → List·Memᴰ x (map (λ v. j ∷ v) xss)
+    → List·Memᴰ y (map (λ v. k ∷ v) yss) → Smaller x y
 front-smaller j k h xss yss x y m r =
     let u = Memᴰ·of-map (λ v. j ∷ v) xss m in
     let v = Memᴰ·of-map (λ v. k ∷ v) yss r in
@@ -71,7 +72,8 @@ placements-sorted (suc n) c =
     (λ b. map-sorted Smaller Smaller (λ bs. b ∷ bs) (λ x y s. behind s) (placements n c) (placements-sorted n c))
     (λ j k h. front-smaller j k h (placements n c) (placements n c))
 
-pub plans-on-sorted : (n c : ℕ) (wss : List (List ℕ)) → ((ws : List ℕ) → List·Memᴰ ws wss → length ws ≡ c) → Sorted Smaller wss → Sorted Before (plansOn n c wss)
+pub plans-on-sorted : (n c : ℕ) (wss : List (List ℕ)) → ((ws : List ℕ) → List·Memᴰ ws wss → length ws ≡ c) → Sorted Smaller wss
+    → Sorted Before (plansOn n c wss)
 unfolding plansOn
 plans-on-sorted n c [] l none = none
 plans-on-sorted n c (ws ∷ wss) l (more h s) =
@@ -81,7 +83,8 @@ plans-on-sorted n c (ws ∷ wss) l (more h s) =
     (λ x y m r.
     let u = Memᴰ·of-map (plan ws) (placements n c) m in
     let v = plans-on-of n c wss y r .0 in
-    subst (λ (p : Plan). Before p y) (u .2) (narrower (l ws (List·Memᴰ·head refl) ∙ sym (l (y .widths) (List·Memᴰ·tail v))) (h (y .widths) v)))
+    subst (λ (p : Plan). Before p y) (u .2)
+    (narrower (l ws (List·Memᴰ·head refl) ∙ sym (l (y .widths) (List·Memᴰ·tail v))) (h (y .widths) v)))
 
 -- every element of the list stands before every later one
 pub sorted : (W B n : ℕ) → Sorted Before (plans W B n)

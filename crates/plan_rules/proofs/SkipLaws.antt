@@ -1,5 +1,5 @@
--- What a search may skip: plans that are no better than the best so far, and lower bounds of the time of a plan, from the time of one module and from
--- the times of all of them together. For any time and any list of plans. Assumes nothing.
+-- What a search may skip: plans that are no better than the best so far, and lower bounds of the time of a plan, from the time of one
+-- module and from the times of all of them together. For any time and any list of plans. Assumes nothing.
 use Prim.Native.Nat.{ℕ, zero, suc, _+_, _-_, _*_, _≤_, _<_, max}
 use mathlib.Core.Path.{_≡_, refl, sym, ap, _∙_}
 use mathlib.Core.Bool.{Bool, true, false, cond}

@@ -1,5 +1,5 @@
--- Where no bus is narrower, no placement costs more: so the least time on the widest that some lists of widths can be is at most that on each of
--- these lists, and where that is not below the best, all of them may be skipped. Assumes nothing.
+-- Where no bus is narrower, no placement costs more: so the least time on the widest that some lists of widths can be is at most that
+-- on each of these lists, and where that is not below the best, all of them may be skipped. Assumes nothing.
 use Prim.Native.Nat.{ℕ, zero, suc, _+_, _-_, _*_, _/_, _≤_, _<_, min}
 use mathlib.Core.Path.{_≡_, refl, ap}
 use mathlib.Core.Bool.{Bool, true, false, cond}
@@ -21,7 +21,8 @@ wider-length nothing = refl
 wider-length (wider l h t r) = ap suc (wider-length r)
 
 -- the same widths before both
-pub wider-behind : (top u : ℕ) (pre : List ℕ) {ws vs : List ℕ} → 1 ≤ u → Rising u pre → largest pre ≤ top → Wider top ws vs → Wider top (pre ++ ws) (pre ++ vs)
+pub wider-behind : (top u : ℕ) (pre : List ℕ) {ws vs : List ℕ} → 1 ≤ u → Rising u pre → largest pre ≤ top → Wider top ws vs
+    → Wider top (pre ++ ws) (pre ++ vs)
 unfolding largest
 wider-behind top u [] h r t p = p
 wider-behind top u (w ∷ pre) h (more l r) t p =
@@ -31,7 +32,8 @@ wider-behind top u (w ∷ pre) h (more l r) t p =
     wider some same fits (wider-behind top w pre some r (omega arith) p)
 
 -- where every placement costs at most as much on wider buses, so does the least
-pub wider-least : (cost : Plan → ℕ) (n top : ℕ) {ws vs : List ℕ} → Wider top ws vs → ((bs : List ℕ) → length bs ≡ n → costOn cost vs bs ≤ costOn cost ws bs) → (t : ℕ)
+pub wider-least : (cost : Plan → ℕ) (n top : ℕ) {ws vs : List ℕ} → Wider top ws vs
+    → ((bs : List ℕ) → length bs ≡ n → costOn cost vs bs ≤ costOn cost ws bs) → (t : ℕ)
     → leastBy cost n vs t ≤ leastBy cost n ws t
 unfolding leastBy
 wider-least cost n top {ws} {vs} r h t =
@@ -44,7 +46,8 @@ cond-le true x y h = h
 cond-le false x y h = omega arith
 
 -- times that do not rise: nor do busy figures
-busy-falls : (time : ℕ → ℕ → ℕ) (i b u w : ℕ) (xs : List ℕ) → ((k : ℕ) → i ≤ k → k < i + length xs → time k u ≤ time k w) → busyFrom time i b u xs ≤ busyFrom time i b w xs
+busy-falls : (time : ℕ → ℕ → ℕ) (i b u w : ℕ) (xs : List ℕ) → ((k : ℕ) → i ≤ k → k < i + length xs → time k u ≤ time k w)
+    → busyFrom time i b u xs ≤ busyFrom time i b w xs
 unfolding busyFrom
 busy-falls time i b u w [] h = omega arith
 busy-falls time i b u w (x ∷ xs) h =
@@ -52,7 +55,8 @@ busy-falls time i b u w (x ∷ xs) h =
 
 -- the times of n modules, which do not rise with the width up to top
 module _ (time : ℕ → ℕ → ℕ) (n top : ℕ) (falls : (i v w : ℕ) → i < n → 1 ≤ v → v ≤ w → w ≤ top → time i w ≤ time i v) where
-  wider-busies : (bs : List ℕ) → length bs ≡ n → (b : ℕ) {ws vs : List ℕ} → Wider top ws vs → largest (busies time bs b vs) ≤ largest (busies time bs b ws)
+  wider-busies : (bs : List ℕ) → length bs ≡ n → (b : ℕ) {ws vs : List ℕ} → Wider top ws vs
+      → largest (busies time bs b vs) ≤ largest (busies time bs b ws)
   unfolding busies largest
   wider-busies bs e b nothing = omega arith
   wider-busies bs e b (wider {w} {v} l h t r) =
@@ -75,7 +79,8 @@ rising-share u [] none = omega arith
 rising-share u (w ∷ ws) (more l r) = omega (arith, rising-share w ws r, mul-le-mul-left (length ws) l, suc-mul (length ws) u)
 
 -- no list of c widths of at least low, of W wires, is wider than `widest`
-pub widest-wider : (top c low W u : ℕ) (ws : List ℕ) → length ws ≡ c → Rising u ws → sum ws ≤ W → low ≤ u → 1 ≤ low → W ≤ top → Wider top ws (widest c low W)
+pub widest-wider : (top c low W u : ℕ) (ws : List ℕ) → length ws ≡ c → Rising u ws → sum ws ≤ W → low ≤ u → 1 ≤ low → W ≤ top
+    → Wider top ws (widest c low W)
 unfolding widest sum
 widest-wider top zero low W u [] e r s l k t = nothing
 widest-wider top zero low W u (w ∷ ws) e r s l k t = absurd (omega arith)
@@ -138,7 +143,8 @@ even-rising (suc c) w W u l h =
     rw e (more l (even-rising c w (W - w) w (omega arith) (omega (arith, suc-mul (suc c) w))))
 
 -- buses of equal width and one that has the rest, with a placement on them, are a plan
-pub even-plan : (c w W B n : ℕ) (bs : List ℕ) → 1 ≤ w → suc c * w ≤ W → suc c ≤ B → List·Memᴰ bs (placements n (suc c)) → IsPlan W B n (plan (even c w W) bs)
+pub even-plan : (c w W B n : ℕ) (bs : List ℕ) → 1 ≤ w → suc c * w ≤ W → suc c ≤ B → List·Memᴰ bs (placements n (suc c))
+    → IsPlan W B n (plan (even c w W) bs)
 unfolding plans
 even-plan c w W B n bs l h b m =
     let s = even-sum c w W (omega (arith, suc-mul c w)) in

@@ -1,4 +1,5 @@
--- What it is to be the first plan of least cost (document 01, "The plan": "The answer is the first plan of least time."), with no mention of a search.
+-- What it is to be the first plan of least cost (document 01, "The plan": "The answer is the first plan of least time."), with no
+-- mention of a search.
 use Prim.Native.Nat.{ℕ, _≤_}
 use mathlib.Core.Path.{_≡_}
 use Rattle.plan_rules.specs.Plans.{Plan, IsPlan}

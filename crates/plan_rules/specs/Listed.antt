@@ -1,4 +1,5 @@
--- All plans, listed in their order, and the first of least time among them (document 01, "The plan"): "The answer is the first plan of least time."
+-- All plans, listed in their order, and the first of least time among them (document 01, "The plan"): "The answer is the first plan of
+-- least time."
 use Prim.Native.Nat.{ℕ, zero, suc, _-_, min}
 use mathlib.Core.Bool.{cond}
 use mathlib.Core.List.{List, [], _∷_, _++_, map}

@@ -1,5 +1,5 @@
--- The order of plans (document 01, "The plan"): "fewer buses first, then widths compared from bus 1, then bus numbers compared from the lowest module
--- number; smaller first."
+-- The order of plans (document 01, "The plan"): "fewer buses first, then widths compared from bus 1, then bus numbers compared from the
+-- lowest module number; smaller first."
 use Prim.Native.Nat.{ℕ, _<_}
 use mathlib.Core.Path.{_≡_}
 use mathlib.Core.List.{List, _∷_}

@@ -1,5 +1,5 @@
--- Laws of the search over all lists of widths, by the number of buses: what holds as it rises (`Counted`), and what a part that was lent leaves in the
--- whole. Assumes nothing.
+-- Laws of the search over all lists of widths, by the number of buses: what holds as it rises (`Counted`), and what a part that was
+-- lent leaves in the whole. Assumes nothing.
 use Prim.Native.Nat.{ℕ, zero, suc, _+_, _-_, _*_, _/_, _≤_, _<_, min}
 use mathlib.Core.Path.{_≡_, refl, sym, ap, _∙_}
 use mathlib.Core.Logic.{_⊎_, ⊎-elim}
@@ -106,7 +106,8 @@ module _ (t : List ℕ) (W B n best₀ : ℕ) (found₀ : List ℕ) where
 
         -- the lists of c widths were searched
         pub counted-next : (widths′ found′ : List ℕ) (r′ : ℕ) → length widths′ ≡ length (take c widths)
-            → Sought t n (group (take 0 (take c widths)) (length (take c widths) - (0 + 1)) 1 (W / c) W) r found r′ found′ → Counted (widths′ ++ drop c widths) found′ r′ (c + 1)
+            → Sought t n (group (take 0 (take c widths)) (length (take c widths) - (0 + 1)) 1 (W / c) W) r found r′ found′ → Counted
+            (widths′ ++ drop c widths) found′ r′ (c + 1)
         counted-next widths′ found′ r′ e q = record {
           from = omega arith;
           upto = omega arith;

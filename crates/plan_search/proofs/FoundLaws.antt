@@ -1,5 +1,5 @@
--- Laws of what was found: the list of widths that is kept is that of the first plan of least time, and the first placement on it that keeps to the
--- time is its own. Assumes nothing.
+-- Laws of what was found: the list of widths that is kept is that of the first plan of least time, and the first placement on it that
+-- keeps to the time is its own. Assumes nothing.
 use Prim.Native.Nat.{ℕ, suc, _+_, _-_, _*_, _≤_, _<_}
 use mathlib.Core.Path.{_≡_, refl, sym, ap, _∙_}
 use mathlib.Core.List.{List, [], _∷_}
@@ -55,7 +55,8 @@ module _ (t : List ℕ) (W B n : ℕ) (wires : 1 ≤ W) (buses : 1 ≤ B) where
       record { count = refl; wires = r .wires; rising = r .rising }
 
   -- a time that some plan takes, with the rows in another order, is the time of a search's start: what is kept from there on stands
-  pub stands-from : {order new : List ℕ} (k : Kept) {k′ : Kept} {bound : ℕ} → W ≤ rowPlaces → length order ≡ n → RowsIn t order new → Reached (tableTime new) W B n bound
+  pub stands-from : {order new : List ℕ} (k : Kept) {k′ : Kept} {bound : ℕ} → W ≤ rowPlaces → length order ≡ n → RowsIn t order new
+      → Reached (tableTime new) W B n bound
       → k .time ≡ bound + 1 → k′ ≡ keepLists (leastOn (tableTime new) n) k (allLists W B) → Stands (timeOf (tableTime t)) n k′ best
   stands-from {order} {new} k {k′} {bound} narrow long r a e f =
       let i : InOrder n rowPlaces order (tableTime t) (tableTime new) = rw long at (r .in-order) in
@@ -83,7 +84,8 @@ module _ (t : List ℕ) (W B n : ℕ) (wires : 1 ≤ W) (buses : 1 ≤ B) where
         let l : length (take (getD found 0 0) (drop 1 found)) ≡ getD found 0 0 = length-take-le (getD found 0 0) (drop 1 found) (simp length-drop (omega arith)) in
         sym l ∙ ap length found-widths
 
-    pub found-buses : {ws : List ℕ} (b : List ℕ) {b′ : List ℕ} {m : ℕ} → ws ≡ take (getD found 0 0) (drop 1 found) → m ≡ n → getD b 0 0 ≡ suc T
+    pub found-buses : {ws : List ℕ} (b : List ℕ) {b′ : List ℕ} {m : ℕ} → ws ≡ take (getD found 0 0) (drop 1 found) → m ≡ n
+        → getD b 0 0 ≡ suc T
         → b′ ≡ keepAll (timeOn t ws) b (placements m (length ws)) → b′ ≡ T ∷ best .buses
     found-buses b e f h g = g ∙ rw (e, f) (last-search (timeOf (tableTime t)) W B n wires buses (kept T found) s b h)
 

@@ -1,4 +1,5 @@
--- Laws of groups of width lists: what the widest of a group is, when all of a group may be skipped, and how a group falls into others. Assumes nothing.
+-- Laws of groups of width lists: what the widest of a group is, when all of a group may be skipped, and how a group falls into others.
+-- Assumes nothing.
 use Prim.Native.Nat.{ℕ, zero, suc, _+_, _-_, _*_, _/_, _≤_, _<_}
 use mathlib.Core.Path.{_≡_, refl, sym, ap, _∙_, subst}
 use mathlib.Core.Logic.{⊎-elim}
@@ -86,10 +87,12 @@ module _ {ws : List ℕ} {at low high left : ℕ} (g : Group at low high left ws
       let fits : w ≤ high = omega (arith, u .1, u .2, g .upward) in
       let narrow : high ≤ rowPlaces = omega (arith, high-left, g .narrow) in
       let behind : Wider rowPlaces (x .0) (widest k low (left - low)) =
-      widest-wider rowPlaces k low (left - low) w (x .0) (r .count) (r .rising) (omega (arith, r .wires, u .1)) (u .1) (g .some) (omega (arith, g .narrow)) in
+      widest-wider rowPlaces k low (left - low) w (x .0) (r .count) (r .rising) (omega (arith, r .wires, u .1)) (u .1) (g .some)
+      (omega (arith, g .narrow)) in
       let front : largest (take at ws) ≤ rowPlaces = omega (arith, g .front-most, g .upward) in
       let e : take at ws ++ w ∷ x .0 ≡ vs = sym (append-assoc (take at ws) (w ∷ []) (x .0)) ∙ x .2 in
-      subst (λ (ys : List ℕ). Wider rowPlaces ys wide) e (wider-behind rowPlaces 1 (take at ws) (omega arith) (g .front) front (wider some fits narrow behind))
+      subst (λ (ys : List ℕ). Wider rowPlaces ys wide) e
+      (wider-behind rowPlaces 1 (take at ws) (omega arith) (g .front) front (wider some fits narrow behind))
 
   -- so where nothing less is found on it, all of them may be skipped
   pub group-none : {t : List ℕ} {n : ℕ} → IsTable t n → (k : Kept) → leastOn (tableTime t) n wide (k .time) ≡ k .time
@@ -109,7 +112,8 @@ pub group-split : (pre : List ℕ) (k low middle high left : ℕ) → low ≤ mi
 group-split pre k low middle high left l h =
     let e : suc high - low ≡ suc middle - low + (suc high - (middle + 1)) = omega arith in
     let i : low + (suc middle - low) ≡ middle + 1 = omega arith in
-    ap (λ n. upward n low (startingWith pre k left)) e ∙ upward-append (startingWith pre k left) (suc middle - low) (suc high - (middle + 1)) low ∙ rw i
+    ap (λ n. upward n low (startingWith pre k left)) e
+    ∙ upward-append (startingWith pre k left) (suc middle - low) (suc high - (middle + 1)) low ∙ rw i
 
 -- one more width is set
 module _ {ws : List ℕ} {at low left : ℕ} (g : Group at low low left ws) where
@@ -163,7 +167,8 @@ module _ {ws : List ℕ} {at low left : ℕ} (g : Group at low low left ws) wher
         let k : length ws - (at + 1) ≡ suc (length next - (at + 1 + 1)) = rw length-set (omega arith) in
         rw o (append-nil (startingWith (take at ws) (length ws - (at + 1)) left low)
         ∙ ap (λ m. map (λ us. (take at ws ++ low ∷ []) ++ us) (widthLists m low (left - low))) k
-        ∙ rw (← next-front) (lists-group (take (at + 1) next) (length next - (at + 1 + 1)) low (left - low) behind (g .some) (div-le-self (left - low) (length ws - (at + 1)))
+        ∙ rw (← next-front)
+        (lists-group (take (at + 1) next) (length next - (at + 1 + 1)) low (left - low) behind (g .some) (div-le-self (left - low) (length ws - (at + 1)))
         (λ z. let w : length ws - (at + 1) ≡ 1 = omega arith in rw w (omega arith))
         (λ w h. rw (← k) (omega (arith, div-lt-iff-lt-mul p .0 h, mul-comm w (length ws - (at + 1)))))))
 
@@ -190,7 +195,8 @@ module _ {ws : List ℕ} {at low high left : ℕ} (g : Group at low high left ws
   group-last =
       let z : length ws - (at + 1) ≡ 0 = omega arith in
       let e : high ≡ left = g .last last in
-      rw (z, e, last-is) (sym (lists-group (take at ws) 0 low left left (g .some) (omega arith) (λ f. refl) (λ w h. omega arith)) ∙ rw (width-lists-one low left last-fits))
+      rw (z, e, last-is)
+      (sym (lists-group (take at ws) 0 low left left (g .some) (omega arith) (λ f. refl) (λ w h. omega arith)) ∙ rw (width-lists-one low left last-fits))
 
 -- the halves of a group, in other widths that begin alike
 module _ {ws vs : List ℕ} {at low high left : ℕ} (g : Group at low high left ws) (less : suc at < length ws) (apart : low ≡ high → ⊥)
@@ -267,7 +273,8 @@ module _ {ws : List ℕ} {at low high left : ℕ} (g : Group at low high left ws
   }
 
   -- all are set
-  pub widened-wide : {vs : List ℕ} → vs ≡ take (at + 1) (set ws at high) ++ widest (length (set ws at high) - (at + 1)) low (left - low) → vs ≡ wide g
+  pub widened-wide : {vs : List ℕ} → vs ≡ take (at + 1) (set ws at high) ++ widest (length (set ws at high) - (at + 1)) low (left - low)
+      → vs ≡ wide g
   widened-wide e =
       let f : take (at + 1) (set ws at high) ≡ take at ws ++ high ∷ [] = rw (add-one at) (take-suc-set ws at high (omega (arith, g .at-most))) in
       e ∙ rw (f, length-set) (append-assoc (take at ws) (high ∷ []) (widest (length ws - (at + 1)) low (left - low)))

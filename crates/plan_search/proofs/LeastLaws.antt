@@ -29,7 +29,8 @@ pub record Left (t ws rest : List ℕ) (i best : ℕ) (loads₀ loads : List ℕ
   pub loads-same : loads ≡ loads₀
   pub small : r ≤ bestMax
   pub left-is : leastFrom (tableTime t) ws (length rest - 1 - i) i loads₀ best
-      ≡ eachBus (length ws - b) b (λ j s. leastFrom (tableTime t) ws (length rest - 1 - (i + 1)) (i + 1) (loaded loads₀ j (tableTime t i (getD ws j 0))) s) r
+      ≡ eachBus (length ws - b) b
+      (λ j s. leastFrom (tableTime t) ws (length rest - 1 - (i + 1)) (i + 1) (loaded loads₀ j (tableTime t i (getD ws j 0))) s) r
 
 module _ {t ws rest : List ℕ} {i top load : ℕ} {loads₀ : List ℕ} (B : Board t ws rest) (L : Loads ws i top load loads₀) (at : i < length rest) where
   pub rest-most : getD rest i 0 ≤ searchModules * timeBound
@@ -48,7 +49,8 @@ module _ {t ws rest : List ℕ} {i top load : ℕ} {loads₀ : List ℕ} (B : Bo
       exactly (sym (from-load-skip (tableTime t) (λ j. tableTime t j (lastOf ws)) ws (length rest - 1 - i) i loads₀ best (L .long)
       (λ k j l m n. last-least (B .widths) (B .table) k j (omega arith) n) (omega (arith, L .load-is, B .rest-is i at))))
 
-  pub out-end : {best enough : ℕ} → top < best → i + 1 ≡ length rest → Reaches (leastFrom (tableTime t) ws (length rest - 1 - i) i loads₀ best) enough top
+  pub out-end : {best enough : ℕ} → top < best → i + 1 ≡ length rest
+      → Reaches (leastFrom (tableTime t) ws (length rest - 1 - i) i loads₀ best) enough top
   out-end {best} h e = exactly (omega (arith, from-end (tableTime t) ws (length rest - 1) i loads₀ best (omega arith), L .top-is))
 
   module _ (less : suc i < length rest) where
@@ -65,7 +67,8 @@ module _ {t ws rest : List ℕ} {i top load : ℕ} {loads₀ : List ℕ} (B : Bo
       pub left-end : {enough : ℕ} → length ws ≤ b → Reaches (leastFrom (tableTime t) ws (length rest - 1 - i) i loads₀ best) enough r
       left-end h = exactly (sym (l .left-is ∙ each-end (length ws) b tried r h))
 
-      module _ {x new next : ℕ} (h : b < length ws) (e : x ≡ tableTime t i (getD ws b 0)) (n : new ≡ getD loads b 0 + x) (m : next ≡ max top new) where
+      module _ {x new next : ℕ} (h : b < length ws) (e : x ≡ tableTime t i (getD ws b 0)) (n : new ≡ getD loads b 0 + x)
+          (m : next ≡ max top new) where
         next-loads : set loads b new ≡ loaded loads₀ b (tableTime t i (getD ws b 0))
         next-loads = rw (n, e, l .loads-same)
 

@@ -1,5 +1,5 @@
--- Laws of the width lists, as a search goes over them: stretches that are joined, widths at which the others have no room, the last width. Assumes
--- nothing.
+-- Laws of the width lists, as a search goes over them: stretches that are joined, widths at which the others have no room, the last
+-- width. Assumes nothing.
 use Prim.Native.Nat.{ℕ, zero, suc, _+_, _-_, _*_, _≤_, _<_}
 use mathlib.Core.Path.{_≡_, refl, sym, ap, _∙_}
 use mathlib.Core.List.{List, [], _∷_, _++_, map, append-assoc, append-nil}
@@ -57,11 +57,13 @@ width-lists-one low left h =
     let z : left - left ≡ 0 = omega arith in
     rw e (upward-last (λ w. map (λ ws. w ∷ ws) (widthLists zero w (left - w))) (left - low) low left (omega arith) (λ w l m. rw (ne-eqb (left - w) 0 (λ n. omega arith))) ∙ rw z)
 
-starting-append : (pre : List ℕ) (w : ℕ) (vss wss : List (List ℕ)) → map (λ ws. pre ++ ws) (map (λ ws. w ∷ ws) vss ++ wss) ≡ map (λ ws. (pre ++ w ∷ []) ++ ws) vss ++ map (λ ws. pre ++ ws) wss
+starting-append : (pre : List ℕ) (w : ℕ) (vss wss : List (List ℕ))
+    → map (λ ws. pre ++ ws) (map (λ ws. w ∷ ws) vss ++ wss) ≡ map (λ ws. (pre ++ w ∷ []) ++ ws) vss ++ map (λ ws. pre ++ ws) wss
 starting-append pre w [] wss = refl
 starting-append pre w (vs ∷ vss) wss = rw (starting-append pre w vss wss, append-assoc)
 
-starting-upward : (pre : List ℕ) (k left n i : ℕ) → map (λ ws. pre ++ ws) (upward n i (λ w. map (λ ws. w ∷ ws) (widthLists k w (left - w)))) ≡ upward n i (startingWith pre k left)
+starting-upward : (pre : List ℕ) (k left n i : ℕ)
+    → map (λ ws. pre ++ ws) (upward n i (λ w. map (λ ws. w ∷ ws) (widthLists k w (left - w)))) ≡ upward n i (startingWith pre k left)
 unfolding upward startingWith
 starting-upward pre k left zero i = refl
 starting-upward pre k left (suc n) i =
@@ -74,7 +76,8 @@ unfolding startingWith
 starting-none pre k left w h l m = rw (width-lists-none k w (left - w) h l (omega (arith, suc-mul k w, mul-le-mul-left k l)))
 
 -- the lists of widths behind pre, of which the first is at most an equal share of what is left; the last is all of it
-pub lists-group : (pre : List ℕ) (k low left most : ℕ) → 1 ≤ low → most ≤ left → (k ≡ 0 → most ≡ left) → ((w : ℕ) → suc most ≤ w → left < suc k * w)
+pub lists-group : (pre : List ℕ) (k low left most : ℕ) → 1 ≤ low → most ≤ left → (k ≡ 0 → most ≡ left)
+    → ((w : ℕ) → suc most ≤ w → left < suc k * w)
     → map (λ ws. pre ++ ws) (widthLists (suc k) low left) ≡ upward (suc most - low) low (startingWith pre k left)
 unfolding widthLists
 lists-group pre zero low left most l m z s = let e : most ≡ left = z refl in rw e (starting-upward pre zero left (suc left - low) low)

@@ -108,7 +108,8 @@ module _ {t ws : List ℕ} {i top : ℕ} {loads₀ buses₀ best₀ : List ℕ} 
           room = simp length-set (omega (arith, r .room, l .buses-length, l .best-length));
         }
 
-        pub left-tried : {loads′ buses′ best′ : List ℕ} → Placed t ws (i + 1) (set loads b load) loads′ (set buses i (b + 1)) buses′ best best′
+        pub left-tried : {loads′ buses′ best′ : List ℕ}
+            → Placed t ws (i + 1) (set loads b load) loads′ (set buses i (b + 1)) buses′ best best′
             → length buses′ ≡ length (set buses i (b + 1)) → length best′ ≡ length best
             → Left t ws i loads₀ buses₀ best₀ (set loads′ b (getD loads b 0)) buses′ best′ (b + 1)
         unfolding tries
@@ -120,14 +121,16 @@ module _ {t ws : List ℕ} {i top : ℕ} {loads₀ buses₀ best₀ : List ℕ} 
               buses-length = u ∙ s;
               best-length = v ∙ l .best-length;
               buses-same =
-                  sym (take-take i (i + 1) buses′ (omega arith)) ∙ ap (take i) (p .buses-same) ∙ take-take i (i + 1) (set buses i (b + 1)) (omega arith)
+                  sym (take-take i (i + 1) buses′ (omega arith)) ∙ ap (take i) (p .buses-same)
+                  ∙ take-take i (i + 1) (set buses i (b + 1)) (omega arith)
                   ∙ take-set-le i buses i (b + 1) (omega arith)
                   ∙ l .buses-same;
               best-is = left-more h ∙ rw (p .best-is, s, next-buses);
             }
 
         -- the try is dropped
-        dropped : getD best 0 0 ≤ next → keepAll (timeOn t ws) best (tries (take i buses₀) (length buses₀ - (i + 1)) (length ws) (b + 1)) ≡ best
+        dropped : getD best 0 0 ≤ next
+            → keepAll (timeOn t ws) best (tries (take i buses₀) (length buses₀ - (i + 1)) (length ws) (b + 1)) ≡ best
         unfolding tries timeOf
         dropped g =
             let q = take i buses₀ ++ (b + 1) ∷ [] in

@@ -35,7 +35,8 @@ module _ (f : ℕ → ℕ) (n : ℕ) where
   }
 
   -- one module more
-  pub summed-next : (rest : List ℕ) (i x v : ℕ) → Summed f n rest (suc i) → x ≡ f i → v ≡ getD rest (suc i) 0 + x → Summed f n (set rest i v) i
+  pub summed-next : (rest : List ℕ) (i x v : ℕ) → Summed f n rest (suc i) → x ≡ f i → v ≡ getD rest (suc i) 0 + x
+      → Summed f n (set rest i v) i
   unfolding total
   summed-next rest i x v s e g = record {
     upto = omega (arith, s .upto);

@@ -1,4 +1,5 @@
--- Laws of `Sought`: the first list of least time, over one list, over lists that are skipped, and over lists that are joined. Assumes nothing.
+-- Laws of `Sought`: the first list of least time, over one list, over lists that are skipped, and over lists that are joined. Assumes
+-- nothing.
 use Prim.Native.Nat.{ℕ, _+_, _-_, _≤_, _<_}
 use mathlib.Core.Path.{_≡_, refl, sym, ap, _∙_}
 use mathlib.Core.Logic.{⊎-elim}
@@ -16,7 +17,8 @@ use Rattle.plan_search.specs.Least.{Reaches}
 use Rattle.plan_search.specs.Lists.{kept, Rooms, Sought}
 
 -- a time below best was sought, and is not found
-pub not-found : (t ws : List ℕ) (n best r : ℕ) → 1 ≤ best → best ≤ r → Reaches (leastOn (tableTime t) n ws best) (best - 1) r → leastOn (tableTime t) n ws best ≡ best
+pub not-found : (t ws : List ℕ) (n best r : ℕ) → 1 ≤ best → best ≤ r → Reaches (leastOn (tableTime t) n ws best) (best - 1) r
+    → leastOn (tableTime t) n ws best ≡ best
 not-found t ws n best r some h q = omega (arith, q .exact (omega arith), least-le (timeOf (tableTime t)) n ws best)
 
 -- nothing is enough but the least itself
@@ -29,7 +31,8 @@ found-exact {least} {r} q = ⊎-elim (λ z. omega (arith, q .lower, z)) (λ l. q
 -- the least time on buses of the widths ws was sought
 module _ {t ws found : List ℕ} {n best r : ℕ} (rooms : Rooms (length ws) found) (least : r ≡ leastOn (tableTime t) n ws best) where
   -- it is less: the widths are kept
-  pub sought-less : (found′ : List ℕ) → r < best → found′ ≡ length ws ∷ ws ++ drop (length ws + 1) found → Sought t n (ws ∷ []) best found r found′
+  pub sought-less : (found′ : List ℕ) → r < best → found′ ≡ length ws ∷ ws ++ drop (length ws + 1) found
+      → Sought t n (ws ∷ []) best found r found′
   unfolding keepLists keep
   sought-less found′ h e =
       let places = rooms .places in
@@ -50,7 +53,8 @@ module _ {t ws found : List ℕ} {n best r : ℕ} (rooms : Rooms (length ws) fou
       record { is = rw (← least, b, e); count = rooms .count; same-room = refl }
 
 -- the lists are skipped
-pub sought-none : {t found : List ℕ} {n c best : ℕ} (wss : List (List ℕ)) → Rooms c found → keepLists (leastOn (tableTime t) n) (kept best found) wss ≡ kept best found
+pub sought-none : {t found : List ℕ} {n c best : ℕ} (wss : List (List ℕ)) → Rooms c found
+    → keepLists (leastOn (tableTime t) n) (kept best found) wss ≡ kept best found
     → Sought t n wss best found best found
 sought-none wss rooms e = record { is = sym e; count = rooms .count; same-room = refl }
 
@@ -70,9 +74,11 @@ sought-le {t} {found = found} {n = n} {best = best} wss s =
     omega (arith, e, keep-le (leastOn (tableTime t) n) (kept best found) wss)
 
 -- the lists may be named otherwise
-pub sought-as : {t found found′ : List ℕ} {n best best′ : ℕ} {wss wss′ : List (List ℕ)} → wss′ ≡ wss → Sought t n wss best found best′ found′ → Sought t n wss′ best found best′ found′
+pub sought-as : {t found found′ : List ℕ} {n best best′ : ℕ} {wss wss′ : List (List ℕ)} → wss′ ≡ wss
+    → Sought t n wss best found best′ found′ → Sought t n wss′ best found best′ found′
 sought-as e s = rw e s
 
 -- the buffer has places for the widths of the search that follows
-pub sought-rooms : {t found found′ : List ℕ} {n c c′ best best′ : ℕ} (wss : List (List ℕ)) → Rooms c found → c′ ≡ c → Sought t n wss best found best′ found′ → Rooms c′ found′
+pub sought-rooms : {t found found′ : List ℕ} {n c c′ best best′ : ℕ} (wss : List (List ℕ)) → Rooms c found → c′ ≡ c
+    → Sought t n wss best found best′ found′ → Rooms c′ found′
 sought-rooms wss rooms e s = record { places = omega (arith, rooms .places, s .same-room); count = s .count }

@@ -29,6 +29,8 @@ module _ {ws : List ℕ} (a : AreWidths ws) where
   last-is = let h = a .some in width-at (length ws - 1) (omega arith)
 
   -- a module takes at least its time at the last width
-  pub last-least : {t : List ℕ} {n : ℕ} → IsTable t n → (i j : ℕ) → i < n → j < length ws → tableTime t i (lastOf ws) ≤ tableTime t i (getD ws j 0)
+  pub last-least : {t : List ℕ} {n : ℕ} → IsTable t n → (i j : ℕ) → i < n → j < length ws
+      → tableTime t i (lastOf ws) ≤ tableTime t i (getD ws j 0)
   last-least table i j h k =
-      table .falls i (getD ws j 0) (lastOf ws) h (width-at j k .0) (rising-le 1 ws (a .rising) j (length ws - 1) (omega arith) (omega arith)) (last-is .1)
+      table .falls i (getD ws j 0) (lastOf ws) h (width-at j k .0)
+      (rising-le 1 ws (a .rising) j (length ws - 1) (omega arith) (omega arith)) (last-is .1)

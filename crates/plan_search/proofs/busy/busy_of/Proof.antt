@@ -1,5 +1,5 @@
--- `plan_search::busy::busy_of` meets its contract. The loop's invariant: the sum is the busy figure of the modules before i, and at most the
--- largest time for each of them. The measure is what is left of the modules. Assumes nothing.
+-- `plan_search::busy::busy_of` meets its contract. The loop's invariant: the sum is the busy figure of the modules before i, and at
+-- most the largest time for each of them. The measure is what is left of the modules. Assumes nothing.
 use borrow.Author.Needs.{needs}
 use native.Mathlib.Omega.{arith}
 use Prim.Native.Nat.{_-_, _*_, _≤_, _<_}

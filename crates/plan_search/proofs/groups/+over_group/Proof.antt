@@ -1,5 +1,5 @@
--- `groups::over_group`, which calls itself, meets its contract. The measure counts the widths that are not set and, below that, how many widths the
--- next can have. Assumes nothing.
+-- `groups::over_group`, which calls itself, meets its contract. The measure counts the widths that are not set and, below that, how
+-- many widths the next can have. Assumes nothing.
 use borrow.Author.Needs.{needs}
 use native.Mathlib.Omega.{arith}
 use Prim.Native.Nat.{ℕ, suc, _+_, _-_, _*_, _/_, _≤_, _<_}

@@ -1,5 +1,5 @@
--- `groups::on_widths` meets its contract: what `least_on` answers is the least time on the widths (`found-exact`), and they are kept where it is less.
--- Assumes nothing.
+-- `groups::on_widths` meets its contract: what `least_on` answers is the least time on the widths (`found-exact`), and they are kept
+-- where it is less. Assumes nothing.
 use borrow.Author.Needs.{needs}
 use Rattle.plan_search.proofs.SoughtLaws.{found-exact, sought-less, sought-same}
 use Rattle.plan_search.proofs.groups.on_widths.Statement.{statement}

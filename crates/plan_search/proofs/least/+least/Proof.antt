@@ -1,5 +1,6 @@
--- `least::least`, which calls itself, meets its contract. The measure is how many modules have no bus yet. The loop's invariant is `Left`: the least
--- time at the start is that of the present best with the buses from b on, and the loads are those at the start. Assumes nothing.
+-- `least::least`, which calls itself, meets its contract. The measure is how many modules have no bus yet. The loop's invariant is
+-- `Left`: the least time at the start is that of the present best with the buses from b on, and the loads are those at the start.
+-- Assumes nothing.
 use borrow.Author.Needs.{needs}
 use native.Mathlib.Omega.{arith}
 use Prim.Native.Nat.{ℕ, suc, _+_, _-_, _<_}

@@ -1,6 +1,6 @@
--- The proof of the cycle of calls {place::place}. The measure is the number of modules that have no bus yet. The loop's invariant, `Left`: the best at the
--- start, with all placements to come, gives what the present best gives with those whose next bus is b + 1 or later; the loads and the bus numbers
--- before i are those at the start. A turn is `left-tried` or `left-dropped`. Assumes nothing.
+-- The proof of the cycle of calls {place::place}. The measure is the number of modules that have no bus yet. The loop's invariant,
+-- `Left`: the best at the start, with all placements to come, gives what the present best gives with those whose next bus is b + 1 or
+-- later; the loads and the bus numbers before i are those at the start. A turn is `left-tried` or `left-dropped`. Assumes nothing.
 use borrow.Author.Needs.{needs}
 use native.Mathlib.Omega.{arith}
 use Prim.Native.Nat.{ℕ, _+_, _-_, _≤_, _<_}

@@ -1,5 +1,5 @@
--- `widths::first_list` meets its contract. The loop's invariant is `Counted`: what is kept of all lists is what is kept of those of at least c widths,
--- from what the buffer holds. Assumes nothing.
+-- `widths::first_list` meets its contract. The loop's invariant is `Counted`: what is kept of all lists is what is kept of those of at
+-- least c widths, from what the buffer holds. Assumes nothing.
 use borrow.Author.Needs.{needs}
 use native.Mathlib.Omega.{arith}
 use Prim.Native.Nat.{_+_, _-_}

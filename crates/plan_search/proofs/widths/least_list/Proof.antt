@@ -1,5 +1,5 @@
--- `widths::least_list` meets its contract: the rows are those of the table in some order, the rule of thumb gives the time of some plan, and so what is
--- kept from there on stands (`stands-from`). Assumes nothing.
+-- `widths::least_list` meets its contract: the rows are those of the table in some order, the rule of thumb gives the time of some
+-- plan, and so what is kept from there on stands (`stands-from`). Assumes nothing.
 use borrow.Author.Needs.{needs}
 use native.Mathlib.Omega.{arith}
 use Prim.Native.Nat.{ℕ, _+_, _*_, _≤_}

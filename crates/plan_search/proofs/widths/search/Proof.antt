@@ -1,5 +1,5 @@
--- `widths::search` meets its contract: on the widths that are kept the first placement within the least time is that of the first plan of least time
--- (`found-buses`), and the buffers hold it (`found-is`). Assumes nothing.
+-- `widths::search` meets its contract: on the widths that are kept the first placement within the least time is that of the first plan
+-- of least time (`found-buses`), and the buffers hold it (`found-is`). Assumes nothing.
 use borrow.Author.Needs.{needs}
 use native.Mathlib.Omega.{arith}
 use native.Mathlib.Numerals.{add-one}
