@@ -57,17 +57,17 @@ extern "C" {
 #define TALLOWWING_LAYOUT_BYTES 1024
 
 /*
- * A plan record, 300 bytes. Spare places are 0.
+ * A plan record, 396 bytes. Spare places are 0.
  *
  *   offset  0  W (4); 4 B (4); 8 number of buses (4); 12 number of modules (4); 16 time (8)
  *   offset 24 + 12 i  bus i + 1, of 3: width (4), busy (8)
- *   offset 60 + 20 j  planned module, of 12, ascending: number (4), bus (4), wires (4), cycles (8)
+ *   offset 60 + 28 j  planned module, of 12, ascending: number (4), bus (4), wires (4), cycles (8), start (8), the cycle at which it begins
  */
-#define TALLOWWING_PLAN_BYTES 300
+#define TALLOWWING_PLAN_BYTES 396
 
 /* The most bytes that a SOC text, a plan file and a listing can have. */
 #define TALLOWWING_TEXT_MAX 61440
-#define TALLOWWING_PLAN_FILE_MAX 196
+#define TALLOWWING_PLAN_FILE_MAX 292
 #define TALLOWWING_LISTING_MAX 2048
 
 /* Reads a SOC text to its record. Refusals 1 to 6 with their line, then 11. The figure is 16,688, the bytes written. */
@@ -90,14 +90,15 @@ uint64_t tallowwing_module_time(const uint8_t *record, size_t record_len, uint32
 /* A module's wires on a bus of a width: the fewest that give its time. Refusals 14, 7, 13. */
 uint64_t tallowwing_module_wires(const uint8_t *record, size_t record_len, uint32_t module, uint32_t width);
 
-/* Finds the first plan of least time for W wires and limit B. Refusals 14, 7, 8, 9, 10, 11. The figure is 300, the bytes written. */
+/* Finds the first plan of least time for W wires and limit B. Refusals 14, 7, 8, 9, 10, 11. The figure is 396, the bytes written. */
 uint64_t tallowwing_plan(const uint8_t *record, size_t record_len, uint32_t wires, uint32_t limit, uint8_t *plan, size_t plan_len);
 
 /* Writes the plan file of a plan record. Refusals 12, 11. The figure is the number of bytes written. A plan record of another length than
- * 300 bytes is not good: 12. */
+ * 396 bytes is not good: 12. */
 uint64_t tallowwing_write_plan(const uint8_t *plan, size_t plan_len, uint8_t *file, size_t file_len);
 
-/* Reads a plan file, the part used and no more, to its record. Refusals 12, 11. The figure is 300, the bytes written. */
+/* Reads a plan file, the part used and no more, to its record. Refusals 12, 11; a file of the old 12-byte module
+ * records is 12. The figure is 396, the bytes written. */
 uint64_t tallowwing_read_plan(const uint8_t *file, size_t file_len, uint8_t *plan, size_t plan_len);
 
 /* Lists a plan record: the line `wires W limit B time T`, then its buses and modules as in a listing. Refusals 12, 11; 2,048 bytes are

@@ -21,8 +21,20 @@ static const char listing[] =
     "soc t1 wires 4 limit 2 time 65\n"
     "bus 1 width 1 busy 65\n"
     "bus 2 width 3 busy 9\n"
-    "module 1 bus 1 wires 1 cycles 65\n"
-    "module 2 bus 2 wires 3 cycles 9\n";
+    "module 1 bus 1 wires 1 cycles 65 start 0\n"
+    "module 2 bus 2 wires 3 cycles 9 start 0\n";
+
+/* The plan file of the same plan as it was before a module's start stood in it. */
+static const uint8_t old[64] = {
+    1, 1, 1, 0, 65, 0, 0, 0, 0, 0, 0, 0,
+    2, 2, 3, 0, 9, 0, 0, 0, 0, 0, 0, 0,
+    1, 0, 0, 0, 65, 0, 0, 0, 0, 0, 0, 0,
+    3, 0, 0, 0, 9, 0, 0, 0, 0, 0, 0, 0,
+    0, 0, 24, 0, 4, 2, 2, 2, 65, 0, 0, 0, 0, 0, 0, 0,
+};
+
+/* Where module 2 begins with one bus: behind the 65 cycles of module 1. */
+static const uint8_t start[8] = {65};
 
 static int failures;
 
@@ -62,13 +74,16 @@ int main(void)
     expect("module wires", tallowwing_module_wires(soc, sizeof soc, 2, 4), 0, 3);
     expect("width", tallowwing_module_wires(soc, sizeof soc, 2, 65), 7, 0);
     expect("plan", tallowwing_plan(soc, sizeof soc, 4, 2, plan, sizeof plan), 0, TALLOWWING_PLAN_BYTES);
-    expect("write a plan", tallowwing_write_plan(plan, sizeof plan, file, sizeof file), 0, 64);
-    expect("read a plan", tallowwing_read_plan(file, 64, again, sizeof again), 0, TALLOWWING_PLAN_BYTES);
+    expect("write a plan", tallowwing_write_plan(plan, sizeof plan, file, sizeof file), 0, 80);
+    expect("read a plan", tallowwing_read_plan(file, 80, again, sizeof again), 0, TALLOWWING_PLAN_BYTES);
     expect_bytes("plan", again, plan, sizeof plan);
     expect("show", tallowwing_show(plan, sizeof plan, listed, sizeof listed), 0, sizeof listing - 1 - 7);
     expect_bytes("show", listed, listing + 7, sizeof listing - 1 - 7);
     expect("show a part", tallowwing_show(plan, sizeof plan - 1, listed, sizeof listed), 12, 0);
-    expect("read a longer plan", tallowwing_read_plan(file, 65, again, sizeof again), 12, 0);
+    expect("read a longer plan", tallowwing_read_plan(file, 81, again, sizeof again), 12, 0);
+    expect("read a plan of 12-byte records", tallowwing_read_plan(old, sizeof old, again, sizeof again), 12, 0);
+    expect("plan on one bus", tallowwing_plan(soc, sizeof soc, 4, 1, again, sizeof again), 0, TALLOWWING_PLAN_BYTES);
+    expect_bytes("start of the second module", again + 60 + 28 + 20, start, sizeof start);
     memcpy(input, "Plan 4 2\n", 9);
     memcpy(input + 9, text, length);
     expect("listing", tallowwing_listing(input, 9 + length, listed, sizeof listed), 0, sizeof listing - 1);

@@ -6,8 +6,9 @@ use mathlib.Core.Bool.{true}
 use mathlib.Core.List.{List, _++_, append-assoc}
 use native.Mathlib.Omega.{arith}
 use borrow.Author.Tests.{eq-eqb}
-use lib.ListN.{length}
+use lib.ListN.{length, length-append}
 use Rattle.buffer.specs.Rows.{each, rows}
+use Rattle.buffer.proofs.LittleLaws.{little-length}
 use Rattle.buffer.proofs.StandLaws.{Stands, stands-whole, stands-first, stands-behind}
 use Rattle.buffer.proofs.StandLaws.{number-stands, number-first, number-behind, rows-stand}
 use Rattle.plan_record.specs.Record.{busPlaces, modulePlaces, noBus, noPlaced}
@@ -17,10 +18,10 @@ use Rattle.plan_record.specs.declared.record.Bus.{Bus}
 use Rattle.plan_record.specs.declared.record.PlacedModule.{PlacedModule}
 use Rattle.plan_record.specs.declared.record.BusPlan.{BusPlan}
 use Rattle.c_forms.specs.Words.{wordLength, longLength, long, words}
-use Rattle.c_forms.specs.PlanForm.{busStride, cyclesFrom, placedStride, timeFrom, busesFrom, placedFrom, planLength, busBytes}
+use Rattle.c_forms.specs.PlanForm.{busStride, cyclesFrom, startFrom, placedStride, timeFrom, busesFrom, placedFrom, planLength, busBytes}
 use Rattle.c_forms.specs.PlanForm.{busAt, placedWords, placedBytes, placedAt, countWords, countBytes, planBytes, planAt, planIn}
 use Rattle.c_forms.specs.Fit.{FitBus, FitPlaced, FitPlan}
-use Rattle.c_forms.proofs.WordLaws.{words-stand, words-behind}
+use Rattle.c_forms.proofs.WordLaws.{words-length, words-stand, words-behind}
 use Rattle.c_forms.proofs.LengthLaws.{bus-length, placed-length, buses-length, plan-length}
 use Rattle.c_forms.proofs.PlanFits.{good-plan-fits}
 
@@ -38,12 +39,16 @@ unfolding placedBytes
 placed-back x at f s =
     let v = placedWords x in
     let c = long (x .cycles .0) in
-    let w = stands-first (words v) c s in
+    let d = long (x .start .0) in
+    let front = stands-first (words v ++ c) d s in
+    let w = stands-first (words v) c front in
+    let n : length (words v ++ c) ≡ startFrom = simp (length-append, words-length, little-length) in
     rw (
       words-stand v 0 (omega arith) (f .number) w,
       words-stand v 1 (omega arith) (f .bus) w,
       words-stand v 2 (omega arith) (f .wires) w,
-      number-stands longLength (x .cycles .0) (f .cycles) (words-behind v c (at + cyclesFrom) refl s),
+      number-stands longLength (x .cycles .0) (f .cycles) (words-behind v c (at + cyclesFrom) refl front),
+      number-stands longLength (x .start .0) (f .start) (stands-behind (words v ++ c) d startFrom (at + startFrom) n refl s),
     )
 
 module _ {b : List ℕ} (p : BusPlan) (w : Whole p) (f : FitPlan p) where

@@ -15,6 +15,7 @@ use Rattle.plan_record.specs.declared.record.Bus.{Bus}
 use Rattle.plan_record.specs.declared.record.PlacedModule.{PlacedModule}
 use Rattle.plan_record.specs.declared.record.BusPlan.{BusPlan}
 use Rattle.plan_record.proofs.GoodPlanLaws.{good-parts, good-figures, good-busy, good-time}
+use Rattle.plan_record.proofs.StartLaws.{good-end}
 use Rattle.c_forms.specs.Fit.{FitBus, FitPlaced, FitPlan}
 use Rattle.c_forms.proofs.SocFits.{front-each}
 
@@ -32,11 +33,13 @@ spare-placed m e =
     let a = and-both _ _ e in
     let b = and-both _ _ (a .1) in
     let c = and-both _ _ (b .1) in
+    let d = and-both _ _ (c .1) in
     let n : m .number ≡ 0 = eqb-true (m .number) 0 (a .0) in
     let u : m .bus ≡ 0 = eqb-true (m .bus) 0 (b .0) in
     let w : m .wires .0 ≡ 0 = eqb-true (m .wires .0) 0 (c .0) in
-    let t : m .cycles .0 ≡ 0 = eqb-true (m .cycles .0) 0 (c .1) in
-    record { number = omega arith; bus = omega arith; wires = omega arith; cycles = omega arith }
+    let t : m .cycles .0 ≡ 0 = eqb-true (m .cycles .0) 0 (d .0) in
+    let s : m .start .0 ≡ 0 = eqb-true (m .start .0) 0 (d .1) in
+    record { number = omega arith; bus = omega arith; wires = omega arith; cycles = omega arith; start = omega arith }
 
 module _ (p : BusPlan) (w : Whole p) (e : goodPlan p ≡ true) where
   bus-fits : (i : ℕ) → i < p .«bus_count» → FitBus (getD (p .buses) i noBus)
@@ -53,6 +56,7 @@ module _ (p : BusPlan) (w : Whole p) (e : goodPlan p ≡ true) where
         bus = omega (arith, g .bus i h);
         wires = omega (arith, g .wires i h);
         cycles = omega (arith, g .cycles i h);
+        start = omega (arith, good-end p w e i h, good-time p w e);
       }
 
   pub good-plan-fits : FitPlan p

@@ -30,6 +30,7 @@ pub record FitPlaced (m : PlacedModule) : Type 0 where
   pub bus : Fits4 (m .bus)
   pub wires : Fits4 (m .wires .0)
   pub cycles : Fits8 (m .cycles .0)
+  pub start : Fits8 (m .start .0)
 
 pub record FitPlan (p : BusPlan) : Type 0 where
   pub wires : Fits4 (p .wires .0)

@@ -1,4 +1,4 @@
--- A plan record as bytes: 300 of them. Each bus and each planned module has its place, spare ones included.
+-- A plan record as bytes: 396 of them. Each bus and each planned module has its place, spare ones included.
 use Prim.Native.Nat.{ℕ, _+_, _*_}
 use mathlib.Core.Bool.{cond}
 use mathlib.Core.List.{List, [], _∷_, _++_}
@@ -16,14 +16,17 @@ use Rattle.c_forms.specs.Words.{wordLength, longLength, word, long, long
 abbrev pub busStride : ℕ
 busStride = wordLength + longLength
 
--- in a planned module, where its cycles begin, and how many bytes it has: 12 and 20
+-- in a planned module, where its cycles begin, and its start, and how many bytes it has: 12, 20 and 28
 abbrev pub cyclesFrom : ℕ
 cyclesFrom = wordLength * 3
 
-abbrev pub placedStride : ℕ
-placedStride = cyclesFrom + longLength
+abbrev pub startFrom : ℕ
+startFrom = cyclesFrom + longLength
 
--- in a record, where its time begins, its buses and its planned modules, and how many bytes it has: 16, 24, 60 and 300
+abbrev pub placedStride : ℕ
+placedStride = startFrom + longLength
+
+-- in a record, where its time begins, its buses and its planned modules, and how many bytes it has: 16, 24, 60 and 396
 abbrev pub timeFrom : ℕ
 timeFrom = wordLength * 4
 
@@ -43,12 +46,12 @@ busBytes b = word (b .width .0) ++ long (b .busy .0)
 abbrev pub busAt : List ℕ → ℕ → Bus
 busAt b at = record { width = wires (wordAt b at 0); busy = cycles (longAt b (at + wordLength)) }
 
--- number, bus, wires, cycles
+-- number, bus, wires, cycles, start
 abbrev pub placedWords : PlacedModule → List ℕ
 placedWords m = m .number ∷ m .bus ∷ m .wires .0 ∷ []
 
 unfoldable pub placedBytes : PlacedModule → List ℕ
-placedBytes m = words (placedWords m) ++ long (m .cycles .0)
+placedBytes m = words (placedWords m) ++ long (m .cycles .0) ++ long (m .start .0)
 
 abbrev pub placedAt : List ℕ → ℕ → PlacedModule
 placedAt b at =
@@ -57,6 +60,7 @@ placedAt b at =
       bus = wordAt b at 1;
       wires = wires (wordAt b at 2);
       cycles = cycles (longAt b (at + cyclesFrom));
+      start = cycles (longAt b (at + startFrom));
     }
 
 -- W, B, number of buses, number of modules, time; the buses; the planned modules

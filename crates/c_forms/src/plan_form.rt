@@ -18,10 +18,12 @@ ghost use Rattle.c_forms.specs.PlanForm.{busBytes, placedBytes, countByt
 // How many bytes a bus has.
 pub(crate) const BUS_STRIDE: usize = WORD_BYTES + LONG_BYTES;
 
-// In a planned module, where its cycles begin, and how many bytes it has.
+// In a planned module, where its cycles begin, and its start, and how many bytes it has.
 pub(crate) const CYCLES_FROM: usize = WORD_BYTES * 3;
 
-pub(crate) const PLACED_STRIDE: usize = CYCLES_FROM + LONG_BYTES;
+pub(crate) const START_FROM: usize = CYCLES_FROM + LONG_BYTES;
+
+pub(crate) const PLACED_STRIDE: usize = START_FROM + LONG_BYTES;
 
 // In a record, where its time begins, its buses and its planned modules.
 pub(crate) const TIME_FROM: usize = WORD_BYTES * 4;
@@ -60,7 +62,8 @@ fn put_placed(buf: &mut [u8], at: usize, m: PlacedModule) -> usize
 {
     let w = [m.number as u64, m.bus as u64, m.wires.0 as u64];
     let a = put_words(&mut *buf, at, &w);
-    buffer::put_u64(&mut *buf, a, m.cycles.0)
+    let b = buffer::put_u64(&mut *buf, a, m.cycles.0);
+    buffer::put_u64(&mut *buf, b, m.start.0)
 }
 
 fn put_modules(buf: &mut [u8], at: usize, p: BusPlan) -> usize

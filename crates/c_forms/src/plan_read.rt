@@ -5,6 +5,7 @@ use super::plan_form::CYCLES_FROM;
 use super::plan_form::PLACED_FROM;
 use super::plan_form::PLACED_STRIDE;
 use super::plan_form::PLAN_BYTES;
+use super::plan_form::START_FROM;
 use super::plan_form::TIME_FROM;
 use super::word::WORD_BYTES;
 use super::word::word_at;
@@ -54,6 +55,7 @@ fn placed_at(b: &[u8], at: usize) -> PlacedModule
         bus: word_at(b, at, 1) as usize,
         wires: Wires(word_at(b, at, 2)),
         cycles: Cycles(buffer::u64_at(b, at + CYCLES_FROM)),
+        start: Cycles(buffer::u64_at(b, at + START_FROM)),
     }
 }
 

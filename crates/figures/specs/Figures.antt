@@ -1,4 +1,5 @@
--- Document 01's starred figures ("Figures to hold against"), each beside the definition that it is a figure of.
+-- Document 01's starred figures ("Figures to hold against"), each beside the definition that it is a figure of, and the starts of the same
+-- plans.
 use Prim.Native.Nat.{ℕ}
 use mathlib.Core.Bool.{true}
 use mathlib.Core.List.{List, [], _∷_, _++_}
@@ -7,6 +8,7 @@ use Rattle.wrapper.specs.Times.{figure, scanIn, scanOut, moduleBest}
 use Rattle.soc.specs.declared.record.Soc.{Soc}
 use Rattle.text_reader.specs.Reading.{readSoc}
 use Rattle.plan_record.specs.Record.{modulesOf, placesOf}
+use Rattle.plan_record.specs.Starts.{moduleOf}
 use Rattle.plan_record.specs.declared.record.BusPlan.{BusPlan}
 use Rattle.plan.specs.PlanAnswers.{planAnswer}
 use Rattle.figures.specs.Cores.{coreA, oneChain, terminals, nothing}
@@ -59,9 +61,22 @@ planFigures s c =
     ∷ (getD (placesOf (modulesOf (planned c 2 2))) 1 0 is 2)
     ∷ []
 
+-- the starts in these plans (document 02, item 1): on one bus module 2 of t1 begins where module 1 ends, on two buses both begin at once
+abbrev pub startFigures : Soc → Soc → List Figure
+startFigures s c =
+    (moduleOf (planned s 4 1) 0 .start .0 is 0)
+    ∷ (moduleOf (planned s 4 1) 1 .start .0 is 65)
+    ∷ (moduleOf (planned s 1 3) 1 .start .0 is 65)
+    ∷ (moduleOf (planned s 4 3) 1 .start .0 is 0)
+    ∷ (moduleOf (planned c 2 2) 1 .start .0 is 0)
+    ∷ []
+
 -- all of them, for the records that the reader gives for the texts
 abbrev pub figures : List Figure
-figures = wrapperFigures ++ planFigures (readSoc t1Text .soc) (readSoc twoCopiesText .soc)
+figures =
+    wrapperFigures
+    ++ planFigures (readSoc t1Text .soc) (readSoc twoCopiesText .soc)
+    ++ startFigures (readSoc t1Text .soc) (readSoc twoCopiesText .soc)
 
 -- the computed figures of a table, and the stated ones
 unfoldable pub computedOf : List Figure → List ℕ

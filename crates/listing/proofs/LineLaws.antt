@@ -89,14 +89,23 @@ module _ (i : ℕ) (b : Bus) where
 
 module _ (m : PlacedModule) where
   pub module-text : writtenLines (moduleFields m ∷ [])
-      ≡ bytes "module " ++ decimal (m .number) ++ (bytes " bus " ++ decimal (m .bus) ++ (bytes " wires " ++ decimal (m .wires .0) ++ (bytes " cycles " ++ decimal (m .cycles .0) ++ lf ∷ [])))
+      ≡ bytes "module " ++ decimal (m .number) ++ (bytes " bus " ++ decimal (m .bus) ++ (bytes " wires " ++ decimal (m .wires .0)
+      ++ (bytes " cycles " ++ decimal (m .cycles .0) ++ (bytes " start " ++ decimal (m .start .0) ++ lf ∷ []))))
   unfolding moduleFields writtenLines joined
   module-text = simp append-assoc
 
-  pub module-size : m .number < figureEnd → m .bus < figureEnd → m .wires .0 < figureEnd → m .cycles .0 < figureEnd → length (writtenLines (moduleFields m ∷ [])) ≤ moduleRoom
-  module-size n b w t =
+  pub module-size : m .number < figureEnd → m .bus < figureEnd → m .wires .0 < figureEnd → m .cycles .0 < figureEnd
+      → m .start .0 < figureEnd → length (writtenLines (moduleFields m ∷ [])) ≤ moduleRoom
+  module-size n b w t s =
       rw module-text
-      (simp length-append (omega (arith, figure-size (m .number) n, figure-size (m .bus) b, figure-size (m .wires .0) w, figure-size (m .cycles .0) t)))
+      (simp length-append (omega (
+        arith,
+        figure-size (m .number) n,
+        figure-size (m .bus) b,
+        figure-size (m .wires .0) w,
+        figure-size (m .cycles .0) t,
+        figure-size (m .start .0) s,
+      )))
 
 -- the text of buses, the first of which has number 1
 abbrev pub busesText : List Bus → List ℕ

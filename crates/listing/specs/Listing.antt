@@ -1,4 +1,4 @@
--- What the printing program prints for an input (document 01, "The printing program").
+-- What the printing program prints for an input (document 01, "The printing program"; document 02, item 1).
 use Prim.Native.Nat.{ℕ, suc}
 use mathlib.Core.Bool.{cond}
 use mathlib.Core.List.{List, [], _∷_, _++_}
@@ -43,7 +43,7 @@ unfoldable pub busLines : ℕ → List Bus → List (List (List ℕ))
 busLines i [] = []
 busLines i (b ∷ bs) = busFields i b ∷ busLines (suc i) bs
 
--- "each planned module"
+-- "each planned module"; "the listing's module line ends in `start S`"
 unfoldable pub moduleFields : PlacedModule → List (List ℕ)
 moduleFields m =
     bytes "module"
@@ -54,6 +54,8 @@ moduleFields m =
     ∷ decimal (m .wires .0)
     ∷ bytes "cycles"
     ∷ decimal (m .cycles .0)
+    ∷ bytes "start"
+    ∷ decimal (m .start .0)
     ∷ []
 
 unfoldable pub moduleLines : List PlacedModule → List (List (List ℕ))

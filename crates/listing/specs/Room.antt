@@ -16,7 +16,7 @@ abbrev pub busRoom : ℕ
 busRoom = 78
 
 abbrev pub moduleRoom : ℕ
-moduleRoom = 108
+moduleRoom = 135
 
 -- the lines behind the first, and all of them
 abbrev pub restRoom : ℕ

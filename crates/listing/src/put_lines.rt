@@ -61,7 +61,7 @@ fn put_bus_line(buf: &mut [u8], at: usize, i: u64, b: Bus) -> usize
     buffer::put_bytes(&mut *buf, d, b"\n")
 }
 
-// `module` m `bus` i `wires` k `cycles` x.
+// `module` m `bus` i `wires` k `cycles` x `start` s.
 fn put_module_line(buf: &mut [u8], at: usize, m: PlacedModule) -> usize
     requires { ⌜ at + moduleRoom ≤ length (now buf) ⌝ }
     ensures { λ e. ⌜ Put (writtenLines (moduleFields m ∷ [])) at (now (buf .entry)) (now (buf .exit)) e × (length (writtenLines (moduleFields m ∷ [])) ≤ moduleRoom) ⌝ }
@@ -70,7 +70,8 @@ fn put_module_line(buf: &mut [u8], at: usize, m: PlacedModule) -> usize
     let b = fields::put_key(&mut *buf, a, b" bus ", m.bus as u64);
     let c = fields::put_key(&mut *buf, b, b" wires ", m.wires.0 as u64);
     let d = fields::put_key(&mut *buf, c, b" cycles ", m.cycles.0);
-    buffer::put_bytes(&mut *buf, d, b"\n")
+    let e = fields::put_key(&mut *buf, d, b" start ", m.start.0);
+    buffer::put_bytes(&mut *buf, e, b"\n")
 }
 
 fn put_buses(buf: &mut [u8], at: usize, p: BusPlan) -> usize

@@ -7,12 +7,13 @@ use mathlib.Core.List.{List, [], _∷_, _++_}
 use native.Mathlib.Omega.{arith}
 use native.Mathlib.Nat.{add-zero, zero-add}
 use native.Mathlib.Numerals.{add-one}
-use lib.ListN.{length, getD, take, set}
-use lib.Seq.{take-suc, length-take-le}
+use lib.ListN.{length, getD, take, set, replicate, length-take}
+use lib.Seq.{take-suc, take-append-le, length-take-le}
 use lib.Dec.{eqb}
 use borrow.Author.Tests.{eq-eqb, ne-eqb}
 use Rattle.soc.specs.Limits.{modulesMax}
 use Rattle.units.specs.Places.{padded}
+use Rattle.units.specs.declared.Cycles.{Cycles}
 use Rattle.soc.specs.Planned.{plannedOf, plannedIs}
 use Rattle.soc.specs.declared.planned.Planned.{Planned}
 use Rattle.soc.specs.declared.record.Soc.{Soc}
@@ -23,7 +24,7 @@ use Rattle.plan_rules.specs.Listed.{bestPlan}
 use Rattle.plan_rules.proofs.Demand.{best-first}
 use Rattle.plan_record.specs.Record.{busPlaces, modulePlaces, noBus, noPlaced, busRecords, moduleRecords, planRecord}
 use Rattle.plan_record.proofs.RecordLaws.{length-records}
-use Rattle.plan_search.specs.Search.{searchBuses, searchModules, tableTime, foundOf}
+use Rattle.plan_search.specs.Search.{searchBuses, searchModules, tableTime, IsTable, foundOf}
 use Rattle.plan.specs.PlanAnswers.{limitMax, timeIn, wiresIn, bestFor, recordOf}
 use Rattle.plan.specs.Records.{IsFound, busesIs, placedAt, placedFrom, modulesIs}
 use Rattle.plan.specs.Tables.{TablesAre}
@@ -33,7 +34,11 @@ use Rattle.plan_record.specs.declared.record.PlacedModule.{PlacedModule}
 use Rattle.plan.specs.declared.tables.Tables.{Tables}
 use Rattle.plan_search.specs.declared.widths.Found.{Found}
 use Rattle.plan_rules.proofs.BusyLaws.{length-busies}
-use Rattle.plan.proofs.TableLaws.{busies-same, time-same, best-same}
+use Rattle.plan.proofs.TableLaws.{busy-same, busies-same, time-same, best-same}
+
+-- cycles are what their number says
+pub cycles-of : {r : Cycles} {n : ℕ} → r .0 ≡ n → r ≡ cycles n
+cycles-of e = ap cycles e
 
 -- an array is filled at the place behind those in use
 fill-step : {A : Type 0} (n : ℕ) (z v : A) (list xs : List A) (i : ℕ) → list ≡ padded n z xs → length xs ≡ i → i < n → set list i v ≡ padded n z (xs ++ v ∷ [])
@@ -140,8 +145,21 @@ module _ {W B n : ℕ} {p : Plan} (r : IsPlan W B n p) where
         let e : take n (padded searchModules 0 (p .buses)) ≡ p .buses = rw (← r .placed) (padded-take searchModules 0 (p .buses)) in
         rw (padded-take searchBuses 0 (p .widths), e, busies-same (a .cycles-are) r)
 
-    modules-from : (time : ℕ → ℕ → ℕ) (i : ℕ) (bs : List ℕ) → i + length bs ≤ n → ((j : ℕ) → j < length bs → (1 ≤ getD bs j 0) × (getD bs j 0 ≤ length (p .widths)))
-        → placedFrom (plannedIs (plannedOf s)) t (foundOf time p) i bs ≡ moduleRecords (plannedOf s) (timeIn s) (wiresIn s) (p .widths) i bs
+    -- the times of the modules before module i on a bus, over the tables
+    starts-are : (time : ℕ → ℕ → ℕ) (i b : ℕ) → i < n →
+        let w = getD (p .widths) (b - 1) 0 in
+        1 ≤ w → w ≤ W
+        → busyFrom (tableTime (t .cycles)) 0 b w (take i (foundOf time p .buses)) ≡ busyFrom (timeIn s) 0 b w (take i (p .buses))
+    unfolding padded
+    starts-are time i b h k l =
+        let spare : List ℕ = replicate (searchModules - length (p .buses)) 0 in
+        let e : take i (p .buses ++ spare) ≡ take i (p .buses) = take-append-le i (p .buses) spare (omega (arith, r .placed)) in
+        rw e (busy-same (a .cycles-are) 0 b (getD (p .widths) (b - 1) 0) (take i (p .buses)) (omega (arith, length-take i (p .buses))) k l)
+
+    modules-from : (time : ℕ → ℕ → ℕ) (i : ℕ) (bs : List ℕ) → i + length bs ≤ n
+        → ((j : ℕ) → j < length bs → (1 ≤ getD bs j 0) × (getD bs j 0 ≤ length (p .widths)))
+        → placedFrom (plannedIs (plannedOf s)) t (foundOf time p) i bs
+        ≡ moduleRecords (plannedOf s) (timeIn s) (wiresIn s) (p .widths) (p .buses) i bs
     unfolding placedFrom moduleRecords
     modules-from time i [] h q = refl
     modules-from time i (b ∷ bs) h q =
@@ -154,14 +172,26 @@ module _ {W B n : ℕ} {p : Plan} (r : IsPlan W B n p) where
           padded-at searchBuses 0 (p .widths) (b - 1),
           a .cycles-are i (getD (p .widths) (b - 1) 0) k (v .0) (v .1),
           a .wires-are i (getD (p .widths) (b - 1) 0) k (v .0) (v .1),
+          starts-are time i b k (v .0) (v .1),
           modules-from time (suc i) bs (omega arith) (λ j g. q (suc j) (omega arith)),
         )
 
-    modules-are : (time : ℕ → ℕ → ℕ) → n ≡ length (plannedOf s) → modulesIs (plannedIs (plannedOf s)) t (foundOf time p) ≡ padded modulePlaces noPlaced (moduleRecords (plannedOf s) (timeIn s) (wiresIn s) (p .widths) 0 (p .buses))
+    modules-are : (time : ℕ → ℕ → ℕ) → n ≡ length (plannedOf s)
+        → modulesIs (plannedIs (plannedOf s)) t (foundOf time p)
+        ≡ padded modulePlaces noPlaced (moduleRecords (plannedOf s) (timeIn s) (wiresIn s) (p .widths) (p .buses) 0 (p .buses))
     unfolding modulesIs
     modules-are time count =
         let e : take (length (plannedOf s)) (padded searchModules 0 (p .buses)) ≡ p .buses = rw (← count, ← r .placed) (padded-take searchModules 0 (p .buses)) in
         rw (e, modules-from time 0 (p .buses) (omega (arith, r .placed)) (λ j g. (r .low j (omega (arith, r .placed)), r .high j (omega (arith, r .placed)))))
+
+-- a table for n modules is one for fewer
+pub table-fewer : {t : List ℕ} {n i : ℕ} → IsTable t n → i ≤ n → IsTable t i
+table-fewer a h = record {
+  few = omega (arith, a .few);
+  long = omega (arith, a .long);
+  times = a .times;
+  falls = λ j v w k. a .falls j v w (omega arith);
+}
 
 -- the plan that the search finds over the tables of the planned modules
 module _ {s : Soc} {W B : ℕ} {t : Tables} {p : Planned} {f : Found}

@@ -1,18 +1,24 @@
--- What document 01 demands of the planner's answer ("The plan"), of the answer itself: the plan that its record holds is the first of least time, there is
--- no other, its time is what its own buses come to, and its modules are the planned ones. Assumes nothing.
-use Prim.Native.Nat.{ℕ, suc, _<_}
-use mathlib.Core.Path.{_≡_, sym, ap, _∙_}
+-- What document 01 demands of the planner's answer ("The plan"), of the answer itself: the plan that its record holds is the first of least
+-- time, there is no other, its time is what its own buses come to, and its modules are the planned ones; and when these run (document 02,
+-- item 1). Assumes nothing.
+use Prim.Native.Nat.{ℕ, suc, _≤_, _<_}
+use mathlib.Core.Path.{_≡_, refl, sym, ap, _∙_}
+use mathlib.Core.Bool.{true}
 use lib.ListN.{length, getD}
 use Rattle.soc.specs.Planned.{plannedOf}
 use Rattle.soc.specs.declared.record.Soc.{Soc}
 use Rattle.plan_rules.specs.Plans.{Plan, largest, timeOf}
 use Rattle.plan_rules.specs.First.{IsFirst}
 use Rattle.plan_rules.proofs.Demand.{best-unique}
-use Rattle.plan_record.specs.Record.{busesOf, modulesOf, busiesOf, numbersOf, planOf, cyclesOn, planRecord}
-use Rattle.plan_record.proofs.RecordLaws.{record-plan, record-numbers, record-time, record-busy}
+use Rattle.plan_record.specs.Record.{busesOf, modulesOf, busiesOf, numbersOf, planOf, cyclesOn, startOf, planRecord}
+use Rattle.plan_record.specs.Good.{goodPlan}
+use Rattle.plan_record.specs.Starts.{endOf, RunsAt, moduleOf, busOf, IsLast}
+use Rattle.plan_record.specs.Whole.{Whole}
+use Rattle.plan_record.proofs.RecordLaws.{record-plan, record-numbers, record-time, record-busy, record-bus-places, record-module-places}
+use Rattle.plan_record.proofs.StartLaws.{good-start, good-alone, good-last, good-end}
 use Rattle.plan.specs.PlanAnswers.{timeIn, wiresIn, bestFor, recordOf, planAnswer}
 use Rattle.plan.specs.declared.answer.PlanAnswer.{PlanAnswer}
-use Rattle.plan.proofs.PlannerLaws.{Answered, answered, best-for-first}
+use Rattle.plan.proofs.PlannerLaws.{Answered, answered, best-for-first, planner-answers-good}
 
 -- there is one answer
 pub plan-unique : (s : Soc) (W B : ℕ) (r₁ r₂ : PlanAnswer) → r₁ ≡ planAnswer s W B → r₂ ≡ planAnswer s W B → r₁ ≡ r₂
@@ -53,3 +59,35 @@ module _ (s : Soc) (W B : ℕ) (h : planAnswer s W B .refusal .number ≡ 0) whe
   -- "a bus for every planned module": the modules are the planned ones, ascending
   pub answer-modules : numbersOf (modulesOf (planAnswer s W B .plan)) ≡ plannedOf s
   answer-modules = rw (told .is) (record-numbers (plannedOf s) (timeIn s) (wiresIn s) W B (bestFor s W B) (best .is-plan))
+
+  -- its record is good, and its arrays have their places
+  good : goodPlan (planAnswer s W B .plan) ≡ true
+  good = planner-answers-good s W B (planAnswer s W B) refl h
+
+  whole : Whole (planAnswer s W B .plan)
+  whole =
+      let p = bestFor s W B in
+      rw (told .is) (record {
+        buses = record-bus-places (plannedOf s) (timeIn s) (wiresIn s) W B p (best .is-plan) (told .few);
+        modules = record-module-places (plannedOf s) (timeIn s) (wiresIn s) W B p (best .is-plan) (told .most);
+      })
+
+  -- "a module starts at the sum of the cycles of lower-numbered modules on its bus"
+  pub answer-start : (i : ℕ) → i < planAnswer s W B .plan .«module_count» →
+      let r = planAnswer s W B .plan in moduleOf r i .start .0 ≡ startOf (modulesOf r) (moduleOf r i)
+  answer-start = good-start (planAnswer s W B .plan) whole good
+
+  -- so on one bus no two modules run at the same cycle, the last of a bus ends at its busy figure, and every module ends by the plan's time
+  pub answer-alone : (i j t : ℕ) →
+      let r = planAnswer s W B .plan in
+      i < r .«module_count» → j < r .«module_count» → moduleOf r i .bus ≡ moduleOf r j .bus
+      → RunsAt (moduleOf r i) t → RunsAt (moduleOf r j) t → i ≡ j
+  answer-alone = good-alone (planAnswer s W B .plan) whole good
+
+  pub answer-last : (i : ℕ) →
+      let r = planAnswer s W B .plan in
+      i < r .«module_count» → IsLast r i → endOf (moduleOf r i) ≡ busOf r i .busy .0
+  answer-last = good-last (planAnswer s W B .plan) whole good
+
+  pub answer-end : (i : ℕ) → let r = planAnswer s W B .plan in i < r .«module_count» → endOf (moduleOf r i) ≤ r .time .0
+  answer-end = good-end (planAnswer s W B .plan) whole good

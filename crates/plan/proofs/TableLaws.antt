@@ -170,7 +170,7 @@ each-below (w ∷ ws) (suc i) = omega (arith, each-below ws i)
 
 -- two times that agree on n modules and the widths 1 to W
 module _ {f g : ℕ → ℕ → ℕ} {W n : ℕ} (same : (i w : ℕ) → i < n → 1 ≤ w → w ≤ W → f i w ≡ g i w) where
-  busy-same : (i b w : ℕ) (xs : List ℕ) → i + length xs ≤ n → 1 ≤ w → w ≤ W → busyFrom f i b w xs ≡ busyFrom g i b w xs
+  pub busy-same : (i b w : ℕ) (xs : List ℕ) → i + length xs ≤ n → 1 ≤ w → w ≤ W → busyFrom f i b w xs ≡ busyFrom g i b w xs
   unfolding busyFrom
   busy-same i b w [] h k l = refl
   busy-same i b w (x ∷ xs) h k l = rw (same i w (omega arith) k l, busy-same (suc i) b w xs (omega arith) k l)

@@ -1,17 +1,17 @@
--- How the parts of a plan record are made from what the search found (document 01, "The plan").
+-- How the parts of a plan record are made from what the search found (document 01, "The plan"; document 02, item 1).
 use Prim.Native.Nat.{ℕ, suc, _+_, _-_, _*_, _≤_, _<_}
 use mathlib.Core.List.{List, [], _∷_}
 use lib.ListN.{getD, take}
 use Rattle.units.specs.Places.{padded}
 use Rattle.soc.specs.declared.planned.Planned.{Planned}
 use Rattle.wrapper.specs.WrapperAnswers.{wires, cycles, widthMax}
-use Rattle.plan_rules.specs.Plans.{busies}
+use Rattle.plan_rules.specs.Plans.{busyFrom, busies}
 use Rattle.plan_record.specs.Record.{busPlaces, modulePlaces, noBus, noPlaced, busRecords}
 use Rattle.plan_record.specs.declared.record.Bus.{Bus}
 use Rattle.plan_record.specs.declared.record.PlacedModule.{PlacedModule}
 use Rattle.plan.specs.PlanAnswers.{limitMax}
 use Rattle.plan.specs.declared.tables.Tables.{Tables}
-use Rattle.plan_search.specs.Search.{rowPlaces}
+use Rattle.plan_search.specs.Search.{rowPlaces, tableTime}
 use Rattle.plan_search.specs.declared.widths.Found.{Found}
 
 -- the counts, widths and bus numbers of what was found keep their limits
@@ -24,7 +24,7 @@ unfoldable pub busesIs : (ℕ → ℕ → ℕ) → Found → ℕ → List Bus
 busesIs time f n =
     padded busPlaces noBus (busRecords (take (f .count) (f .widths)) (busies time (take n (f .buses)) 1 (take (f .count) (f .widths))))
 
--- the planned module i, from what the tables hold at its bus's width
+-- the planned module i, from what the tables hold at its bus's width, and its start, the times there of the modules before it on that bus
 abbrev pub placedAt : Planned → Tables → Found → ℕ → ℕ → PlacedModule
 placedAt p t f i b =
     record {
@@ -32,6 +32,7 @@ placedAt p t f i b =
       bus = b;
       wires = wires (getD (t .wires) (i * rowPlaces + (getD (f .widths) (b - 1) 0 - 1)) 0);
       cycles = cycles (getD (t .cycles) (i * rowPlaces + (getD (f .widths) (b - 1) 0 - 1)) 0);
+      start = cycles (busyFrom (tableTime (t .cycles)) 0 b (getD (f .widths) (b - 1) 0) (take i (f .buses)));
     }
 
 unfoldable pub placedFrom : Planned → Tables → Found → ℕ → List ℕ → List PlacedModule

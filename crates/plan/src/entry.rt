@@ -60,11 +60,13 @@ fn buses_of(table: &[u64], f: Found, n: usize) -> [Bus; BUS_PLACES]
 
 // The planned modules of the plan that was found.
 fn modules_of(p: Planned, t: Tables, f: Found) -> [PlacedModule; MODULE_PLACES]
-    requires { ⌜ (p .count ≤ plannedMax) × IsFound f (p .count) ⌝ }
+    requires { ⌜ (p .count ≤ plannedMax) × IsTable (t .cycles) (p .count) × IsFound f (p .count) ⌝ }
     ensures { λ r. ⌜ r ≡ modulesIs p t f ⌝ }
 {
     let mut list = [no_placed(); MODULE_PLACES];
     let n = p.count;
+    let times = t.cycles;
+    let buses = f.buses;
     let mut i: usize = 0;
     while i < n {
         let number = p.numbers[i];
@@ -76,6 +78,7 @@ fn modules_of(p: Planned, t: Tables, f: Found) -> [PlacedModule; MODULE_PLACES]
             bus,
             wires: Wires(t.wires[at]),
             cycles: Cycles(t.cycles[at]),
+            start: busy_of(&times, buses, i, bus, w),
         };
         i += 1;
     }

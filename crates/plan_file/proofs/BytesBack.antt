@@ -15,7 +15,7 @@ use Rattle.buffer.specs.Little.{little, byte, numberAt}
 use Rattle.buffer.specs.Rows.{each, rows}
 use Rattle.buffer.proofs.LittleLaws.{AreBytes, part-number, part-join}
 use Rattle.buffer.proofs.RowLaws.{rows-bytes}
-use Rattle.buffer.proofs.StandLaws.{Stands, stands-behind, number-stands}
+use Rattle.buffer.proofs.StandLaws.{Stands, stands-behind, number-stands, number-first, number-behind}
 use Rattle.plan_record.specs.declared.record.Bus.{Bus}
 use Rattle.plan_record.specs.declared.record.PlacedModule.{PlacedModule}
 use Rattle.plan_file.specs.Bytes.{moduleStride, busStride, moduleBytes, busBytes}
@@ -30,12 +30,15 @@ byte-first {w} {b} {at} s = let e : at + 0 ≡ at = omega arith in rw e at (byte
 
 -- a record that stands at a place
 module _ (x : PlacedModule) (b : List ℕ) (at : ℕ) (s : Stands (moduleBytes x) b at) where
-  pub module-stands : x .cycles .0 < 256 ^ 8 → moduleAt b at ≡ x
+  pub module-stands : x .cycles .0 < 256 ^ 8 → x .start .0 < 256 ^ 8 → moduleAt b at ≡ x
   unfolding moduleBytes
-  module-stands h =
+  module-stands h k =
       let w = x .number ∷ x .bus ∷ x .wires .0 ∷ 0 ∷ [] in
-      let c = number-stands 8 (x .cycles .0) h (stands-behind w (little 8 (x .cycles .0)) 4 (at + 4) refl refl s) in
-      rw (byte-first s, byte-stands 1 s, byte-stands 2 s, c)
+      let both = stands-behind w (little 8 (x .cycles .0) ++ little 8 (x .start .0)) 4 (at + 4) refl refl s in
+      let e : at + 4 + 8 ≡ at + 12 = omega arith in
+      let c = number-first 8 (x .cycles .0) (little 8 (x .start .0)) h both in
+      let d = number-stands 8 (x .start .0) k (number-behind 8 (x .cycles .0) (little 8 (x .start .0)) {at = at + 4} (at + 12) e both) in
+      rw (byte-first s, byte-stands 1 s, byte-stands 2 s, c, d)
 
   pub module-zero : zeroModule b at ≡ true
   unfolding moduleBytes zeroModule
@@ -95,7 +98,10 @@ module _ (f : List ℕ) (b : AreBytes f) where
   module-back : (at : ℕ) → at + moduleStride ≤ length f → zeroModule f at ≡ true
       → moduleBytes (moduleAt f at) ≡ take moduleStride (drop at f)
   unfolding moduleBytes zeroModule
-  module-back at h z = rw (eqb-true (byte f (at + 3)) 0 z) at (part-figures at h)
+  module-back at h z =
+      let front : byte f at ∷ byte f (at + 1) ∷ byte f (at + 2) ∷ 0 ∷ little 8 (numberAt 8 f (at + 4)) ≡ take 12 (drop at f) =
+      rw (eqb-true (byte f (at + 3)) 0 z) at (part-figures at (omega arith)) in
+      rw (part-number f 8 (at + 12) (omega arith) b) (ap (λ l. l ++ take 8 (drop (at + 12) f)) front ∙ part-join f 12 8 at)
 
   bus-back : (at : ℕ) → at + busStride ≤ length f → zeroBus f at ≡ true → busBytes (busAt f at) ≡ take busStride (drop at f)
   unfolding busBytes zeroBus

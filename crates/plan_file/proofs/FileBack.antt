@@ -24,6 +24,7 @@ use Rattle.plan_record.specs.declared.record.BusPlan.{BusPlan}
 use Rattle.plan_record.specs.Good.{goodPlan}
 use Rattle.plan_record.specs.Whole.{Whole}
 use Rattle.plan_record.proofs.GoodPlanLaws.{good-figures, good-busy, good-time}
+use Rattle.plan_record.proofs.StartLaws.{good-end}
 use Rattle.plan_file.specs.Bytes.{moduleStride, busStride, trailerLength, fileLength, moduleBytes, busBytes, trailerBytes, fileBytes}
 use Rattle.plan_file.specs.Puts.{SmallTrailer}
 use Rattle.plan_file.specs.Files.{moduleAt, busAt, moduleCount, busCount, busOffset, trailer, planIn, readAnswer, zeroModule, zeroBus}
@@ -110,7 +111,7 @@ back-file f b e =
 
 -- figures that fit their 8 bytes
 abbrev LongModule : PlacedModule → Type 0
-LongModule x = x .cycles .0 < 256 ^ 8
+LongModule x = (x .cycles .0 < 256 ^ 8) × (x .start .0 < 256 ^ 8)
 
 abbrev LongBus : Bus → Type 0
 LongBus x = x .busy .0 < 256 ^ 8
@@ -155,7 +156,8 @@ module _ (p : BusPlan) (w : Whole p) (e : goodPlan p ≡ true) where
   long-modules : (i : ℕ) → i < length (modulesOf p) → LongModule (getD (modulesOf p) i noPlaced)
   long-modules i h =
       let k : i < p .«module_count» = omega (arith, modules-count p w small) in
-      rw (getD-take (p .«module_count») (p .modules) i noPlaced k) (omega (arith, good-figures p e .cycles i k))
+      rw (getD-take (p .«module_count») (p .modules) i noPlaced k)
+      (omega (arith, good-figures p e .cycles i k), omega (arith, good-end p w e i k, good-time p w e))
 
   long-buses : (i : ℕ) → i < length (busesOf p) → LongBus (getD (busesOf p) i noBus)
   long-buses i h = omega (arith, good-busy p w e i h)
@@ -184,7 +186,7 @@ module _ (p : BusPlan) (w : Whole p) (e : goodPlan p ≡ true) where
   modules-read =
       rw (modules-count p w small) at
       (rows-stand moduleBytes moduleStride LongModule (λ x h. module-length x) file noPlaced
-      (moduleAt file) (λ x at h s. module-stands x file at s h) (modulesOf p) 0 long-modules modules-stand)
+      (moduleAt file) (λ x at h s. module-stands x file at s (h .0) (h .1)) (modulesOf p) 0 long-modules modules-stand)
 
   buses-read : rows (busAt file) busStride (p .«bus_count») offset ≡ busesOf p
   buses-read =

@@ -58,6 +58,17 @@ put-number w v o {b} {e} {k} {r} h p q =
     let d = due-put w (little 8 v) (due-all {rest = w ++ little 8 v} {at = 0} {start = o} refl (omega arith)) p in
     put-front (w ++ little 8 v) o e (omega arith) (d .done e r (put-is (d .room) q))
 
+-- and one of 8 bytes more
+pub put-numbers : (w : List ℕ) (v u : ℕ) (o : List ℕ) {b e g : List ℕ} {k l r : ℕ} → length w + 16 ≤ length o
+    → (k ≡ putEnd w 0 o) × (b ≡ putIn w 0 o) → (l ≡ putEnd (little 8 v) k b) × (e ≡ putIn (little 8 v) k b)
+    → (r ≡ putEnd (little 8 u) l e) × (g ≡ putIn (little 8 u) l e) → g ≡ putFront (w ++ (little 8 v ++ little 8 u)) o
+put-numbers w v u o {g = g} {r = r} h p q s =
+    let all = w ++ (little 8 v ++ little 8 u) in
+    let n : length all ≡ length w + 16 = simp (length-append, little-length) (omega arith) in
+    let d = due-put w (little 8 v ++ little 8 u) (due-all {rest = all} {at = 0} {start = o} refl (omega arith)) p in
+    let c = due-put (little 8 v) (little 8 u) d q in
+    put-front all o g (omega arith) (c .done g r (put-is (c .room) s))
+
 -- elements of k bytes each, put one behind the other into parts that were lent
 module _ {A : Type 0} {f : A → List ℕ} {k : ℕ} {l : List A} {o : List ℕ} {i : ℕ} {b : List ℕ} (run : Run f k l 0 o i b (k * i)) where
   pub run-lent : {x : A} {q : List ℕ} (z : A) → ((y : A) → length (f y) ≡ k) → i < length l → getD l i z ≡ x → k * (i + 1) ≤ length b

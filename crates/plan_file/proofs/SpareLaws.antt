@@ -49,10 +49,11 @@ bus-spare x e =
 placed-spare : (x : PlacedModule) → sparePlaced x ≡ true → x ≡ noPlaced
 unfolding sparePlaced
 placed-spare x e =
-    let n = zero-then (x .number) (eqb (x .bus) 0 && (eqb (x .wires .0) 0 && eqb (x .cycles .0) 0)) e in
-    let b = zero-then (x .bus) (eqb (x .wires .0) 0 && eqb (x .cycles .0) 0) (n .1) in
-    let w = zero-then (x .wires .0) (eqb (x .cycles .0) 0) (b .1) in
-    rw (n .0, b .0, w .0, eqb-true (x .cycles .0) 0 (w .1))
+    let n = zero-then (x .number) (eqb (x .bus) 0 && (eqb (x .wires .0) 0 && (eqb (x .cycles .0) 0 && eqb (x .start .0) 0))) e in
+    let b = zero-then (x .bus) (eqb (x .wires .0) 0 && (eqb (x .cycles .0) 0 && eqb (x .start .0) 0)) (n .1) in
+    let w = zero-then (x .wires .0) (eqb (x .cycles .0) 0 && eqb (x .start .0) 0) (b .1) in
+    let c = zero-then (x .cycles .0) (eqb (x .start .0) 0) (w .1) in
+    rw (n .0, b .0, w .0, c .0, eqb-true (x .start .0) 0 (c .1))
 
 pub spare-both : (p : BusPlan) → spareRest p ≡ true
     → (allOf spareBus (drop (p .«bus_count») (p .buses)) ≡ true) × (allOf sparePlaced (drop (p .«module_count») (p .modules)) ≡ true)

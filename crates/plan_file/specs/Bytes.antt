@@ -1,4 +1,4 @@
--- The bytes of a plan file (document 01, "The plan file").
+-- The bytes of a plan file (document 01, "The plan file"; document 02, item 1).
 use Prim.Native.Nat.{ℕ, _+_, _*_}
 use mathlib.Core.List.{List, _∷_, _++_}
 use Rattle.buffer.specs.Little.{little}
@@ -8,9 +8,9 @@ use Rattle.plan_record.specs.declared.record.PlacedModule.{PlacedModule}
 use Rattle.plan_record.specs.declared.record.BusPlan.{BusPlan}
 use Rattle.plan_record.specs.Record.{busPlaces, modulePlaces, busesOf, modulesOf}
 
--- "Little-endian, 12-byte records."
+-- "Little-endian, 12-byte records." Of modules: "the module record grows to 20 bytes"
 abbrev pub moduleStride : ℕ
-moduleStride = 12
+moduleStride = 20
 
 abbrev pub busStride : ℕ
 busStride = 12
@@ -23,13 +23,13 @@ trailerLength = 16
 abbrev pub fileLength : ℕ → ℕ → ℕ
 fileLength modules buses = moduleStride * modules + busStride * buses + trailerLength
 
--- "At most 196 bytes."
+-- the longest file: 292 bytes, where document 01 has "At most 196 bytes."
 abbrev pub fileMax : ℕ
 fileMax = moduleStride * modulePlaces + busStride * busPlaces + trailerLength
 
--- "number, bus, wires, zero (a byte each), cycles (8 bytes)"
+-- "number, bus, wires, zero (a byte each), cycles (8 bytes)", and "start (8) after cycles"
 unfoldable pub moduleBytes : PlacedModule → List ℕ
-moduleBytes m = m .number ∷ m .bus ∷ m .wires .0 ∷ 0 ∷ little 8 (m .cycles .0)
+moduleBytes m = m .number ∷ m .bus ∷ m .wires .0 ∷ 0 ∷ (little 8 (m .cycles .0) ++ little 8 (m .start .0))
 
 -- "width, three zeros, busy (8)"
 unfoldable pub busBytes : Bus → List ℕ

@@ -1,4 +1,4 @@
--- Plan files written and read (document 01, "The plan file" and "Refusal numbers"): "Plan file writer: 12, 11."
+-- Plan files written and read (document 01, "The plan file" and "Refusal numbers"; document 02, item 1): "Plan file writer: 12, 11."
 use Prim.Native.Nat.{ℕ, _+_, _-_, _*_}
 use mathlib.Core.Bool.{Bool, cond, _&&_}
 use mathlib.Core.List.{List}
@@ -27,10 +27,17 @@ writeAnswer p buf = cond (goodPlan p) (written (fileBytes p) buf) (refusedWrite 
 unfoldable pub writeLeaves : BusPlan → List ℕ → List ℕ
 writeLeaves p buf = cond (goodPlan p) (putFront (fileBytes p) buf) buf
 
--- the record at a place: "number, bus, wires, zero (a byte each), cycles (8 bytes)", and "width, three zeros, busy (8)"
+-- the record at a place: "number, bus, wires, zero (a byte each), cycles (8 bytes)" with "start (8) after cycles", and "width, three zeros,
+-- busy (8)"
 abbrev pub moduleAt : List ℕ → ℕ → PlacedModule
 moduleAt f at =
-    record { number = byte f at; bus = byte f (at + 1); wires = wires (byte f (at + 2)); cycles = cycles (numberAt 8 f (at + 4)) }
+    record {
+      number = byte f at;
+      bus = byte f (at + 1);
+      wires = wires (byte f (at + 2));
+      cycles = cycles (numberAt 8 f (at + 4));
+      start = cycles (numberAt 8 f (at + 12));
+    }
 
 abbrev pub busAt : List ℕ → ℕ → Bus
 busAt f at = record { width = wires (byte f at); busy = cycles (numberAt 8 f (at + 4)) }
@@ -82,11 +89,11 @@ goodLength f =
     && (leb (moduleCount f) modulePlaces
     && (leb (busCount f) busPlaces && eqb (length f) (fileLength (moduleCount f) (busCount f))))
 
--- the offsets of the first module record, "always 0", and of the first bus record: "the bus offset is 12 × modules"
+-- the offsets of the first module record, "always 0", and of the first bus record: "bus offset 20 × modules"
 unfoldable pub goodOffsets : List ℕ → Bool
 goodOffsets f = eqb (numberAt 2 f (trailer f)) 0 && eqb (numberAt 2 f (trailer f + 2)) (busOffset f)
 
--- a good file
+-- a good file: by `goodPlan` it "has exactly these starts"
 unfoldable pub goodFile : List ℕ → Bool
 goodFile f =
     goodLength f

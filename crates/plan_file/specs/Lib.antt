@@ -1,3 +1,4 @@
 pub mod Bytes
 pub mod Puts
 pub mod Files
+pub mod OldFiles

@@ -1,4 +1,5 @@
-// The plan file (document 01, "The plan file"): what the test floor loads, written by parts and read back, and never a bad one accepted.
+// The plan file (document 01, "The plan file"; document 02, item 1): what the test floor loads, written by parts and read back, and never a
+// bad one accepted.
 mod put;
 mod read;
 mod strides;

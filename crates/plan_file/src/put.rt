@@ -12,14 +12,15 @@ ghost use Rattle.buffer.specs.Puts.{putFront};
 ghost use Rattle.plan_file.specs.Bytes.{moduleStride, busStride, trailerLength, moduleBytes, busBytes, trailerBytes};
 ghost use Rattle.plan_file.specs.Puts.{SmallModule, SmallTrailer};
 
-// Number, bus, wires, zero, cycles.
+// Number, bus, wires, zero, cycles, start.
 pub(crate) fn put_module(b: &mut [u8], m: PlacedModule)
     requires { ⌜ (moduleStride ≤ length (now b)) × SmallModule m ⌝ }
     ensures { λ _. ⌜ now (b .exit) ≡ putFront (moduleBytes m) (now (b .entry)) ⌝ }
 {
     let w = [m.number as u8, m.bus as u8, m.wires.0 as u8, 0];
     let at = put_bytes(&mut *b, 0, &w);
-    put_u64(&mut *b, at, m.cycles.0);
+    let next = put_u64(&mut *b, at, m.cycles.0);
+    put_u64(&mut *b, next, m.start.0);
 }
 
 // Width, three zeros, busy.

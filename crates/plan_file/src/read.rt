@@ -69,6 +69,7 @@ fn modules_in(f: &[u8], n: usize) -> [PlacedModule; MODULE_PLACES]
             bus: figure_at(f, at + 1),
             wires: Wires(figure_at(f, at + 2) as u32),
             cycles: Cycles(u64_at(f, at + 4)),
+            start: Cycles(u64_at(f, at + 12)),
         };
         i += 1;
     }

@@ -13,14 +13,14 @@ use lib.Dec.{leb, eqb}
 use Rattle.units.proofs.TestLaws.{and-both, and-third}
 use Rattle.units.specs.Places.{allOf}
 use Rattle.units.proofs.PlaceLaws.{front-has, front-ends}
-use Rattle.plan_record.specs.Record.{noBus, noPlaced, busesOf, modulesOf, widthsOf, cyclesOn, busiesOf, numbersOf, modulePlaces}
+use Rattle.plan_record.specs.Record.{noBus, noPlaced, busesOf, modulesOf, widthsOf, cyclesOn, busiesOf, numbersOf, modulePlaces, runsBefore, startOf}
 use Rattle.plan_record.specs.Whole.{Whole}
 use Rattle.wrapper.specs.Maxima.{moduleTimeMax}
 use Rattle.plan_record.specs.declared.record.Bus.{Bus}
 use Rattle.plan_record.specs.declared.record.PlacedModule.{PlacedModule}
 use Rattle.plan_record.specs.declared.record.BusPlan.{BusPlan}
 use Rattle.plan_rules.specs.Plans.{sum, largest}
-use Rattle.plan_record.specs.Good.{within, goodCounts, ascendingFrom, goodPlaced, risingFrom, goodBuses, goodBusies, goodTimes, spareRest, goodPlan}
+use Rattle.plan_record.specs.Good.{within, goodCounts, ascendingFrom, goodPlaced, risingFrom, goodBuses, goodBusies, goodTimes, goodStarts, spareRest, goodPlan}
 
 -- the first n places of an array, from i on
 module _ {A : Type 0} (n : ℕ) (l : List A) (i : ℕ) where
@@ -48,6 +48,18 @@ module _ (n : ℕ) (l : List PlacedModule) (i : ℕ) (h : i < n) (k : i < length
   pub cycles-on-other : (b : ℕ) → (getD l i noPlaced .bus ≡ b → ⊥) → cyclesOn b (drop i (take n l)) ≡ cyclesOn b (drop (i + 1) (take n l))
   unfolding cyclesOn
   cycles-on-other b e = rw (front-cons n l i noPlaced h k, ne-eqb (getD l i noPlaced .bus) b e) (omega arith)
+
+  -- a module that runs before m adds its cycles, another nothing
+  pub start-before : (m : PlacedModule) →
+      let x = getD l i noPlaced in
+      runsBefore x m ≡ true → startOf (drop i (take n l)) m ≡ x .cycles .0 + startOf (drop (i + 1) (take n l)) m
+  unfolding startOf
+  start-before m e = rw (front-cons n l i noPlaced h k, e)
+
+  pub start-else : (m : PlacedModule) → runsBefore (getD l i noPlaced) m ≡ false
+      → startOf (drop i (take n l)) m ≡ startOf (drop (i + 1) (take n l)) m
+  unfolding startOf
+  start-else m e = rw (front-cons n l i noPlaced h k, e) (omega arith)
 
 -- the same of the buses in use
 module _ (n : ℕ) (l : List Bus) (i : ℕ) (h : i < n) (k : i < length l) where
@@ -180,9 +192,16 @@ good-width p e b h =
     omega (arith, eqb-true (sum (widthsOf (busesOf p))) (p .wires .0) (s .1))
 
 -- the buses may be looked at before the modules
-pub plan-order : (p : BusPlan) → goodPlan p ≡ (goodCounts p && (goodBuses p && (ascendingFrom 0 (numbersOf (modulesOf p)) && (allOf (goodPlaced p) (modulesOf p) && (goodTimes p && spareRest p)))))
+pub plan-order : (p : BusPlan) →
+    let ms = modulesOf p in
+    goodPlan p
+    ≡ (goodCounts p
+    && (goodBuses p && (ascendingFrom 0 (numbersOf ms) && (allOf (goodPlaced p) ms && (goodTimes p && (goodStarts ms && spareRest p))))))
 unfolding goodPlan
-plan-order p = ap (λ (r : Bool). goodCounts p && r) (and-third (ascendingFrom 0 (numbersOf (modulesOf p))) (allOf (goodPlaced p) (modulesOf p)) (goodBuses p) (goodTimes p && spareRest p))
+plan-order p =
+    let ms = modulesOf p in
+    ap (λ (r : Bool). goodCounts p && r)
+    (and-third (ascendingFrom 0 (numbersOf ms)) (allOf (goodPlaced p) ms) (goodBuses p) (goodTimes p && (goodStarts ms && spareRest p)))
 
 -- the parts of a good plan
 pub record GoodParts (p : BusPlan) : Type 0 where
@@ -191,6 +210,7 @@ pub record GoodParts (p : BusPlan) : Type 0 where
   pub placed : allOf (goodPlaced p) (modulesOf p) ≡ true
   pub buses : goodBuses p ≡ true
   pub times : goodTimes p ≡ true
+  pub starts : goodStarts (modulesOf p) ≡ true
   pub spare : spareRest p ≡ true
 
 pub good-parts : (p : BusPlan) → goodPlan p ≡ true → GoodParts p
@@ -201,7 +221,8 @@ good-parts p e =
     let d = and-both _ _ (b .1) in
     let g = and-both _ _ (d .1) in
     let h = and-both _ _ (g .1) in
-    record { counts = a .0; ascending = b .0; placed = d .0; buses = g .0; times = h .0; spare = h .1 }
+    let s = and-both _ _ (h .1) in
+    record { counts = a .0; ascending = b .0; placed = d .0; buses = g .0; times = h .0; starts = s .0; spare = s .1 }
 
 pub good-figures : (p : BusPlan) → goodPlan p ≡ true → GoodFigures p
 good-figures p e =
@@ -252,7 +273,8 @@ largest-most k (x ∷ xs) g =
     let b : largest (busiesOf xs) ≤ k = largest-most k xs (λ i h. g (suc i) (omega arith)) in
     omega arith
 
-times-both : (p : BusPlan) → goodTimes p ≡ true → (goodBusies (modulesOf p) 1 (busesOf p) ≡ true) × (p .time .0 ≡ largest (busiesOf (busesOf p)))
+pub times-both : (p : BusPlan) → goodTimes p ≡ true
+    → (goodBusies (modulesOf p) 1 (busesOf p) ≡ true) × (p .time .0 ≡ largest (busiesOf (busesOf p)))
 unfolding goodTimes
 times-both p e =
     let a = and-both (goodBusies (modulesOf p) 1 (busesOf p)) (eqb (p .time .0) (largest (busiesOf (busesOf p)))) e in

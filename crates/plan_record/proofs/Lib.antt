@@ -1,2 +1,3 @@
 pub mod GoodPlanLaws
 pub mod RecordLaws
+pub mod StartLaws

@@ -1,12 +1,13 @@
--- Laws of the record of a plan: it has the plan's widths, buses and numbers; its busy figures are the cycles of the modules that name a bus and its time
--- the largest of them (document 01, "The plan"); and it is good where its numbers ascend and its times and wires keep their limits. Assumes nothing.
+-- Laws of the record of a plan: it has the plan's widths, buses and numbers; its busy figures are the cycles of the modules that name a bus
+-- and its time the largest of them (document 01, "The plan"); its starts are those of document 02, item 1; and it is good where its numbers
+-- ascend and its times and wires keep their limits. Assumes nothing.
 use Prim.Native.Nat.{ℕ, zero, suc, _+_, _-_, _≤_, _<_}
 use mathlib.Core.Path.{_≡_, refl, sym, ap, _∙_}
 use mathlib.Core.Bool.{Bool, true, false, cond, _&&_}
 use mathlib.Core.List.{List, [], _∷_}
 use native.Mathlib.Omega.{arith}
 use borrow.Author.Tests.{le-leb, eq-eqb, eqb-true}
-use lib.ListN.{length, getD, drop, replicate, length-take, drop-of-length-le}
+use lib.ListN.{length, getD, take, drop, replicate, length-take, drop-of-length-le}
 use lib.Seq.{getD-take, drop-cons}
 use lib.Dec.{eqb}
 use Rattle.units.proofs.TestLaws.{and-holds, within-true}
@@ -16,8 +17,9 @@ use Rattle.wrapper.specs.WrapperAnswers.{widthMax}
 use Rattle.wrapper.specs.Maxima.{moduleTimeMax}
 use Rattle.plan_rules.specs.Plans.{Plan, IsPlan, sum, busyFrom, busies, largest, timeOf}
 use Rattle.plan_rules.proofs.BusyLaws.{length-busies, busies-at}
-use Rattle.plan_record.specs.Record.{busPlaces, modulePlaces, noBus, noPlaced, busesOf, modulesOf, widthsOf, busiesOf, numbersOf, placesOf, planOf, cyclesOn, busRecords, moduleRecords, planRecord}
-use Rattle.plan_record.specs.Good.{within, goodCounts, ascendingFrom, goodPlaced, risingFrom, goodBuses, goodBusies, goodTimes, spareBus, sparePlaced, spareRest, goodPlan}
+use Rattle.plan_record.specs.Record.{busPlaces, modulePlaces, noBus, noPlaced, busesOf, modulesOf, widthsOf, busiesOf, numbersOf, placesOf, planOf, cyclesOn, startOf, busRecords, moduleRecords, planRecord}
+use Rattle.plan_record.specs.Good.{within, goodCounts, ascendingFrom, goodPlaced, risingFrom, goodBuses, goodBusies, goodTimes, startIs, goodStarts, spareBus, sparePlaced, spareRest, goodPlan}
+use Rattle.plan_record.proofs.StartLaws.{start-front}
 use Rattle.plan_record.specs.declared.record.Bus.{Bus}
 use Rattle.plan_record.specs.declared.record.PlacedModule.{PlacedModule}
 use Rattle.plan_record.specs.declared.record.BusPlan.{BusPlan}
@@ -43,18 +45,19 @@ busies-are (w ∷ ws) [] e = absurd (omega arith)
 busies-are (w ∷ ws) (b ∷ bs) e = ap (λ l. b ∷ l) (busies-are ws bs (omega arith))
 
 -- the records of modules, one for each bus number
-module _ (numbers : List ℕ) (time used : ℕ → ℕ → ℕ) (ws : List ℕ) where
-  length-modules : (i : ℕ) (bs : List ℕ) → length (moduleRecords numbers time used ws i bs) ≡ length bs
+module _ (numbers : List ℕ) (time used : ℕ → ℕ → ℕ) (ws all : List ℕ) where
+  length-modules : (i : ℕ) (bs : List ℕ) → length (moduleRecords numbers time used ws all i bs) ≡ length bs
   unfolding moduleRecords
   length-modules i [] = refl
   length-modules i (b ∷ bs) = ap suc (length-modules (suc i) bs)
 
-  places-are : (i : ℕ) (bs : List ℕ) → placesOf (moduleRecords numbers time used ws i bs) ≡ bs
+  places-are : (i : ℕ) (bs : List ℕ) → placesOf (moduleRecords numbers time used ws all i bs) ≡ bs
   unfolding moduleRecords
   places-are i [] = refl
   places-are i (b ∷ bs) = ap (λ l. b ∷ l) (places-are (suc i) bs)
 
-  numbers-are : (i : ℕ) (bs : List ℕ) → i + length bs ≡ length numbers → numbersOf (moduleRecords numbers time used ws i bs) ≡ drop i numbers
+  numbers-are : (i : ℕ) (bs : List ℕ) → i + length bs ≡ length numbers
+      → numbersOf (moduleRecords numbers time used ws all i bs) ≡ drop i numbers
   unfolding moduleRecords
   numbers-are i [] e = sym (drop-of-length-le numbers {i = i} (omega arith))
   numbers-are i (b ∷ bs) e = rw (drop-cons numbers i 0 (omega arith), numbers-are (suc i) bs (omega arith))
@@ -63,10 +66,34 @@ module _ (numbers : List ℕ) (time used : ℕ → ℕ → ℕ) (ws : List ℕ) 
   cycles-one i b k true e = let p : b - 1 ≡ k = omega (arith, eqb-true b (suc k) e) in rw p
   cycles-one i b k false e = refl
 
-  cycles-busy : (i k : ℕ) (bs : List ℕ) → cyclesOn (suc k) (moduleRecords numbers time used ws i bs) ≡ busyFrom time i (suc k) (getD ws k 0) bs
+  cycles-busy : (i k : ℕ) (bs : List ℕ)
+      → cyclesOn (suc k) (moduleRecords numbers time used ws all i bs) ≡ busyFrom time i (suc k) (getD ws k 0) bs
   unfolding cyclesOn moduleRecords busyFrom
   cycles-busy i k [] = refl
   cycles-busy i k (b ∷ bs) = rw (cycles-one i b k (eqb b (suc k)) refl, cycles-busy (suc i) k bs)
+
+  -- the first k of them, and the bus and the start of module i
+  take-records : (k i : ℕ) (bs : List ℕ)
+      → take k (moduleRecords numbers time used ws all i bs) ≡ moduleRecords numbers time used ws all i (take k bs)
+  unfolding moduleRecords
+  take-records zero i bs = refl
+  take-records (suc k) i [] = refl
+  take-records (suc k) i (b ∷ bs) = rw (take-records k (suc i) bs)
+
+  record-at : (i j : ℕ) (bs : List ℕ) → j < length bs →
+      let m = getD (moduleRecords numbers time used ws all i bs) j noPlaced in
+      let b = getD bs j 0 in
+      (m .bus ≡ b) × (m .start .0 ≡ busyFrom time 0 b (getD ws (b - 1) 0) (take (i + j) all))
+  unfolding moduleRecords
+  record-at i j [] h = absurd (omega arith)
+  record-at i zero (b ∷ bs) h = let e : i + 0 ≡ i = omega arith in (refl, rw e)
+  record-at i (suc j) (b ∷ bs) h = let e : i + suc j ≡ suc i + j = omega arith in rw e (record-at (suc i) j bs (omega arith))
+
+-- every element is what p asks for
+all-each : {A : Type 0} (p : A → Bool) (z : A) (xs : List A) → ((i : ℕ) → i < length xs → p (getD xs i z) ≡ true) → allOf p xs ≡ true
+unfolding allOf
+all-each p z [] h = refl
+all-each p z (x ∷ xs) h = and-holds (h 0 (omega arith)) (all-each p z xs (λ i k. h (suc i) (omega arith)))
 
 -- widths that are plan widths rise
 rising-widths : (low : ℕ) (ws : List ℕ) → ((i : ℕ) → i < length ws → low ≤ getD ws i 0) → ((i : ℕ) → suc i < length ws → getD ws i 0 ≤ getD ws (suc i) 0) → risingFrom low ws ≡ true
@@ -105,7 +132,7 @@ module _ (numbers : List ℕ) (time used : ℕ → ℕ → ℕ) (W B : ℕ) (p :
   figures = busies time (p .buses) 1 (p .widths)
 
   abbrev placed : List PlacedModule
-  placed = moduleRecords numbers time used (p .widths) 0 (p .buses)
+  placed = moduleRecords numbers time used (p .widths) (p .buses) 0 (p .buses)
 
   abbrev r : BusPlan
   r = planRecord numbers time used W B p
@@ -134,7 +161,7 @@ module _ (numbers : List ℕ) (time used : ℕ → ℕ → ℕ) (W B : ℕ) (p :
 
   module _ (is : IsPlan W B (length numbers) p) where
     placed-length : length placed ≡ length numbers
-    placed-length = length-modules numbers time used (p .widths) 0 (p .buses) ∙ is .placed
+    placed-length = length-modules numbers time used (p .widths) (p .buses) 0 (p .buses) ∙ is .placed
 
     modules-are : modulesOf r ≡ placed
     unfolding planRecord
@@ -142,18 +169,21 @@ module _ (numbers : List ℕ) (time used : ℕ → ℕ → ℕ) (W B : ℕ) (p :
 
     -- it has the planned modules, ascending, each on its bus
     pub record-numbers : numbersOf (modulesOf r) ≡ numbers
-    record-numbers = rw modules-are (numbers-are numbers time used (p .widths) 0 (p .buses) (omega (arith, is .placed)))
+    record-numbers = rw modules-are (numbers-are numbers time used (p .widths) (p .buses) 0 (p .buses) (omega (arith, is .placed)))
 
     -- and it holds that plan
     pub record-plan : planOf r ≡ p
-    record-plan = let b : placesOf (modulesOf r) ≡ p .buses = rw modules-are (places-are numbers time used (p .widths) 0 (p .buses)) in rw (record-widths, b)
+    record-plan =
+        let b : placesOf (modulesOf r) ≡ p .buses = rw modules-are (places-are numbers time used (p .widths) (p .buses) 0 (p .buses)) in
+        rw (record-widths, b)
 
     -- "A bus is busy for the sum of its modules' times": bus j + 1 for the cycles of the modules that name it
     pub record-busy : (j : ℕ) → j < r .«bus_count» → getD (busiesOf (busesOf r)) j 0 ≡ cyclesOn (suc j) (modulesOf r)
     unfolding planRecord
     record-busy j h =
         let e : 1 + j ≡ suc j = omega arith in
-        rw (record-busies, modules-are, cycles-busy numbers time used (p .widths) 0 j (p .buses)) (busies-at time (p .buses) 1 (p .widths) j h ∙ rw e)
+        rw (record-busies, modules-are, cycles-busy numbers time used (p .widths) (p .buses) 0 j (p .buses))
+        (busies-at time (p .buses) 1 (p .widths) j h ∙ rw e)
 
     -- bus j + 1 has the plan's width
     record-width : (j : ℕ) → j < length (p .widths) → getD (r .buses) j noBus .width .0 ≡ getD (p .widths) j 0
@@ -183,6 +213,28 @@ module _ (numbers : List ℕ) (time used : ℕ → ℕ → ℕ) (W B : ℕ) (p :
     unfolding goodTimes
     record-times = and-holds (busy-sums (modulesOf r) 1 (busesOf r) busy-at) (eq-eqb (r .time .0) (largest (busiesOf (busesOf r))) record-time)
 
+    -- "a module starts at the sum of the cycles of lower-numbered modules on its bus"
+    module _ (ascending : ascendingFrom 0 numbers ≡ true) where
+      record-start : (i : ℕ) → i < length numbers → getD placed i noPlaced .start .0 ≡ startOf placed (getD placed i noPlaced)
+      record-start i h =
+          let n : i < length (p .buses) = omega (arith, is .placed) in
+          let k : i < length placed = omega (arith, placed-length) in
+          let all = numbers-are numbers time used (p .widths) (p .buses) 0 (p .buses) (omega (arith, is .placed)) in
+          let a : ascendingFrom 0 (numbersOf placed) ≡ true = rw all ascending in
+          let m = record-at numbers time used (p .widths) (p .buses) 0 i (p .buses) n in
+          let b = getD (p .buses) i 0 in
+          let s : suc (b - 1) ≡ b = omega (arith, is .low i h) in
+          let e : 0 + i ≡ i = omega arith in
+          let t : cyclesOn b (take i placed) ≡ busyFrom time 0 b (getD (p .widths) (b - 1) 0) (take i (p .buses)) =
+          rw (take-records numbers time used (p .widths) (p .buses) i 0 (p .buses))
+          (rw s at (cycles-busy numbers time used (p .widths) (p .buses) 0 (b - 1) (take i (p .buses)))) in
+          rw e at (m .1) ∙ sym (start-front 0 placed a i k ∙ ap (λ x. cyclesOn x (take i placed)) (m .0) ∙ t)
+
+      record-starts : goodStarts (modulesOf r) ≡ true
+      unfolding goodStarts
+      record-starts =
+          rw modules-are (all-each (startIs placed) noPlaced placed (λ i h. eq-eqb _ _ (record-start i (omega (arith, placed-length)))))
+
     -- "spare places are 0"
     spare-buses : allOf spareBus (drop (r .«bus_count») (r .buses)) ≡ true
     unfolding spareBus planRecord
@@ -210,7 +262,7 @@ module _ (numbers : List ℕ) (time used : ℕ → ℕ → ℕ) (W B : ℕ) (p :
       -- "each bus from 1 to the number of buses, cycles 1 to the module maximum above, wires 1 to the bus's width"
       placed-good : (i : ℕ) (bs : List ℕ) → i + length bs ≤ length numbers
           → ((j : ℕ) → j < length bs → (1 ≤ getD bs j 0) × (getD bs j 0 ≤ length (p .widths)))
-          → allOf (goodPlaced r) (moduleRecords numbers time used (p .widths) i bs) ≡ true
+          → allOf (goodPlaced r) (moduleRecords numbers time used (p .widths) (p .buses) i bs) ≡ true
       unfolding allOf goodPlaced moduleRecords
       placed-good i [] h q = refl
       placed-good i (b ∷ bs) h q =
@@ -240,4 +292,6 @@ module _ (numbers : List ℕ) (time used : ℕ → ℕ → ℕ) (W B : ℕ) (p :
         record-good =
             and-holds record-counts
             (and-holds (ap (ascendingFrom 0) record-numbers ∙ fit .ascending)
-            (and-holds record-placed (and-holds record-buses-good (and-holds record-times (and-holds spare-buses spare-modules)))))
+            (and-holds record-placed
+            (and-holds record-buses-good
+            (and-holds record-times (and-holds (record-starts (fit .ascending)) (and-holds spare-buses spare-modules))))))

@@ -1,5 +1,5 @@
--- When a plan record is good (document 01, "The plan file"): its counts keep the limits, its buses and widths obey the plan rules, busy and time are the
--- sums and the maximum, and spare places are 0.
+-- When a plan record is good (document 01, "The plan file"; document 02, item 1): its counts keep the limits, its buses and widths obey the
+-- plan rules, busy and time are the sums and the maximum, starts are the sums before them, and spare places are 0.
 use Prim.Native.Nat.{ℕ, suc, _-_}
 use mathlib.Core.Bool.{Bool, true, _&&_}
 use mathlib.Core.List.{List, [], _∷_}
@@ -10,7 +10,7 @@ use Rattle.units.specs.Places.{allOf}
 use Rattle.wrapper.specs.WrapperAnswers.{widthMax}
 use Rattle.wrapper.specs.Maxima.{moduleTimeMax}
 use Rattle.plan_rules.specs.Plans.{sum, largest}
-use Rattle.plan_record.specs.Record.{busPlaces, modulePlaces, noBus, busesOf, modulesOf, widthsOf, busiesOf, numbersOf, cyclesOn}
+use Rattle.plan_record.specs.Record.{busPlaces, modulePlaces, noBus, busesOf, modulesOf, widthsOf, busiesOf, numbersOf, cyclesOn, startOf}
 use Rattle.plan_record.specs.declared.record.Bus.{Bus}
 use Rattle.plan_record.specs.declared.record.PlacedModule.{PlacedModule}
 use Rattle.plan_record.specs.declared.record.BusPlan.{BusPlan}
@@ -50,12 +50,19 @@ goodBusies ms b (x ∷ xs) = eqb (x .busy .0) (cyclesOn b ms) && goodBusies ms (
 unfoldable pub goodTimes : BusPlan → Bool
 goodTimes p = goodBusies (modulesOf p) 1 (busesOf p) && eqb (p .time .0) (largest (busiesOf (busesOf p)))
 
+-- "A good file or record has exactly these starts."
+abbrev pub startIs : List PlacedModule → PlacedModule → Bool
+startIs ms m = eqb (m .start .0) (startOf ms m)
+
+unfoldable pub goodStarts : List PlacedModule → Bool
+goodStarts ms = allOf (startIs ms) ms
+
 -- spare places are 0
 unfoldable pub spareBus : Bus → Bool
 spareBus b = eqb (b .width .0) 0 && eqb (b .busy .0) 0
 
 unfoldable pub sparePlaced : PlacedModule → Bool
-sparePlaced m = eqb (m .number) 0 && (eqb (m .bus) 0 && (eqb (m .wires .0) 0 && eqb (m .cycles .0) 0))
+sparePlaced m = eqb (m .number) 0 && (eqb (m .bus) 0 && (eqb (m .wires .0) 0 && (eqb (m .cycles .0) 0 && eqb (m .start .0) 0)))
 
 unfoldable pub spareRest : BusPlan → Bool
 spareRest p = allOf spareBus (drop (p .«bus_count») (p .buses)) && allOf sparePlaced (drop (p .«module_count») (p .modules))
@@ -63,4 +70,5 @@ spareRest p = allOf spareBus (drop (p .«bus_count») (p .buses)) && allOf spare
 unfoldable pub goodPlan : BusPlan → Bool
 goodPlan p =
     goodCounts p
-    && (ascendingFrom 0 (numbersOf (modulesOf p)) && (allOf (goodPlaced p) (modulesOf p) && (goodBuses p && (goodTimes p && spareRest p))))
+    && (ascendingFrom 0 (numbersOf (modulesOf p))
+    && (allOf (goodPlaced p) (modulesOf p) && (goodBuses p && (goodTimes p && (goodStarts (modulesOf p) && spareRest p)))))

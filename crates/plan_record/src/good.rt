@@ -3,6 +3,7 @@ use super::record::BUS_PLACES;
 use super::record::BusPlan;
 use super::record::MODULE_PLACES;
 use super::record::PlacedModule;
+use super::starts::has_good_starts;
 use super::times::has_good_times;
 use soc::MODULES_MAX;
 use wrapper::MODULE_TIME_MAX;
@@ -180,7 +181,10 @@ fn is_spare_placed(m: PlacedModule) -> bool
     if m.wires.0 != 0 {
         return false;
     }
-    m.cycles.0 == 0
+    if m.cycles.0 != 0 {
+        return false;
+    }
+    m.start.0 == 0
 }
 
 fn are_spare_placed(p: BusPlan, n: usize) -> bool
@@ -215,6 +219,9 @@ pub fn is_good_plan(p: BusPlan) -> bool
         return false;
     }
     if !has_good_times(p) {
+        return false;
+    }
+    if !has_good_starts(p) {
         return false;
     }
     if !are_spare_buses(p, p.bus_count) {

@@ -1,6 +1,8 @@
-// The plan record, and what a good one is (document 01, "The plan" and "The plan file"): its buses, its planned modules, their busy figures and its time.
+// The plan record, and what a good one is (document 01, "The plan" and "The plan file"; document 02, item 1): its buses, its planned
+// modules, their starts and busy figures, and its time.
 mod good;
 mod record;
+mod starts;
 mod times;
 
 pub use good::is_good_plan;

@@ -19,6 +19,7 @@ pub struct PlacedModule {
     pub bus: usize,
     pub wires: Wires,
     pub cycles: Cycles,
+    pub start: Cycles,
 }
 
 // W, B, the buses, the planned modules ascending, and the time. Spare places are 0.
@@ -51,6 +52,7 @@ pub fn no_placed() -> PlacedModule
         bus: 0,
         wires: Wires(0),
         cycles: Cycles(0),
+        start: Cycles(0),
     }
 }
 

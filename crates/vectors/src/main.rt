@@ -1,6 +1,8 @@
 // Runs the product on the texts in data/ and prints what it finds: texts read and written, layouts and times, plans, plan files (document
-// 01, "The SOC text", "The wrapper rule", "The plan", "The plan file"). The file args names the texts, and stdout is what must be printed.
+// 01, "The SOC text", "The wrapper rule", "The plan", "The plan file"; document 02, item 1). The file args names the texts, and stdout is
+// what must be printed.
 use plan_files::show_changes;
+use plan_files::show_old;
 use plan_files::show_part;
 use plan_files::show_plan_file;
 use plans::show_plan;
@@ -90,19 +92,22 @@ fn show_plans() {
     show_plan(REFUSED, 0, 0);
 }
 
-// Buffers that are too short, just long enough and longer; a bad record; the longest file; the file by hand, in parts and with other bytes.
+// Buffers that are too short, just long enough and longer; a bad record; two modules on one bus; the longest file; the file by hand, in
+// parts and with other bytes; one of the old form.
 fn show_plan_files() {
-    show_plan_file(T1, 4, 2, 2, 63);
-    show_plan_file(T1, 4, 2, 2, 64);
-    show_plan_file(T1, 4, 2, 2, 200);
-    show_plan_file(T1, 4, 2, 4, 200);
-    show_plan_file(TWELVE, 24, 3, 3, 200);
-    show_part(0, 64);
-    show_part(0, 63);
-    show_part(12, 64);
+    show_plan_file(T1, 4, 2, 2, 79);
+    show_plan_file(T1, 4, 2, 2, 80);
+    show_plan_file(T1, 4, 2, 2, 300);
+    show_plan_file(T1, 4, 2, 4, 300);
+    show_plan_file(T1, 4, 1, 1, 300);
+    show_plan_file(TWELVE, 24, 3, 3, 300);
+    show_part(0, 80);
+    show_part(0, 79);
+    show_part(20, 80);
     show_part(0, 16);
     show_part(0, 15);
     show_part(0, 0);
+    show_old();
     show_changes();
 }
 

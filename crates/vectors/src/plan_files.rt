@@ -1,5 +1,5 @@
-// Writes plan files and reads them back (document 01, "The plan file"), and tries a file written out by hand: in parts, and with each byte
-// changed in turn.
+// Writes plan files and reads them back (document 01, "The plan file"; document 02, item 1), and tries a file written out by hand: in
+// parts, and with each byte changed in turn; and the same plan's file as it was before a module's start stood in it.
 use super::lent::BEFORE;
 use super::lent::at_most;
 use super::lent::kept_to;
@@ -14,12 +14,12 @@ use plan_record::BusPlan;
 use units::Wires;
 
 // The file of t1's plan for 4 wires and limit 2, by hand: module 1 on bus 1, module 2 on bus 2, the two buses, the trailer.
-fn by_hand() -> [u8; 64] {
-    *b"\x01\x01\x01\0\x41\0\0\0\0\0\0\0\
-       \x02\x02\x03\0\x09\0\0\0\0\0\0\0\
+fn by_hand() -> [u8; 80] {
+    *b"\x01\x01\x01\0\x41\0\0\0\0\0\0\0\0\0\0\0\0\0\0\0\
+       \x02\x02\x03\0\x09\0\0\0\0\0\0\0\0\0\0\0\0\0\0\0\
        \x01\0\0\0\x41\0\0\0\0\0\0\0\
        \x03\0\0\0\x09\0\0\0\0\0\0\0\
-       \0\0\x18\0\x04\x02\x02\x02\x41\0\0\0\0\0\0\0"
+       \0\0\x28\0\x04\x02\x02\x02\x41\0\0\0\0\0\0\0"
 }
 
 // The number of a file's refusal. A file that is accepted must be the file of the plan that it says.
@@ -29,7 +29,7 @@ fn refusal_of(file: &[u8]) -> u8 {
     if number != 0 {
         return number;
     }
-    let mut buffer = [0u8; 200];
+    let mut buffer = [0u8; 300];
     let w = plan_file::write_plan(read.plan, &mut buffer);
     let n = at_most(w.len, &buffer);
     if !fields::same_bytes(file, &buffer[..n]) {
@@ -73,7 +73,7 @@ pub(crate) fn show_plan_file(i: usize, w: u32, b: u32, limit: u32, n: usize) {
     let mut p = answer.plan;
     p.limit = limit;
     print_line(PLAN_FILE, w as u64, limit as u64, 0, 0);
-    let mut buffer = [BEFORE; 200];
+    let mut buffer = [BEFORE; 300];
     show_into(p, &mut buffer, n);
 }
 
@@ -84,10 +84,20 @@ pub(crate) fn show_part(from: usize, n: usize) {
     show_file(&hand[k..], n);
 }
 
+// The same plan's file of 12-byte records.
+pub(crate) fn show_old() {
+    let old = b"\x01\x01\x01\0\x41\0\0\0\0\0\0\0\
+       \x02\x02\x03\0\x09\0\0\0\0\0\0\0\
+       \x01\0\0\0\x41\0\0\0\0\0\0\0\
+       \x03\0\0\0\x09\0\0\0\0\0\0\0\
+       \0\0\x18\0\x04\x02\x02\x02\x41\0\0\0\0\0\0\0";
+    show_file(old, 64);
+}
+
 // The number of the refusal of the file by hand with another byte at a place; 1 where it has that byte.
 fn refusal_with(at: usize, b: u8) -> u8 {
     let mut file = by_hand();
-    if 64 <= at {
+    if 80 <= at {
         return 1;
     }
     if file[at] == b {
@@ -100,7 +110,7 @@ fn refusal_with(at: usize, b: u8) -> u8 {
 // Which other values of which bytes of the file by hand are accepted.
 pub(crate) fn show_changes() {
     let mut k: usize = 0;
-    while k < 16384 {
+    while k < 20480 {
         let b = (k % 256) as u8;
         if refusal_with(k / 256, b) == 0 {
             print_line(CHANGED, k as u64 / 256, b as u64, 0, 0);

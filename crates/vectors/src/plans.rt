@@ -1,7 +1,8 @@
-// Prints plans (document 01, "The plan").
+// Prints plans (document 01, "The plan"; document 02, item 1).
 use super::print::BUS;
 use super::print::PLACED;
 use super::print::PLAN;
+use super::print::START;
 use super::print::print_line;
 use super::print::soc_in;
 use plan_record::BUS_PLACES;
@@ -34,6 +35,7 @@ fn print_placed(p: BusPlan) {
                 m.wires.0 as u64,
                 m.cycles.0,
             );
+            print_line(START, m.start.0, 0, 0, 0);
         }
         i += 1;
     }

@@ -43,13 +43,15 @@ pub const BUS: usize = 18;
 
 pub const PLACED: usize = 19;
 
-pub const PLAN_FILE: usize = 20;
+pub const START: usize = 20;
 
-pub const READ_BACK: usize = 21;
+pub const PLAN_FILE: usize = 21;
 
-pub const CHANGED: usize = 22;
+pub const READ_BACK: usize = 22;
 
-pub const WRONG: usize = 23;
+pub const CHANGED: usize = 23;
+
+pub const WRONG: usize = 24;
 
 // Stands for a figure that is not given, and is printed as the text has it: -1. All other figures are smaller.
 pub const NOT_GIVEN: u64 = 18446744073709551615;
@@ -109,7 +111,8 @@ pub(crate) fn print_line(line: usize, a: u64, b: u64, c: u64, d: u64) {
         | flip-flops # input cells # output cells #, internal chain in #\n\
         |wires # limit #: refused #, time #\n\
         | bus # width # busy #\n\
-        | module # bus # wires # cycles #\n\
+        | module # bus # wires # cycles #\
+        | start #\n\
         |plan file of wires # limit #\n\
         | a file of # bytes: refused #, as by hand #\n\
         | byte # as # says another plan\n\

@@ -64,6 +64,7 @@ impl PlanRecord {
             let numbers = [("module", module.number), ("bus", module.bus), ("wires", module.wires)];
             let mut row: Row = numbers.map(|(name, number)| (name, number.into())).to_vec();
             row.push(("cycles", module.cycles.into()));
+            row.push(("start", module.start.into()));
             row
         };
         Report {

@@ -16,7 +16,10 @@ fn plan_of_t1() -> Value {
     json!({
         "soc": "t1", "wires": 4, "limit": 2, "time": 65,
         "buses": [{"bus": 1, "width": 1, "busy": 65}, {"bus": 2, "width": 3, "busy": 9}],
-        "modules": [{"module": 1, "bus": 1, "wires": 1, "cycles": 65}, {"module": 2, "bus": 2, "wires": 3, "cycles": 9}],
+        "modules": [
+            {"module": 1, "bus": 1, "wires": 1, "cycles": 65, "start": 0},
+            {"module": 2, "bus": 2, "wires": 3, "cycles": 9, "start": 0},
+        ],
     })
 }
 
@@ -29,6 +32,8 @@ fn plan_and_show() {
     let mut shown = plan_of_t1();
     shown.as_object_mut().unwrap().remove("soc");
     assert_eq!(object(&folder, &["show", "--json", "t1.plan"], 0), shown);
+    let second = json!({"module": 2, "bus": 1, "wires": 3, "cycles": 9, "start": 65});
+    assert_eq!(object(&folder, &["plan", "--json", "t1.soc", "4", "1"], 0)["modules"][1], second);
 }
 
 #[test]

@@ -168,7 +168,12 @@ fn refusal_12() {
     let good = std::fs::read(folder.0.join("good.plan")).unwrap();
     let mut wrong = good.clone();
     wrong[3] = 1;
-    for content in [&[][..], &good[1..], &good[..63], &[&good[..], &[0]].concat(), &wrong, T1.as_bytes()] {
+    let mut late = good.clone();
+    late[12] = 1;
+    // Without the starts, as plan files were once.
+    let mut old = [&good[..12], &good[20..32], &good[40..]].concat();
+    old[50] = 24;
+    for content in [&[][..], &good[1..], &good[..79], &[&good[..], &[0]].concat(), &wrong, &late, &old, T1.as_bytes()] {
         folder.put("x.plan", content);
         folder.run(&["show", "x.plan"]).refused(12, 0, "x.plan: this is not a good plan file or plan record", "");
     }

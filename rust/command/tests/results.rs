@@ -13,6 +13,9 @@ fn plan_lists_the_best_plan() {
     folder.run(&["plan", "t1.soc", "4", "2"]).done(T1_LISTING);
     folder.run(&["plan", "--", "t1.soc", "4", "2"]).done(T1_LISTING);
     folder.run_with(&["plan", "-", "4", "2"], T1.as_bytes()).done(T1_LISTING);
+    let on_one_bus = "soc t1 wires 4 limit 1 time 74\nbus 1 width 4 busy 74\n\
+                      module 1 bus 1 wires 1 cycles 65 start 0\nmodule 2 bus 1 wires 3 cycles 9 start 65\n";
+    folder.run(&["plan", "t1.soc", "4", "1"]).done(on_one_bus);
 }
 
 #[test]
@@ -107,7 +110,7 @@ fn write_and_show() {
     assert_eq!(folder.names(), ["t1.plan", "t1.soc"]);
     folder.run(&["show", "t1.plan"]).done(T1_SHOWN);
     let file = fs::read(folder.0.join("t1.plan")).unwrap();
-    assert_eq!((file.len(), &file[..4], &file[48..56]), (64, &[1, 1, 1, 0][..], &[0, 0, 24, 0, 4, 2, 2, 2][..]));
+    assert_eq!((file.len(), &file[..4], &file[64..72]), (80, &[1, 1, 1, 0][..], &[0, 0, 40, 0, 4, 2, 2, 2][..]));
     folder.run_with(&["show", "-"], &file).done(T1_SHOWN);
     let printed = command(&["write", "t1.soc", "4", "2", "-"]).current_dir(&folder.0).output().unwrap();
     assert_eq!((printed.status.code(), printed.stdout), (Some(0), file));

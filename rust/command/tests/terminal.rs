@@ -26,9 +26,9 @@ bus  width  busy
   1      1    65
   2      3     9
 
-module  bus  wires  cycles
-     1    1      1      65
-     2    2      3       9
+module  bus  wires  cycles  start
+     1    1      1      65      0
+     2    2      3       9      0
 ";
     assert_eq!(on_a_terminal(&folder, "plan t1.soc 4 2"), expected);
     folder.run(&["write", "t1.soc", "4", "2", "t1.plan"]).done("");

@@ -12,6 +12,7 @@ pub struct LooseModule {
     pub bus: u32,
     pub wires: u32,
     pub cycles: u64,
+    pub start: u64,
 }
 
 /// A plan that no rule holds together, so that each can be broken on its own.
@@ -42,21 +43,35 @@ impl LoosePlan {
         plan
     }
 
-    /// Makes busy figures and time right again, as far as the buses exist; sums may pass 64 bits.
+    /// Makes busy figures, time and starts right again, as far as the buses exist; sums may pass 64 bits.
     pub fn settle(&mut self) {
         for (index, bus) in self.buses.iter_mut().enumerate() {
             let on_it = self.modules.iter().filter(|module| module.bus as usize == index + 1);
             bus.1 = on_it.fold(0, |sum: u64, module| sum.wrapping_add(module.cycles));
         }
         self.time = self.buses.iter().map(|bus| bus.1).max().unwrap_or(0);
+        for at in 0..self.modules.len() {
+            self.modules[at].start = self.summed(|other| self.runs_before(other, at));
+        }
+    }
+
+    /// The cycles of some modules.
+    fn summed(&self, chosen: impl Fn(usize) -> bool) -> u64 {
+        let modules = self.modules.iter().enumerate().filter(|&(other, _)| chosen(other));
+        modules.fold(0, |sum: u64, (_, module)| sum.wrapping_add(module.cycles))
+    }
+
+    fn runs_before(&self, other: usize, at: usize) -> bool {
+        self.modules[other].bus == self.modules[at].bus && self.modules[other].number < self.modules[at].number
     }
 
     /// Breaks a rule, and half the time settles the sums so that they do not give it away.
     pub fn damage(&mut self, random: &mut Random) {
-        match random.below(10) {
+        match random.below(12) {
             0..=1 => self.damage_counts(random),
             2..=3 => self.damage_buses(random),
             4 => self.damage_sums(random),
+            5..=6 => return self.damage_starts(random),
             _ => self.damage_module(random),
         }
         if random.chance(50) {
@@ -71,7 +86,7 @@ impl LoosePlan {
             2 => self.limit = *random.pick(&[0, 1, 2, 3, 4, 255]),
             3 => self.modules.clear(),
             4 => {
-                let extra = LooseModule { number: 39, bus: 1, wires: 1, cycles: 1 };
+                let extra = LooseModule { number: 39, bus: 1, wires: 1, cycles: 1, start: 0 };
                 self.modules.push(extra);
             }
             _ => self.modules.truncate(random.below(self.modules.len() + 1)),
@@ -110,6 +125,29 @@ impl LoosePlan {
                 self.buses[at].1 = self.buses[at].1.wrapping_add(1);
                 self.time = self.buses.iter().map(|bus| bus.1).max().unwrap_or(0);
             }
+        }
+    }
+
+    /// Starts by another rule: with the module itself, over all buses, in the order reversed, all at once; or a single wrong start.
+    fn damage_starts(&mut self, random: &mut Random) {
+        let count = self.modules.len();
+        let (at, other, rule) = (random.below(count), random.below(count), random.below(7));
+        let starts: Vec<u64> = (0..count)
+            .map(|at| match rule {
+                0 => self.modules[at].start.wrapping_add(self.modules[at].cycles),
+                1 => self.summed(|other| self.modules[other].number < self.modules[at].number),
+                2 => self.summed(|other| self.runs_before(at, other)),
+                3 => 0,
+                _ => self.modules[at].start,
+            })
+            .collect();
+        for (module, start) in self.modules.iter_mut().zip(starts) {
+            module.start = start;
+        }
+        match rule {
+            4 => self.modules[at].start = self.modules[other].start,
+            5.. => self.modules[at].start = self.modules[at].start.wrapping_add(*random.pick(&[1, u64::MAX, 256, 1 << 32, 1 << 63])),
+            _ => {}
         }
     }
 
@@ -154,6 +192,7 @@ impl LoosePlan {
                 bytes.extend_from_slice(&number.to_le_bytes());
             }
             bytes.extend_from_slice(&module.cycles.to_le_bytes());
+            bytes.extend_from_slice(&module.start.to_le_bytes());
         }
         bytes.resize(PLAN_BYTES, 0);
         bytes
@@ -161,10 +200,20 @@ impl LoosePlan {
 
     /// The file, with every bus and module there is; numbers too large for their byte lose their front.
     pub fn file(&self) -> Vec<u8> {
+        self.file_with(|module| module.start.to_le_bytes().to_vec())
+    }
+
+    /// The file as it was before starts stood in it.
+    pub fn old_file(&self) -> Vec<u8> {
+        self.file_with(|_| Vec::new())
+    }
+
+    fn file_with(&self, start: impl Fn(&LooseModule) -> Vec<u8>) -> Vec<u8> {
         let mut bytes = Vec::new();
         for module in &self.modules {
             bytes.extend_from_slice(&[module.number as u8, module.bus as u8, module.wires as u8, 0]);
             bytes.extend_from_slice(&module.cycles.to_le_bytes());
+            bytes.extend_from_slice(&start(module));
         }
         let bus_offset = bytes.len() as u16;
         for (width, busy) in &self.buses {
@@ -200,7 +249,7 @@ fn make_module(number: u32, widths: &[u32], random: &mut Random) -> LooseModule 
         1 => 1,
         _ => 1 + random.bits() % limits::MODULE_CYCLES,
     };
-    LooseModule { number, bus, wires, cycles }
+    LooseModule { number, bus, wires, cycles, start: 0 }
 }
 
 fn step(number: u32, random: &mut Random) -> u32 {

@@ -7,7 +7,7 @@ use crate::units::{Cycles, FlipFlops, Wires};
 
 pub const SOC_BYTES: usize = 16_688;
 pub const LAYOUT_BYTES: usize = 1_024;
-pub const PLAN_BYTES: usize = 300;
+pub const PLAN_BYTES: usize = 396;
 
 /// Takes numbers from the front of bytes.
 pub struct Source<'a>(pub &'a [u8]);
@@ -131,7 +131,7 @@ pub fn plan_from(bytes: &[u8]) -> Option<Plan> {
     }
     for module in &mut plan.modules {
         let (number, bus, wires) = (source.u32()?, source.u32()?, Wires(source.u32()?));
-        *module = Planned { number, bus, wires, cycles: Cycles(source.u64()?) };
+        *module = Planned { number, bus, wires, cycles: Cycles(source.u64()?), start: Cycles(source.u64()?) };
     }
     source.end(plan)
 }
@@ -151,6 +151,7 @@ pub fn plan_bytes(plan: &Plan) -> Vec<u8> {
             put(&mut bytes, number);
         }
         put_cycles(&mut bytes, module.cycles);
+        put_cycles(&mut bytes, module.start);
     }
     bytes
 }

@@ -1,4 +1,5 @@
-//! Document 01 in plain Rust, written from the documents alone, so that the library can be held against it.
+//! Document 01, with the requests of document 02 that have landed, in plain Rust, written from the documents alone, so that the library
+//! can be held against it.
 //!
 //! It shares nothing with the library: where both answer alike, two readings of the documents agree.
 

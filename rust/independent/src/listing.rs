@@ -4,7 +4,7 @@ use std::fmt::Write;
 
 use crate::limits;
 use crate::lines::Fields;
-use crate::plan::Plan;
+use crate::plan::{Plan, Planned};
 use crate::planner::plan;
 use crate::refusal::{demand, Refusal};
 use crate::soc::Soc;
@@ -49,7 +49,8 @@ pub fn plan_lines(plan: &Plan) -> String {
         let _ = writeln!(out, "bus {} width {} busy {}", index + 1, bus.width.0, bus.busy.0);
     }
     for module in plan.modules() {
-        let _ = writeln!(out, "module {} bus {} wires {} cycles {}", module.number, module.bus, module.wires.0, module.cycles.0);
+        let Planned { number, bus, wires, cycles, start } = module;
+        let _ = writeln!(out, "module {number} bus {bus} wires {} cycles {} start {}", wires.0, cycles.0, start.0);
     }
     out
 }

@@ -17,6 +17,7 @@ pub struct Planned {
     pub bus: u32,
     pub wires: Wires,
     pub cycles: Cycles,
+    pub start: Cycles,
 }
 
 /// Places past a count are spare, and 0 in a good record.
@@ -42,7 +43,12 @@ impl Plan {
 
     /// Refuses with 12 a record that is not good.
     pub fn check(&self) -> Result<(), Refusal> {
-        let good = self.good_counts() && self.good_buses() && self.good_modules() && self.good_figures() && self.good_spares();
+        let good = self.good_counts()
+            && self.good_buses()
+            && self.good_modules()
+            && self.good_figures()
+            && self.good_starts()
+            && self.good_spares();
         demand(good, 12)
     }
 
@@ -75,6 +81,16 @@ impl Plan {
         let load = |bus: u32| -> Cycles { self.modules().iter().filter(|module| module.bus == bus).map(|module| module.cycles).sum() };
         let busy: Vec<Cycles> = self.buses().iter().map(|bus| bus.busy).collect();
         (1..=self.bus_count).map(load).eq(busy.iter().copied()) && busy.iter().max() == Some(&self.time)
+    }
+
+    /// When a module begins: modules on a bus run in ascending number, so it waits for those with lower numbers on its bus.
+    pub fn start_of(&self, module: &Planned) -> Cycles {
+        let before = |other: &&Planned| other.bus == module.bus && other.number < module.number;
+        self.modules().iter().filter(before).map(|other| other.cycles).sum()
+    }
+
+    fn good_starts(&self) -> bool {
+        self.modules().iter().all(|module| module.start == self.start_of(module))
     }
 
     fn good_spares(&self) -> bool {

@@ -6,7 +6,6 @@ use crate::plan::{Bus, Plan, Planned};
 use crate::refusal::{demand, Refusal};
 use crate::units::{Cycles, Wires};
 
-pub const ENTRY_BYTES: usize = 12;
 pub const TRAILER_BYTES: usize = 16;
 
 /// The plan file of a good record: modules, buses, and the trailer that points back at them.
@@ -15,6 +14,7 @@ pub fn write(plan: &Plan) -> Vec<u8> {
     for module in plan.modules() {
         file.extend_from_slice(&[module.number as u8, module.bus as u8, module.wires.0 as u8, 0]);
         put_cycles(&mut file, module.cycles);
+        put_cycles(&mut file, module.start);
     }
     let bus_offset = file.len() as u16;
     for bus in plan.buses() {
@@ -51,7 +51,8 @@ fn read_fields(file: &[u8]) -> Option<Plan> {
     let mut source = Source(entries);
     for module in &mut plan.modules[..module_count as usize] {
         let [number, bus, wires, _zero] = source.bytes()?.map(u32::from);
-        *module = Planned { number, bus, wires: Wires(wires), cycles: Cycles(source.u64()?) };
+        let (cycles, start) = (Cycles(source.u64()?), Cycles(source.u64()?));
+        *module = Planned { number, bus, wires: Wires(wires), cycles, start };
     }
     for bus in &mut plan.buses[..bus_count as usize] {
         let [width, ..] = source.bytes::<4>()?.map(u32::from);

@@ -147,8 +147,11 @@ fn record(planned: &[u32], table: &[Vec<ModuleTime>], best: &Choice, wires: Wire
     for (index, &number) in planned.iter().enumerate() {
         let bus = best.buses[index];
         let time = table[index][best.widths[bus].0 as usize - 1];
-        plan.modules[index] = Planned { number, bus: bus as u32 + 1, wires: time.wires, cycles: time.cycles };
+        plan.modules[index] = Planned { number, bus: bus as u32 + 1, wires: time.wires, cycles: time.cycles, start: Cycles(0) };
         plan.buses[bus].busy = plan.buses[bus].busy + time.cycles;
+    }
+    for index in 0..planned.len() {
+        plan.modules[index].start = plan.start_of(&plan.modules[index]);
     }
     plan
 }

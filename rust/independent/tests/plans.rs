@@ -21,6 +21,11 @@ fn best() -> Plan {
     plan(&soc(&t1()), 4, 2).unwrap()
 }
 
+/// Both modules on one bus.
+fn on_one_bus() -> Plan {
+    plan(&soc(&t1()), 4, 1).unwrap()
+}
+
 #[test]
 fn the_record_goes_there_and_back() {
     let bytes = plan_bytes(&best());
@@ -54,24 +59,53 @@ fn a_wrong_place_in_a_plan_record_is_12() {
         |plan| plan.modules[1].wires = Wires(4),
         |plan| plan.modules[1].cycles = Cycles(0),
         |plan| plan.modules[1].cycles = Cycles(10),
+        |plan| plan.modules[1].start = Cycles(65),
         |plan| plan.modules[11] = Planned { number: 39, ..Planned::default() },
+        |plan| plan.modules[11] = Planned { start: Cycles(1), ..Planned::default() },
     ];
     for (index, fault) in faults.iter().enumerate() {
         let mut plan = best();
         fault(&mut plan);
         assert_eq!(plan.check(), Err(Refusal::new(12)), "fault {index}");
     }
-    assert_eq!(refusal(entries::write_plan(&plan_bytes(&best())[..299], &mut [0; 196])), 12);
+    assert_eq!(refusal(entries::write_plan(&plan_bytes(&best())[..PLAN_BYTES - 1], &mut [0; 292])), 12);
 }
 
 #[test]
 fn plan_file_of_t1() {
+    let module =
+        |number, bus, wires, cycles: u64, start: u64| [&[number, bus, wires, 0][..], &cycles.to_le_bytes(), &start.to_le_bytes()].concat();
+    let bus = |width, busy: u64| [&[width, 0, 0, 0][..], &busy.to_le_bytes()].concat();
+    let trailer = [&[0, 0, 40, 0, 4, 2, 2, 2][..], &65u64.to_le_bytes()].concat();
+    let file = [module(1, 1, 1, 65, 0), module(2, 2, 3, 9, 0), bus(1, 65), bus(3, 9), trailer].concat();
+    assert_eq!(plan_file::write(&best()), file);
+    assert_eq!(plan_file::read(&file), Ok(best()));
+
+    let trailer = [&[0, 0, 40, 0, 4, 1, 1, 2][..], &74u64.to_le_bytes()].concat();
+    let file = [module(1, 1, 1, 65, 0), module(2, 1, 3, 9, 65), bus(4, 74), trailer].concat();
+    assert_eq!(plan_file::write(&on_one_bus()), file);
+    assert_eq!(plan_file::read(&file), Ok(on_one_bus()));
+}
+
+#[test]
+fn starts_are_those_of_the_lower_numbers_on_the_bus() {
+    assert_eq!(best().modules().iter().map(|module| module.start.0).collect::<Vec<_>>(), [0, 0]);
+    assert_eq!(on_one_bus().modules().iter().map(|module| module.start.0).collect::<Vec<_>>(), [0, 65]);
+    for start in [0, 9, 64, 66, 74] {
+        let mut plan = on_one_bus();
+        plan.modules[1].start = Cycles(start);
+        assert_eq!(plan.check(), Err(Refusal::new(12)), "{start}");
+        assert_eq!(refusal(plan_file::read(&plan_file::write(&plan))), 12, "{start}");
+    }
+}
+
+#[test]
+fn a_file_of_12_byte_records_is_12() {
     let module = |number, bus, wires, cycles: u64| [&[number, bus, wires, 0][..], &cycles.to_le_bytes()].concat();
     let bus = |width, busy: u64| [&[width, 0, 0, 0][..], &busy.to_le_bytes()].concat();
     let trailer = [&[0, 0, 24, 0, 4, 2, 2, 2][..], &65u64.to_le_bytes()].concat();
     let file = [module(1, 1, 1, 65), module(2, 2, 3, 9), bus(1, 65), bus(3, 9), trailer].concat();
-    assert_eq!(plan_file::write(&best()), file);
-    assert_eq!(plan_file::read(&file), Ok(best()));
+    assert_eq!(refusal(plan_file::read(&file)), 12);
 }
 
 #[test]
@@ -79,10 +113,10 @@ fn a_good_record_is_shown_and_no_other() {
     let mut lent = [0; 2_048];
     let length = entries::show(&plan_bytes(&best()), &mut lent).unwrap() as usize;
     let shown = "wires 4 limit 2 time 65\nbus 1 width 1 busy 65\nbus 2 width 3 busy 9\n\
-                 module 1 bus 1 wires 1 cycles 65\nmodule 2 bus 2 wires 3 cycles 9\n";
+                 module 1 bus 1 wires 1 cycles 65 start 0\nmodule 2 bus 2 wires 3 cycles 9 start 0\n";
     assert_eq!(std::str::from_utf8(&lent[..length]), Ok(shown));
     assert_eq!(refusal(entries::show(&plan_bytes(&best()), &mut lent[..length - 1])), 11);
-    assert_eq!(refusal(entries::show(&plan_bytes(&best())[..299], &mut lent)), 12);
+    assert_eq!(refusal(entries::show(&plan_bytes(&best())[..PLAN_BYTES - 1], &mut lent)), 12);
     assert_eq!(refusal(entries::show(&plan_bytes(&Plan { limit: 1, ..best() }), &mut lent)), 12);
 }
 

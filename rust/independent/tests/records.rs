@@ -138,7 +138,7 @@ fn planner_refuses_7_then_8_then_9_then_10_then_11() {
     };
     assert_eq!(refusal(entries::plan(&many(13), 64, 3, &mut [])), 10);
     assert_eq!(refusal(entries::plan(&many(12), 64, 3, &mut [0; PLAN_BYTES - 1])), 11);
-    assert_eq!(entries::plan(&many(12), 64, 3, &mut [0; PLAN_BYTES]), Ok(300));
+    assert_eq!(entries::plan(&many(12), 64, 3, &mut [0; PLAN_BYTES]), Ok(PLAN_BYTES as u64));
 }
 
 #[test]

@@ -87,7 +87,8 @@ pub mod planned {
     pub const BUS: usize = 4;
     pub const WIRES: usize = 8;
     pub const CYCLES: usize = 12;
-    pub const BYTES: usize = 20;
+    pub const START: usize = 20;
+    pub const BYTES: usize = 28;
 }
 
 #[cfg(test)]

@@ -109,6 +109,7 @@ pub struct Planned {
     pub bus: u32,
     pub wires: u32,
     pub cycles: u64,
+    pub start: u64,
 }
 
 /// A plan record.
@@ -149,6 +150,7 @@ impl<'a> PlanView<'a> {
                 bus: u32_at(self.0, front + places::planned::BUS),
                 wires: u32_at(self.0, front + places::planned::WIRES),
                 cycles: u64_at(self.0, front + places::planned::CYCLES),
+                start: u64_at(self.0, front + places::planned::START),
             }
         })
     }

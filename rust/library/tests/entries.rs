@@ -37,8 +37,8 @@ fn times_of_t1() {
 fn plan_goes_to_the_file_and_back() {
     let (mut planned, mut file, mut again) = ([0; PLAN_BYTES], [0; PLAN_FILE_MAX], [0; PLAN_BYTES]);
     assert_eq!(plan(&record(), 4, 2, &mut planned), Answer::Figure(PLAN_BYTES as u64));
-    assert_eq!(write_plan(&planned, &mut file), Answer::Figure(64));
-    assert_eq!(read_plan(&file[..64], &mut again), Answer::Figure(PLAN_BYTES as u64));
+    assert_eq!(write_plan(&planned, &mut file), Answer::Figure(80));
+    assert_eq!(read_plan(&file[..80], &mut again), Answer::Figure(PLAN_BYTES as u64));
     assert_eq!(planned, again);
 }
 
@@ -71,8 +71,12 @@ fn views_read_figures_by_name() {
     let view = PlanView::new(&bytes);
     assert_eq!((view.wires(), view.limit(), view.time()), (4, 2, 65));
     assert_eq!(view.buses().collect::<Vec<_>>(), [Bus { width: 1, busy: 65 }, Bus { width: 3, busy: 9 }]);
-    let modules = [Planned { number: 1, bus: 1, wires: 1, cycles: 65 }, Planned { number: 2, bus: 2, wires: 3, cycles: 9 }];
-    assert_eq!(view.modules().collect::<Vec<_>>(), modules);
+    let first = Planned { number: 1, bus: 1, wires: 1, cycles: 65, start: 0 };
+    assert_eq!(view.modules().collect::<Vec<_>>(), [first, Planned { number: 2, bus: 2, wires: 3, cycles: 9, start: 0 }]);
+
+    assert!(plan(&record, 4, 1, &mut bytes).figure().is_some());
+    let modules: Vec<Planned> = PlanView::new(&bytes).modules().collect();
+    assert_eq!(modules, [first, Planned { number: 2, bus: 1, wires: 3, cycles: 9, start: 65 }]);
 }
 
 #[test]

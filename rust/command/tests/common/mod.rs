@@ -13,15 +13,15 @@ pub const T1: &str = include_str!("../../../../examples/t1.soc");
 pub const T1_LISTING: &str = "soc t1 wires 4 limit 2 time 65
 bus 1 width 1 busy 65
 bus 2 width 3 busy 9
-module 1 bus 1 wires 1 cycles 65
-module 2 bus 2 wires 3 cycles 9
+module 1 bus 1 wires 1 cycles 65 start 0
+module 2 bus 2 wires 3 cycles 9 start 0
 ";
 
 pub const T1_SHOWN: &str = "wires 4 limit 2 time 65
 bus 1 width 1 busy 65
 bus 2 width 3 busy 9
-module 1 bus 1 wires 1 cycles 65
-module 2 bus 2 wires 3 cycles 9
+module 1 bus 1 wires 1 cycles 65 start 0
+module 2 bus 2 wires 3 cycles 9 start 0
 ";
 
 static FOLDERS: AtomicUsize = AtomicUsize::new(0);

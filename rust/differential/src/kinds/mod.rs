@@ -42,6 +42,7 @@ pub const KINDS: &[Kind] = &[
     Kind { name: "plan record, good", share: 60, make: plans::plan_record_good, must_occur: &[0, 11] },
     Kind { name: "plan record, damaged", share: 150, make: plans::plan_record_damaged, must_occur: &[0, 12] },
     Kind { name: "plan file, good", share: 40, make: plans::plan_file_good, must_occur: &[0, 11] },
+    Kind { name: "plan file, old form", share: 10, make: plans::plan_file_old, must_occur: &[12] },
     Kind { name: "plan file, damaged", share: 90, make: plans::plan_file_damaged, must_occur: &[0, 12] },
     Kind { name: "listing, good", share: 40, make: listings::listing_good, must_occur: &[0, 11] },
     Kind { name: "listing, faulty first line", share: 60, make: listings::listing_line, must_occur: &[0, 3, 4, 6] },

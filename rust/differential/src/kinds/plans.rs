@@ -67,6 +67,15 @@ pub fn plan_file_good(random: &mut Random) -> Case {
     Case::new(Entry::ReadPlan, [0; 3], LoosePlan::good(random).file())
 }
 
+/// A file of the old 12-byte records, good by the rules of its time, or with a rule broken.
+pub fn plan_file_old(random: &mut Random) -> Case {
+    let mut plan = LoosePlan::good(random);
+    if random.chance(30) {
+        plan.damage(random);
+    }
+    Case::new(Entry::ReadPlan, [0; 3], plan.old_file())
+}
+
 pub fn plan_file_damaged(random: &mut Random) -> Case {
     let mut plan = LoosePlan::good(random);
     let among_figures = random.chance(60);

@@ -24,10 +24,17 @@ add-u64-at c = search needs
 u64-at-requires : tie.Need-u64-at-requires
 u64-at-requires c κs = search needs
 
+add-u64-at-2 : tie.Need-add-u64-at-2
+add-u64-at-2 c = search needs
+
+u64-at-requires-2 : tie.Need-u64-at-requires-2
+u64-at-requires-2 c κs = search needs
+
 returns : tie.Need-returns
 returns c =
-    let w = c .before .before in
-    rw (w .before .word-at .ensures, w .word-at2 .ensures, c .before .word-at3 .ensures, c .u64-at .ensures)
+    let u = c .before in
+    let w = u .before .before in
+    rw (w .before .word-at .ensures, w .word-at2 .ensures, u .before .word-at3 .ensures, u .u64-at .ensures, c .u64-at2 .ensures)
 
 pub placed-at-spec : {M : Type 1} → statement M
 placed-at-spec =
@@ -40,4 +47,6 @@ placed-at-spec =
     word-at-requires-3
     add-u64-at
     u64-at-requires
+    add-u64-at-2
+    u64-at-requires-2
     returns)

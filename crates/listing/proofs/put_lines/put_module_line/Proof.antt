@@ -16,7 +16,11 @@ use Rattle.listing.proofs.put_lines.put_module_line.Tie as tie
 
 -- how long the line is, and that there is room for it
 short : (s : tie.Start) → length (writtenLines (moduleFields (s .args .m) ∷ [])) ≤ moduleRoom
-short s = let g = s .good .1 .1 .0 .1 .1 in module-size (s .args .m) (omega (arith, g .0 .1)) (omega (arith, g .1 .0 .1)) (omega (arith, g .1 .1 .0 .1 .1 .0 .1)) (omega (arith, g .1 .1 .1 .0 .1 .1 .0 .1))
+short s =
+    let g = s .good .1 .1 .0 .1 .1 in
+    let h = g .1 .1 in
+    module-size (s .args .m) (omega (arith, g .0 .1)) (omega (arith, g .1 .0 .1))
+    (omega (arith, h .0 .1 .1 .0 .1)) (omega (arith, h .1 .0 .1 .1 .0 .1)) (omega (arith, h .1 .1 .0 .1 .1 .0 .1))
 
 room : (s : tie.Start) → s .args .at + length (writtenLines (moduleFields (s .args .m) ∷ [])) ≤ length (s .args .buf .now)
 room s = omega (arith, short s, s .pre)
@@ -48,6 +52,12 @@ slice-aggregate-put-key-4 c = search needs
 put-key-requires-4 : tie.Need-put-key-requires-4
 put-key-requires-4 c κs = search needs
 
+slice-aggregate-put-key-5 : tie.Need-slice-aggregate-put-key-5
+slice-aggregate-put-key-5 c = search needs
+
+put-key-requires-5 : tie.Need-put-key-requires-5
+put-key-requires-5 c κs = search needs
+
 slice-aggregate-put-bytes : tie.Need-slice-aggregate-put-bytes
 slice-aggregate-put-bytes c = search needs
 
@@ -59,7 +69,8 @@ same-length c = search needs
 
 returns : tie.Need-returns
 returns c =
-    let k5 = c .before .before in
+    let k6 = c .before .before in
+    let k5 = k6 .before .before .before .before .before in
     let k4 = k5 .before .before .before .before .before in
     let k3 = k4 .before .before .before .before .before in
     let k2 = k3 .before .before .before .before .before .before in
@@ -71,7 +82,8 @@ returns c =
     let d2 = due-key (bytes " bus ") (decimal (m .bus)) _ d1 (k2 .put-key2 .ensures) in
     let d3 = due-key (bytes " wires ") (decimal (m .wires .0)) _ d2 (k3 .put-key3 .ensures) in
     let d4 = due-key (bytes " cycles ") (decimal (m .cycles .0)) _ d3 (k4 .put-key4 .ensures) in
-    (d4 .done _ _ (put-is (d4 .room) (k5 .put-bytes .ensures)), short s)
+    let d5 = due-key (bytes " start ") (decimal (m .start .0)) _ d4 (k5 .put-key5 .ensures) in
+    (d5 .done _ _ (put-is (d5 .room) (k6 .put-bytes .ensures)), short s)
 
 pub put-module-line-spec : {M : Type 1} → statement M
 put-module-line-spec =
@@ -86,6 +98,8 @@ put-module-line-spec =
     put-key-requires-3
     slice-aggregate-put-key-4
     put-key-requires-4
+    slice-aggregate-put-key-5
+    put-key-requires-5
     slice-aggregate-put-bytes
     put-bytes-requires
     same-length

@@ -2,16 +2,14 @@
 -- bus. The measure is what is left of the buses. Assumes nothing.
 use borrow.Author.Needs.{needs}
 use native.Mathlib.Omega.{arith}
-use Prim.Native.Nat.{ℕ, _-_, _≤_, _<_}
-use mathlib.Core.Path.{_≡_, sym, ap, _∙_}
+use Prim.Native.Nat.{_-_, _≤_, _<_}
+use mathlib.Core.Path.{_≡_, sym, _∙_}
 use lib.ListN.{length, take}
 use Rattle.units.specs.Places.{padded}
-use Rattle.units.specs.declared.Cycles.{Cycles}
 use Rattle.units.proofs.PlaceLaws.{padded-none}
-use Rattle.wrapper.specs.WrapperAnswers.{cycles}
 use Rattle.plan_search.specs.Search.{searchBuses, tableTime}
 use Rattle.plan_record.specs.Record.{busPlaces, noBus}
-use Rattle.plan.proofs.EntryLaws.{busFront, front-none, front-fill, front-all}
+use Rattle.plan.proofs.EntryLaws.{cycles-of, busFront, front-none, front-fill, front-all}
 use Rattle.plan.proofs.entry.buses_of.Statement.{statement}
 use Rattle.plan.proofs.entry.buses_of.Tie as tie
 
@@ -21,10 +19,6 @@ Inv-loop table n f list₀ b₀ list b =
 
 abbrev μ-loop : tie.MeasureT-loop
 μ-loop table n f list₀ b₀ list b = f .count - b
-
--- cycles are what their number says
-cycles-of : {r : Cycles} {n : ℕ} → r .0 ≡ n → r ≡ cycles n
-cycles-of e = ap cycles e
 
 len : (c : tie.Start Inv-loop μ-loop) → length (c .args .t2 .widths) ≡ searchBuses
 len c = search needs

@@ -50,7 +50,7 @@ modules-of-requires : tie.Need-modules-of-requires
 modules-of-requires c κs =
     let v = c .before .before .before in
     let r = v .before .before .before .before .pre .0 in
-    (rw (r .numbers) (r .most), fits v)
+    (rw (r .numbers) (r .most), table (v .before .before .before), fits v)
 
 returns : tie.Need-returns
 returns c =

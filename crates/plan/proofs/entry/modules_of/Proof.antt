@@ -12,44 +12,49 @@ use Rattle.wrapper.specs.WrapperAnswers.{widthMax}
 use Rattle.plan_search.specs.Search.{searchModules, rowPlaces}
 use Rattle.plan.specs.Records.{placedFrom}
 use Rattle.plan.specs.Tables.{tablePlaces}
-use Rattle.plan.proofs.EntryLaws.{placed-none, placed-fill, placed-all}
+use Rattle.plan.proofs.EntryLaws.{cycles-of, table-fewer, placed-none, placed-fill, placed-all}
 use Rattle.plan.proofs.entry.modules_of.Statement.{statement}
 use Rattle.plan.proofs.entry.modules_of.Tie as tie
 
 abbrev Inv-loop : tie.InvT-loop
-Inv-loop p t f list₀ n i₀ list i = (i ≤ n) × (list ≡ padded modulePlaces noPlaced (placedFrom p t f 0 (take i (f .buses))))
+Inv-loop p t f list₀ n times buses i₀ list i = (i ≤ n) × (list ≡ padded modulePlaces noPlaced (placedFrom p t f 0 (take i (f .buses))))
 
 abbrev μ-loop : tie.MeasureT-loop
-μ-loop p t f list₀ n i₀ list i = n - i
+μ-loop p t f list₀ n times buses i₀ list i = n - i
 
 buses-length : (c : tie.Start Inv-loop μ-loop) → length (c .args .t3 .buses) ≡ searchModules
 buses-length c = search needs
 
+-- where a turn began from
+abbrev start : tie.In-loop Inv-loop μ-loop → tie.Start Inv-loop μ-loop
+start c = c .before .before .before .before .before
+
 -- the bus of the module that a turn places, and that bus's width
 abbrev bus : (c : tie.In-loop Inv-loop μ-loop) → ℕ
-bus c = getD (c .before .before .before .args .t3 .buses) (c .before .loop .i) 0
+bus c = getD (start c .args .t3 .buses) (c .before .loop .i) 0
 
 abbrev width : (c : tie.In-loop Inv-loop μ-loop) → ℕ
-width c = getD (c .before .before .before .args .t3 .widths) (bus c - 1) 0
+width c = getD (start c .args .t3 .widths) (bus c - 1) 0
 
 -- the bus is one of the plan's
-bus-in : (c : tie.In-loop Inv-loop μ-loop) → (1 ≤ bus c) × (bus c ≤ c .before .before .before .args .t3 .count)
-bus-in c = c .before .before .before .pre .1 .placed (c .before .loop .i) (c .loop-test .taken)
+bus-in : (c : tie.In-loop Inv-loop μ-loop) → (1 ≤ bus c) × (bus c ≤ start c .args .t3 .count)
+bus-in c = start c .pre .2 .placed (c .before .loop .i) (c .loop-test .taken)
 
 -- and its width one of the widths
 width-in : (c : tie.In-loop Inv-loop μ-loop) → (1 ≤ width c) × (width c ≤ widthMax)
-width-in c = c .before .before .before .pre .1 .wide (bus c - 1) (omega (arith, bus-in c))
+width-in c = start c .pre .2 .wide (bus c - 1) (omega (arith, bus-in c))
 
 place-in : (c : tie.In-loop Inv-loop μ-loop) → c .before .loop .i * rowPlaces + (width c - 1) < tablePlaces
-place-in c = omega (arith, width-in c, c .before .before .before .pre .0, c .loop-test .taken)
+place-in c = omega (arith, width-in c, start c .pre .0, c .loop-test .taken)
 
 no-placed-requires : tie.Need-no-placed-requires Inv-loop μ-loop
 no-placed-requires c κs = search needs
 
 loop-holds : tie.Need-loop-holds Inv-loop μ-loop
 loop-holds c =
-    let a = c .before .args in
-    (omega arith, rw (c .no-placed .ensures, placed-none (a .t1) (a .t2) (a .t3)) (sym (padded-none modulePlaces noPlaced)))
+    let n = c .before .before in
+    let a = n .before .args in
+    (omega arith, rw (n .no-placed .ensures, placed-none (a .t1) (a .t2) (a .t3)) (sym (padded-none modulePlaces noPlaced)))
 
 mul-number : tie.Need-mul-number Inv-loop μ-loop
 mul-number c = search needs
@@ -63,14 +68,14 @@ mul-bus c = search needs
 element-copy-out-bus : tie.Need-element-copy-out-bus Inv-loop μ-loop
 element-copy-out-bus c = search needs
 
-sub-t19 : tie.Need-sub-t19 Inv-loop μ-loop
-sub-t19 c = bus-in (c .before .before) .0
+sub-t22 : tie.Need-sub-t22 Inv-loop μ-loop
+sub-t22 c = bus-in (c .before .before) .0
 
-mul-t16 : tie.Need-mul-t16 Inv-loop μ-loop
-mul-t16 c = omega (arith, bus-in (c .before .before), c .before .before .before .before .before .pre .1 .few)
+mul-t19 : tie.Need-mul-t19 Inv-loop μ-loop
+mul-t19 c = omega (arith, bus-in (c .before .before), start (c .before .before) .pre .2 .few)
 
-element-copy-out-t25 : tie.Need-element-copy-out-t25 Inv-loop μ-loop
-element-copy-out-t25 c = omega (arith, bus-in (c .before .before), c .before .before .before .before .before .pre .1 .few)
+element-copy-out-t28 : tie.Need-element-copy-out-t28 Inv-loop μ-loop
+element-copy-out-t28 c = omega (arith, bus-in (c .before .before), start (c .before .before) .pre .2 .few)
 
 mul-at : tie.Need-mul-at Inv-loop μ-loop
 mul-at c = search needs
@@ -84,17 +89,26 @@ sub-at c = width-in (c .before .before .before .before) .0
 add-at : tie.Need-add-at Inv-loop μ-loop
 add-at c = omega (arith, place-in (c .before .before .before .before))
 
-mul-t19 : tie.Need-mul-t19 Inv-loop μ-loop
-mul-t19 c = omega (arith, place-in (c .before .before .before .before))
+mul-t22 : tie.Need-mul-t22 Inv-loop μ-loop
+mul-t22 c = omega (arith, place-in (c .before .before .before .before))
 
-element-copy-out-t25-2 : tie.Need-element-copy-out-t25-2 Inv-loop μ-loop
-element-copy-out-t25-2 c = place-in (c .before .before .before .before)
+element-copy-out-t28-2 : tie.Need-element-copy-out-t28-2 Inv-loop μ-loop
+element-copy-out-t28-2 c = place-in (c .before .before .before .before)
 
-mul-t16-2 : tie.Need-mul-t16-2 Inv-loop μ-loop
-mul-t16-2 c = omega (arith, place-in (c .before .before .before .before .before))
+mul-t19-2 : tie.Need-mul-t19-2 Inv-loop μ-loop
+mul-t19-2 c = omega (arith, place-in (c .before .before .before .before .before))
 
-element-copy-out-t22 : tie.Need-element-copy-out-t22 Inv-loop μ-loop
-element-copy-out-t22 c = place-in (c .before .before .before .before .before)
+element-copy-out-t25 : tie.Need-element-copy-out-t25 Inv-loop μ-loop
+element-copy-out-t25 c = place-in (c .before .before .before .before .before)
+
+slice-aggregate-busy-of : tie.Need-slice-aggregate-busy-of Inv-loop μ-loop
+slice-aggregate-busy-of c = search needs
+
+busy-of-requires : tie.Need-busy-of-requires Inv-loop μ-loop
+busy-of-requires c κs =
+    let i = c .before .before .before .before .before .before .before in
+    let h : i .before .loop .i < start i .args .t1 .count = i .loop-test .taken in
+    (table-fewer (start i .pre .1) (omega arith), width-in i .0, width-in i .1)
 
 mul-list : tie.Need-mul-list Inv-loop μ-loop
 mul-list c = search needs
@@ -110,18 +124,19 @@ loop-less c = search needs
 
 loop-again : tie.Need-loop-again Inv-loop μ-loop
 loop-again c =
-    let i = c .before .before .before .before .before .before in
+    let i = c .before .before .before .before .before .before .before .before in
     let l = i .before in
-    let s = l .before .before in
+    let s = start i in
     let a = s .args in
     let h : l .loop .i < a .t1 .count = i .loop-test .taken in
     let b : l .loop .i < length (a .t3 .buses) = omega (arith, buses-length s, s .pre .0) in
-    (omega arith, placed-fill (a .t1) (a .t2) (a .t3) (l .loop .i) (l .loop .list) b (omega (arith, s .pre .0)) (l .loop .inv .1))
+    let fill = placed-fill (a .t1) (a .t2) (a .t3) (l .loop .i) (l .loop .list) b (omega (arith, s .pre .0)) (l .loop .inv .1) in
+    (omega arith, rw (cycles-of (c .busy-of .ensures)) fill)
 
 returns : tie.Need-returns Inv-loop μ-loop
 returns c =
     let l = c .before .loop in
-    let s = c .before .before .before in
+    let s = c .before .before .before .before .before in
     let e : l .i ≡ s .args .t1 .count = omega (arith, l .inv .0, c .loop-test .left) in
     l .inv .1 ∙ rw e (placed-all (s .args .t1) (s .args .t2) (s .args .t3))
 
@@ -137,17 +152,19 @@ modules-of-spec =
     element-copy-out-number
     mul-bus
     element-copy-out-bus
-    sub-t19
-    mul-t16
-    element-copy-out-t25
+    sub-t22
+    mul-t19
+    element-copy-out-t28
     mul-at
     cast-at
     sub-at
     add-at
-    mul-t19
-    element-copy-out-t25-2
-    mul-t16-2
-    element-copy-out-t22
+    mul-t22
+    element-copy-out-t28-2
+    mul-t19-2
+    element-copy-out-t25
+    slice-aggregate-busy-of
+    busy-of-requires
     mul-list
     array-set-from-list
     add-i

@@ -54,6 +54,12 @@ add-u64-at c = search needs
 u64-at-requires : tie.Need-u64-at-requires Inv-loop μ-loop
 u64-at-requires c κs = search needs
 
+add-u64-at-2 : tie.Need-add-u64-at-2 Inv-loop μ-loop
+add-u64-at-2 c = search needs
+
+u64-at-requires-2 : tie.Need-u64-at-requires-2 Inv-loop μ-loop
+u64-at-requires-2 c κs = search needs
+
 mul-list : tie.Need-mul-list Inv-loop μ-loop
 mul-list c = search needs
 
@@ -68,17 +74,18 @@ loop-less c = search needs
 
 loop-again : tie.Need-loop-again Inv-loop μ-loop
 loop-again c =
-    let w = c .before in
+    let u = c .before in
+    let w = u .before in
     let b = w .before in
     let n = b .before in
     let l = n .before .before in
     let a = l .before .before .before .args in
     let e : 0 + moduleStride * l .loop .i ≡ moduleStride * l .loop .i = omega arith in
-    let v = filled-step modulePlaces noPlaced _ (moduleAt (a .f .now)) moduleStride (l .loop .i) 0 in (
-      omega arith,
-      rw (l .loop .inv .1)
-          (v (omega arith) (rw (e, n .figure-at .ensures .0, b .figure-at2 .ensures .0, w .figure-at3 .ensures .0, c .u64-at .ensures))),
-    )
+    let v = filled-step modulePlaces noPlaced _ (moduleAt (a .f .now)) moduleStride (l .loop .i) 0 in
+    let number = n .figure-at .ensures .0 in
+    let bus = b .figure-at2 .ensures .0 in
+    let wires = w .figure-at3 .ensures .0 in
+    (omega arith, rw (l .loop .inv .1) (v (omega arith) (rw (e, number, bus, wires, u .u64-at .ensures, c .u64-at2 .ensures))))
 
 returns : tie.Need-returns Inv-loop μ-loop
 returns c =
@@ -104,6 +111,8 @@ modules-in-spec =
     cast-t13
     add-u64-at
     u64-at-requires
+    add-u64-at-2
+    u64-at-requires-2
     mul-list
     array-set-from-list
     add-i

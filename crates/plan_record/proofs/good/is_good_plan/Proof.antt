@@ -9,7 +9,8 @@ use native.Mathlib.Omega.{arith}
 use Rattle.units.specs.Places.{allOf}
 use Rattle.units.proofs.TestLaws.{and-stops, and-goes}
 use Rattle.plan_record.specs.Record.{modulesOf, numbersOf}
-use Rattle.plan_record.specs.Good.{goodCounts, ascendingFrom, goodPlaced, goodBuses, goodTimes, spareRest, goodPlan}
+use Rattle.plan_record.specs.Good.{goodCounts, ascendingFrom, goodPlaced, goodBuses, goodTimes, goodStarts, spareRest, goodPlan}
+use Rattle.plan_record.specs.Times.{CyclesFit}
 use Rattle.plan_record.proofs.GoodPlanLaws.{GoodCounts, good-counts, good-bus-count, placed-front, plan-order}
 use Rattle.plan_record.proofs.good.is_good_plan.Statement.{statement}
 use Rattle.plan_record.proofs.good.is_good_plan.Tie as tie
@@ -40,7 +41,8 @@ bused c = sym (c .before .has-good-buses .ensures) ∙ not-false _ (c .if2 .left
 
 left-buses : (c : tie.Else2) →
     let p = c .before .before .before .before .args .p in
-    goodPlan p ≡ (ascendingFrom 0 (numbersOf (modulesOf p)) && (allOf (goodPlaced p) (modulesOf p) && (goodTimes p && spareRest p)))
+    let ms = modulesOf p in
+    goodPlan p ≡ (ascendingFrom 0 (numbersOf ms) && (allOf (goodPlaced p) ms && (goodTimes p && (goodStarts ms && spareRest p))))
 left-buses c =
     let e = c .before .before in
     plan-order (e .before .before .args .p) ∙ and-goes _ _ (counted e) ∙ and-goes _ _ (bused c)
@@ -65,7 +67,7 @@ are-good-placed-requires c κs = few (c .before .before)
 -- and the numbers ascend
 left-numbers : (c : tie.Else3) →
     let p = c .before .before .before .before .before .before .args .p in
-    goodPlan p ≡ (allOf (goodPlaced p) (modulesOf p) && (goodTimes p && spareRest p))
+    goodPlan p ≡ (allOf (goodPlaced p) (modulesOf p) && (goodTimes p && (goodStarts (modulesOf p) && spareRest p)))
 left-numbers c = left-buses (c .before .before) ∙ and-goes _ _ (sym (c .before .is-ascending .ensures) ∙ not-false _ (c .if3 .left))
 
 returns-4 : tie.Need-returns-4
@@ -75,37 +77,56 @@ returns-4 c = sym (left-numbers (c .before .before) ∙ and-stops _ _ (sym (c .b
 placed : (c : tie.Else4) → let p = c .before .before .before .before .before .before .before .before .args .p in allOf (goodPlaced p) (modulesOf p) ≡ true
 placed c = sym (c .before .are-good-placed .ensures) ∙ not-false _ (c .if4 .left)
 
-left-modules : (c : tie.Else4) → let p = c .before .before .before .before .before .before .before .before .args .p in goodPlan p ≡ (goodTimes p && spareRest p)
+left-modules : (c : tie.Else4) →
+    let p = c .before .before .before .before .before .before .before .before .args .p in
+    goodPlan p ≡ (goodTimes p && (goodStarts (modulesOf p) && spareRest p))
 left-modules c = left-numbers (c .before .before) ∙ and-goes _ _ (placed c)
 
-has-good-times-requires : tie.Need-has-good-times-requires
-has-good-times-requires c κs =
+fit : (c : tie.Else4) → CyclesFit (c .before .before .before .before .before .before .before .before .args .p)
+fit c =
     let e = c .before .before .before .before in
-    (few e .0, record { few = few e .1; each = λ i h. placed-front (e .before .before .before .before .args .p) (placed c) i h .cycles })
+    record { few = few e .1; each = λ i h. placed-front (e .before .before .before .before .args .p) (placed c) i h .cycles }
+
+has-good-times-requires : tie.Need-has-good-times-requires
+has-good-times-requires c κs = (few (c .before .before .before .before) .0, fit c)
 
 returns-5 : tie.Need-returns-5
 returns-5 c = sym (left-modules (c .before .before) ∙ and-stops _ _ (sym (c .before .has-good-times .ensures) ∙ not-true _ (c .if5 .taken)))
 
--- and the times: the spare places decide
-left-times : (c : tie.Else5) → let p = c .before .before .before .before .before .before .before .before .before .before .args .p in goodPlan p ≡ spareRest p
+-- and the times
+left-times : (c : tie.Else5) →
+    let p = c .before .before .before .before .before .before .before .before .before .before .args .p in
+    goodPlan p ≡ (goodStarts (modulesOf p) && spareRest p)
 left-times c = left-modules (c .before .before) ∙ and-goes _ _ (sym (c .before .has-good-times .ensures) ∙ not-false _ (c .if5 .left))
 
-are-spare-buses-requires : tie.Need-are-spare-buses-requires
-are-spare-buses-requires c κs = few (c .before .before .before .before .before .before) .0
+has-good-starts-requires : tie.Need-has-good-starts-requires
+has-good-starts-requires c κs = fit (c .before .before)
 
 returns-6 : tie.Need-returns-6
-unfolding spareRest
-returns-6 c = sym (left-times (c .before .before) ∙ and-stops _ _ (sym (c .before .are-spare-buses .ensures) ∙ not-true _ (c .if6 .taken)))
+returns-6 c = sym (left-times (c .before .before) ∙ and-stops _ _ (sym (c .before .has-good-starts .ensures) ∙ not-true _ (c .if6 .taken)))
 
-are-spare-placed-requires : tie.Need-are-spare-placed-requires
-are-spare-placed-requires c κs = few (c .before .before .before .before .before .before .before .before) .1
+-- and the starts: the spare places decide
+left-starts : (c : tie.Else6) →
+    let p = c .before .before .before .before .before .before .before .before .before .before .before .before .args .p in
+    goodPlan p ≡ spareRest p
+left-starts c = left-times (c .before .before) ∙ and-goes _ _ (sym (c .before .has-good-starts .ensures) ∙ not-false _ (c .if6 .left))
+
+are-spare-buses-requires : tie.Need-are-spare-buses-requires
+are-spare-buses-requires c κs = few (c .before .before .before .before .before .before .before .before) .0
 
 returns-7 : tie.Need-returns-7
 unfolding spareRest
-returns-7 c =
+returns-7 c = sym (left-starts (c .before .before) ∙ and-stops _ _ (sym (c .before .are-spare-buses .ensures) ∙ not-true _ (c .if7 .taken)))
+
+are-spare-placed-requires : tie.Need-are-spare-placed-requires
+are-spare-placed-requires c κs = few (c .before .before .before .before .before .before .before .before .before .before) .1
+
+returns-8 : tie.Need-returns-8
+unfolding spareRest
+returns-8 c =
     let e = c .before in
     c .are-spare-placed .ensures
-    ∙ sym (left-times (e .before .before) ∙ and-goes _ _ (sym (e .before .are-spare-buses .ensures) ∙ not-false _ (e .if6 .left)))
+    ∙ sym (left-starts (e .before .before) ∙ and-goes _ _ (sym (e .before .are-spare-buses .ensures) ∙ not-false _ (e .if7 .left)))
 
 pub is-good-plan-spec : {M : Type 1} → statement M
 is-good-plan-spec =
@@ -121,7 +142,9 @@ is-good-plan-spec =
     returns-4
     has-good-times-requires
     returns-5
-    are-spare-buses-requires
+    has-good-starts-requires
     returns-6
+    are-spare-buses-requires
+    returns-7
     are-spare-placed-requires
-    returns-7)
+    returns-8)

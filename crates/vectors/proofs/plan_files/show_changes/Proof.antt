@@ -1,4 +1,4 @@
--- `vectors::plan_files::show_changes` meets its contract: the number of a change fits. The loop's invariant: it is at most 16384. The
+-- `vectors::plan_files::show_changes` meets its contract: the number of a change fits. The loop's invariant: it is at most 20480. The
 -- measure is what is left to that. Assumes nothing.
 use borrow.Author.Needs.{needs}
 use Prim.Native.Nat.{_-_, _≤_}
@@ -6,10 +6,10 @@ use Rattle.vectors.proofs.plan_files.show_changes.Statement.{statement}
 use Rattle.vectors.proofs.plan_files.show_changes.Tie as tie
 
 abbrev Inv-loop : tie.InvT-loop
-Inv-loop k₀ k = k ≤ 16384
+Inv-loop k₀ k = k ≤ 20480
 
 abbrev μ-loop : tie.MeasureT-loop
-μ-loop k₀ k = 16384 - k
+μ-loop k₀ k = 20480 - k
 
 loop-holds : tie.Need-loop-holds Inv-loop μ-loop
 loop-holds c = search needs

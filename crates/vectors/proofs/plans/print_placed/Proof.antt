@@ -26,6 +26,9 @@ cast-print-line c = search needs
 print-line-requires : tie.Need-print-line-requires Inv-loop μ-loop
 print-line-requires c κs = search needs
 
+print-line-requires-2 : tie.Need-print-line-requires-2 Inv-loop μ-loop
+print-line-requires-2 c κs = search needs
+
 add-i : tie.Need-add-i Inv-loop μ-loop
 add-i c = search needs
 
@@ -49,6 +52,7 @@ print-placed-spec =
     element-copy-out-m
     cast-print-line
     print-line-requires
+    print-line-requires-2
     add-i
     loop-less
     loop-again
