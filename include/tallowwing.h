@@ -51,10 +51,11 @@ extern "C" {
 #define TALLOWWING_SOC_BYTES 16688
 
 /*
- * A layout, 1,024 bytes, each number 4 bytes, 64 places each: 0 flip-flops of wrapper chain i + 1; 256 its input cells; 512 its output
- * cells; 768 the wrapper chain, from 1, of internal chain j + 1. Places past the width or the chains, and of chains not used, are 0.
+ * A layout, 1,280 bytes, each number 4 bytes, 64 places each: 0 flip-flops of wrapper chain i + 1; 256 its input cells; 512 its output
+ * cells; 768 its bidirectional cells, which count in both its scan-in and its scan-out, and in no other row; 1,024 the wrapper chain, from
+ * 1, of internal chain j + 1. Places past the width or the chains, and of chains not used, are 0.
  */
-#define TALLOWWING_LAYOUT_BYTES 1024
+#define TALLOWWING_LAYOUT_BYTES 1280
 
 /*
  * A plan record, 396 bytes. Spare places are 0.
@@ -77,7 +78,7 @@ uint64_t tallowwing_read_soc(const uint8_t *text, size_t text_len, uint8_t *reco
  * 16,688 bytes, or with a flag that is neither 0 nor 1, is not good: 14, here and below. */
 uint64_t tallowwing_write_soc(const uint8_t *record, size_t record_len, uint8_t *text, size_t text_len);
 
-/* Lays out the wrapper of a module for one of its tests at a width. Refusals 14, 7, 13, 11. The figure is 1,024, the bytes written. */
+/* Lays out the wrapper of a module for one of its tests at a width. Refusals 14, 7, 13, 11. The figure is 1,280, the bytes written. */
 uint64_t tallowwing_layout(const uint8_t *record, size_t record_len, uint32_t module, uint32_t test, uint32_t width, uint8_t *layout,
                            size_t layout_len);
 

@@ -68,6 +68,10 @@ int main(void)
     expect("write", tallowwing_write_soc(soc, sizeof soc, written, sizeof written), 0, length);
     expect_bytes("written", written, text, length);
     expect("layout", tallowwing_layout(soc, sizeof soc, 2, 1, 3, layout, sizeof layout), 0, TALLOWWING_LAYOUT_BYTES);
+    expect_bytes("input cells", layout + 256, "\1\0\0\0\1\0\0\0\1\0\0\0\0", 13);
+    expect_bytes("bidirectional cells", layout + 768, "\0\0\0\0", 4);
+    expect("layout of a chain", tallowwing_layout(soc, sizeof soc, 1, 1, 3, layout, sizeof layout), 0, TALLOWWING_LAYOUT_BYTES);
+    expect_bytes("wrapper chains", layout + 1024, "\1\0\0\0\0", 5);
     expect("layout, no test", tallowwing_layout(soc, sizeof soc, 2, 2, 3, layout, sizeof layout), 13, 0);
     expect("test time", tallowwing_test_time(soc, sizeof soc, 2, 1, 1), 0, 18);
     expect("module time", tallowwing_module_time(soc, sizeof soc, 2, 4), 0, 9);

@@ -82,10 +82,10 @@ plan-length p w =
 
 -- arrays of a layout have the lengths that their types say
 pub layout-length : (l : WrapperLayout) → length (l .«flip_flops») ≡ widthMax → length (l .«input_cells») ≡ widthMax
-    → length (l .«output_cells») ≡ widthMax
-    → length (l .«chain_of») ≡ chainsMax → length (layoutBytes l) ≡ layoutLength
+    → length (l .«output_cells») ≡ widthMax → length (l .«bidir_cells») ≡ widthMax → length (l .«chain_of») ≡ chainsMax
+    → length (layoutBytes l) ≡ layoutLength
 unfolding layoutBytes
-layout-length l f i o c =
+layout-length l f i o b c =
     let g : length (each lengthBytes (l .«flip_flops»)) ≡ wordLength * widthMax = each-length lengthBytes wordLength
     (l .«flip_flops») widthMax (flipFlops 0) f (λ j h. chain-length _) in
-    simp (length-append, g, words-length, i, o, c)
+    simp (length-append, g, words-length, i, o, b, c)

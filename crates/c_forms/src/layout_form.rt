@@ -11,7 +11,7 @@ ghost use Rattle.soc.specs.Limits.{chainsMax};
 ghost use Rattle.c_forms.specs.Words.{wordLength, words, PutOf, PutFront};
 ghost use Rattle.c_forms.specs.LayoutForm.{layoutLength, layoutBytes};
 
-pub const LAYOUT_BYTES: usize = WORD_BYTES * (WIDTH_MAX as usize * 3 + CHAINS_MAX);
+pub const LAYOUT_BYTES: usize = WORD_BYTES * (WIDTH_MAX as usize * 4 + CHAINS_MAX);
 
 // The wrapper chain of each internal chain.
 fn put_chains(buf: &mut [u8], at: usize, list: [usize; CHAINS_MAX]) -> usize
@@ -36,9 +36,11 @@ pub fn layout_bytes(l: WrapperLayout, buf: &mut [u8]) -> usize
     let flip_flops = l.flip_flops;
     let input_cells = l.input_cells;
     let output_cells = l.output_cells;
+    let bidir_cells = l.bidir_cells;
     let chain_of = l.chain_of;
     let a = put_lengths(&mut *buf, 0, flip_flops);
     let b = put_words(&mut *buf, a, &input_cells);
     let c = put_words(&mut *buf, b, &output_cells);
-    put_chains(&mut *buf, c, chain_of)
+    let d = put_words(&mut *buf, c, &bidir_cells);
+    put_chains(&mut *buf, d, chain_of)
 }

@@ -63,6 +63,8 @@ fn show_wrappers() {
     show_layout(CORE_A, 2, 1, 4);
     show_layout(CORE_A, 1, 1, 65);
     show_times(CORE_6, 1, 1, 66);
+    show_layout(CORE_6, 1, 1, 2);
+    show_layout(CORE_6, 1, 1, 10);
     show_times(RISING, 1, 9, 15);
     show_times(SMALL, 1, 1, 2);
     show_times(SMALL, 2, 1, 4);

@@ -53,6 +53,8 @@ pub const CHANGED: usize = 23;
 
 pub const WRONG: usize = 24;
 
+pub const INTERNAL: usize = 25;
+
 // Stands for a figure that is not given, and is printed as the text has it: -1. All other figures are smaller.
 pub const NOT_GIVEN: u64 = 18446744073709551615;
 
@@ -108,7 +110,7 @@ pub(crate) fn print_line(line: usize, a: u64, b: u64, c: u64, d: u64) {
         | width #: refused #, test 1 takes #, the module #\
         | on wires #\n\
         |module # test # width #: refused #\n\
-        | flip-flops # input cells # output cells #, internal chain in #\n\
+        | flip-flops # input cells # output cells # bidirectional cells #\
         |wires # limit #: refused #, time #\n\
         | bus # width # busy #\n\
         | module # bus # wires # cycles #\
@@ -116,7 +118,8 @@ pub(crate) fn print_line(line: usize, a: u64, b: u64, c: u64, d: u64) {
         |plan file of wires # limit #\n\
         | a file of # bytes: refused #, as by hand #\n\
         | byte # as # says another plan\n\
-        | says something else than it holds\n";
+        | says something else than it holds\n\
+        |, internal chain in #\n";
     print_part(lines, line, [a, b, c, d]);
 }
 

@@ -1,5 +1,6 @@
-// Prints layouts and times (document 01, "The wrapper rule").
+// Prints layouts and times (document 01, "The wrapper rule"; document 02, item 2).
 use super::print::CHAINS;
+use super::print::INTERNAL;
 use super::print::LAYOUT;
 use super::print::TIME;
 use super::print::TIMES;
@@ -20,8 +21,9 @@ fn print_layout(l: WrapperLayout) {
             f.0 as u64,
             l.input_cells[i],
             l.output_cells[i],
-            l.chain_of[i] as u64,
+            l.bidir_cells[i],
         );
+        print_line(INTERNAL, l.chain_of[i] as u64, 0, 0, 0);
         i += 1;
     }
 }

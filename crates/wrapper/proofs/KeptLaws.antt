@@ -13,7 +13,7 @@ use borrow.Author.Tests.{leb-true, eqb-true}
 use Rattle.units.specs.declared.FlipFlops.{FlipFlops}
 use Rattle.units.proofs.TestLaws.{and-both}
 use Rattle.soc.specs.Limits.{terminalsMax, chainsMax, lengthMax, testsMax, patternsMax, modulesMax, levelMax}
-use Rattle.units.specs.Places.{allOf, filled, padded}
+use Rattle.units.specs.Places.{allOf, filled}
 use Rattle.soc.specs.Record.{chainsOf, modulesOf, flipFlops, noTest, noModule}
 use Rattle.soc.specs.Rules.{none, goodLength, spareLength, goodTest, spareTest, levelRule, goodTerminals, goodChains, goodPosition}
 use Rattle.soc.specs.Rules.{goodTests, goodModule, goodModules, goodName, goodSoc}
@@ -23,14 +23,12 @@ use Rattle.soc.specs.declared.record.Soc.{Soc}
 use Rattle.units.proofs.PlaceLaws.{padded-at}
 use Rattle.wrapper.specs.Fit.{longest, total, longestAfter}
 use Rattle.wrapper.specs.Chains.{noChain, numberedFrom, usedChains, thread, empty, threaded}
-use Rattle.wrapper.specs.WrapperAnswers.{widthMax}
 use Rattle.wrapper.specs.Held.{front, orderOf, chainLengths, frontLengths, Measured, Threadable}
-use Rattle.wrapper.specs.Scans.{withChains, scanOf, scanWith, scanIf, Short, Kept}
+use Rattle.wrapper.specs.Scans.{withChains, cellsIn, cellsOut, scanOf, scanWith, scanIf, Short, Kept}
 use Rattle.wrapper.specs.declared.chains.Chain.{Chain}
-use Rattle.wrapper.specs.Times.{inputCells, outputCells}
 use Rattle.wrapper.proofs.FitLaws.{longest-cells, zeros-longest}
 use Rattle.wrapper.proofs.ChainLaws.{Each, each-at, ordered-each, numbered-each, ordered-length, numbered-length, order-front}
-use Rattle.wrapper.proofs.ChainLaws.{thread-length, threaded-longest, thread-held}
+use Rattle.wrapper.proofs.ChainLaws.{thread-length, threaded-longest}
 use Rattle.wrapper.proofs.LengthLaws.{thread-lengths, front-lengths, lengths-most}
 
 -- what holds of each place in use, of each spare one and of nothing holds of every place
@@ -217,8 +215,8 @@ unfolding scanOf longestAfter
 short-scan d scan w k =
     rw (held-lengths d scan w)
     (record {
-      si = omega (arith, longest-cells (inputCells d) (threaded d scan w .lengths), threaded-short d scan w k, k .inputs, k .bidirs);
-      so = omega (arith, longest-cells (outputCells d) (threaded d scan w .lengths), threaded-short d scan w k, k .outputs, k .bidirs);
+      si = omega (arith, longest-cells (cellsIn d) (threaded d scan w .lengths), threaded-short d scan w k, k .inputs, k .bidirs);
+      so = omega (arith, longest-cells (cellsOut d) (threaded d scan w .lengths), threaded-short d scan w k, k .outputs, k .bidirs);
     })
 
 pub short-scan-if : (needed : Bool) (d : Module) (scan : Bool) (w : ℕ) → Kept d
@@ -230,8 +228,3 @@ short-scan-if false d scan w k = record { si = omega arith; so = omega arith }
 pub threaded-length : (d : Module) (scan : Bool) (w : ℕ) → length (threaded d scan w .lengths) ≡ w
 unfolding threaded
 threaded-length d scan w = thread-length (usedChains d scan) (empty w) ∙ length-replicate w 0
-
-pub threaded-held : (d : Module) (scan : Bool) (w : ℕ)
-    → take w (padded widthMax 0 (threaded d scan w .lengths)) ≡ threaded d scan w .lengths
-unfolding threaded
-threaded-held d scan w = thread-held (usedChains d scan) w

@@ -1,14 +1,14 @@
--- Laws of a layout: by how much lengths grew, place by place and with the places past the width, and how threaded lengths are held.
--- Assumes nothing.
+-- Laws of how a layout's lengths are held: with cells in their places, and by how much they grew. Assumes nothing.
 use Prim.Native.Nat.{ℕ, zero, suc, _-_, _≤_, _<_}
 use mathlib.Core.Path.{_≡_, refl, sym, ap, _∙_}
 use mathlib.Core.List.{List, [], _∷_, _++_, map, map-append}
 use native.Mathlib.Omega.{arith}
-use lib.ListN.{length, getD, take, drop, replicate, length-map, take-append-drop}
-use lib.Seq.{drop-at}
+use lib.ListN.{length, getD, take, drop, replicate, length-map}
+use lib.Seq.{take-at, drop-at}
 use Rattle.units.specs.Places.{padded}
-use Rattle.wrapper.specs.Fit.{longest}
+use Rattle.wrapper.specs.Fit.{longest, withCells}
 use Rattle.wrapper.specs.WrapperAnswers.{widthMax, gained}
+use Rattle.wrapper.proofs.FitLaws.{cells-length}
 
 pub gained-at : (xs ys : List ℕ) (i : ℕ) → i < length xs → i < length ys → getD (gained xs ys) i 0 ≡ getD ys i 0 - getD xs i 0
 unfolding gained
@@ -35,32 +35,24 @@ unfolding gained
 gained-zeros zero = refl
 gained-zeros (suc n) = ap (λ l. 0 ∷ l) (gained-zeros n)
 
--- what is held past the width does not grow
-pub gained-padded : (k : ℕ) (l a : List ℕ) → length (take k l) ≡ k → l ≡ padded widthMax 0 (take k l) → length a ≡ k
-    → gained l (a ++ drop k l) ≡ padded widthMax 0 (gained (take k l) a)
+-- what is held past the width stays, and does not grow
+pub cells-held : (n k : ℕ) (a l : List ℕ) → a ≡ padded widthMax 0 l → length l ≡ k
+    → withCells n (take k a) ++ drop k a ≡ padded widthMax 0 (withCells n l)
 unfolding padded
-gained-padded k l a n e h =
-    let z : drop k l ≡ replicate (widthMax - k) 0 =
-    ap (drop k) e ∙ drop-at (take k l) (replicate (widthMax - length (take k l)) 0) k n ∙ ap (λ j. replicate (widthMax - j) 0) n
-    in
-    let m : length (gained (take k l) a) ≡ k = gained-length (take k l) a (n ∙ sym h) ∙ n in
-    ap (λ x. gained x (a ++ drop k l)) (sym (take-append-drop k l))
-    ∙ gained-append (take k l) a (drop k l) (n ∙ sym h)
-    ∙ ap (λ x. gained (take k l) a ++ gained x x) z
-    ∙ ap (λ x. gained (take k l) a ++ x) (gained-zeros (widthMax - k) ∙ ap (λ j. replicate (widthMax - j) 0) (sym m))
+cells-held n k a l e h =
+    let z : List ℕ = replicate (widthMax - length l) 0 in
+    ap (λ x. withCells n (take k x) ++ drop k x) e
+    ∙ rw (take-at l z k h, drop-at l z k h, cells-length n l)
 
--- where each place grew, each place grew with the same behind them
-grown-append : (xs ys zs : List ℕ) → length xs ≡ length ys → ((i : ℕ) → getD xs i 0 ≤ getD ys i 0) → (i : ℕ)
-    → getD (xs ++ zs) i 0 ≤ getD (ys ++ zs) i 0
-grown-append [] [] zs e f i = omega arith
-grown-append [] (y ∷ ys) zs e f i = let no : ⊥ = omega arith in absurd no
-grown-append (x ∷ xs) [] zs e f i = let no : ⊥ = omega arith in absurd no
-grown-append (x ∷ xs) (y ∷ ys) zs e f zero = f 0
-grown-append (x ∷ xs) (y ∷ ys) zs e f (suc i) = grown-append xs ys zs (omega arith) (λ j. f (suc j)) i
-
-pub grown-at : (k : ℕ) (l a : List ℕ) → length (take k l) ≡ length a → ((i : ℕ) → getD (take k l) i 0 ≤ getD a i 0) → (i : ℕ)
-    → getD l i 0 ≤ getD (a ++ drop k l) i 0
-grown-at k l a e f i = rw (take-append-drop k l) at (grown-append (take k l) a (drop k l) e f i)
+pub gained-held : (a b xs ys : List ℕ) → a ≡ padded widthMax 0 xs → b ≡ padded widthMax 0 ys → length xs ≡ length ys
+    → gained a b ≡ padded widthMax 0 (gained xs ys)
+unfolding padded
+gained-held a b xs ys e f h =
+    let z : List ℕ = replicate (widthMax - length xs) 0 in
+    let g : b ≡ ys ++ z = f ∙ ap (λ j. ys ++ replicate (widthMax - j) 0) (sym h) in
+    let m : gained z z ≡ replicate (widthMax - length (gained xs ys)) 0 = gained-zeros (widthMax - length xs)
+    ∙ ap (λ j. replicate (widthMax - j) 0) (sym (gained-length xs ys h)) in
+    ap (λ x. gained x b) e ∙ ap (gained (xs ++ z)) g ∙ gained-append xs ys z h ∙ ap (λ x. gained xs ys ++ x) m
 
 -- each place of what is held
 map-replicate : {A B : Type 0} (f : A → B) (n : ℕ) (z : A) → map f (replicate n z) ≡ replicate n (f z)

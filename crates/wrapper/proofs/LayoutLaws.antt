@@ -1,7 +1,8 @@
 -- Laws of a wrapper's layout: every internal chain that the test uses lies in one wrapper chain, the flip-flops of a wrapper chain are the
--- sum of its internal chains, the cells of all wrapper chains sum to the module's terminals, and the longest scan-in and scan-out are the
--- layout's longest chains with their cells. Assumes nothing.
-use Prim.Native.Nat.{ℕ, zero, suc, _+_, _-_, _≤_, _<_}
+-- sum of its internal chains, the cells of each kind over all wrapper chains are the module's terminals of that kind, a wrapper chain's
+-- scan-in is its flip-flops, bidirectional cells and input cells together, its scan-out likewise with output cells, and the longest of
+-- these are si and so. Assumes nothing.
+use Prim.Native.Nat.{ℕ, zero, suc, _+_, _-_, _≤_, _<_, max}
 use mathlib.Core.Path.{_≡_, refl, ap, sym, _∙_}
 use mathlib.Core.Bool.{Bool, true, false, cond}
 use mathlib.Core.List.{List, [], _∷_, _++_, map}
@@ -20,12 +21,14 @@ use Rattle.units.proofs.PlaceLaws.{padded-at}
 use Rattle.wrapper.specs.Cells.{evened}
 use Rattle.wrapper.specs.Fit.{longest, total, goes, placed, withCells, longestAfter}
 use Rattle.wrapper.specs.Chains.{numberedFrom, ordered, sumOver, howMany, usedChains, Threaded, thread, empty, threaded}
-use Rattle.wrapper.specs.Times.{inputCells, outputCells, scanIn, scanOut}
+use Rattle.wrapper.specs.Times.{withBidirs, scanIn, scanOut}
 use Rattle.wrapper.specs.WrapperAnswers.{widthMax, gained, layoutOf}
-use Rattle.wrapper.specs.Laid.{lengthsIn, added}
+use Rattle.wrapper.specs.Laid.{lengthsIn, added, scanIns, scanOuts}
 use Rattle.wrapper.specs.declared.chains.Chain.{Chain}
 use Rattle.wrapper.proofs.FitLaws.{goes-below, placed-length, cells-length, cells-grow, total-cells}
+use Rattle.wrapper.proofs.BidirLaws.{scan-in-counted, scan-out-counted}
 use Rattle.wrapper.proofs.CellLaws.{cells-evened}
+use Rattle.wrapper.proofs.LaidLaws.{gained-length}
 use Rattle.wrapper.proofs.ChainLaws.{Each, withOne, thread-length, thread-places-length}
 use Rattle.wrapper.proofs.ChainOrder.{ordered-sum, many-here, many-other, many-behind, ordered-once, ordered-none, ordered-few}
 use Rattle.wrapper.proofs.ChainOrder.{IsChain, ordered-each-is}
@@ -201,21 +204,6 @@ flip-flops-sum d sized true k pos i = zeros-sum k chainsMax i (chainsOf d) pos (
 flip-flops-sum d sized false k pos i = zeros-at k i ∙ sym (none-in i chainsMax (chainsOf d))
 
 -- what lengths gained, where each only grew
-gained-length : (xs ys : List ℕ) → length xs ≡ length ys → length (gained xs ys) ≡ length xs
-unfolding gained
-gained-length [] ys e = refl
-gained-length (x ∷ xs) [] e = absurd (omega arith)
-gained-length (x ∷ xs) (y ∷ ys) e = ap suc (gained-length xs ys (omega arith))
-
-gained-add : (xs ys : List ℕ) (i : ℕ) → length xs ≡ length ys → getD xs i 0 ≤ getD ys i 0
-    → getD xs i 0 + getD (gained xs ys) i 0 ≡ getD ys i 0
-unfolding gained
-gained-add [] [] i e h = omega arith
-gained-add [] (y ∷ ys) i e h = absurd (omega arith)
-gained-add (x ∷ xs) [] i e h = absurd (omega arith)
-gained-add (x ∷ xs) (y ∷ ys) zero e h = omega arith
-gained-add (x ∷ xs) (y ∷ ys) (suc i) e h = gained-add xs ys i (omega arith) h
-
 gained-total : (xs ys : List ℕ) → length xs ≡ length ys → ((i : ℕ) → getD xs i 0 ≤ getD ys i 0) → total xs + total (gained xs ys) ≡ total ys
 unfolding gained total
 gained-total [] [] e h = omega arith
@@ -223,10 +211,7 @@ gained-total [] (y ∷ ys) e h = absurd (omega arith)
 gained-total (x ∷ xs) [] e h = absurd (omega arith)
 gained-total (x ∷ xs) (y ∷ ys) e h = omega (arith, h 0, gained-total xs ys (omega arith) (λ i. h (suc i)))
 
-pub cells-add : (n : ℕ) (l : List ℕ) (i : ℕ) → getD l i 0 + getD (gained l (withCells n l)) i 0 ≡ getD (withCells n l) i 0
-cells-add n l i = gained-add l (withCells n l) i (sym (cells-length n l)) (cells-grow n l i)
-
-pub cells-sum : (n : ℕ) (l : List ℕ) → 0 < length l → total (gained l (withCells n l)) ≡ n
+cells-sum : (n : ℕ) (l : List ℕ) → 0 < length l → total (gained l (withCells n l)) ≡ n
 cells-sum n l h = omega (arith, gained-total l (withCells n l) (sym (cells-length n l)) (λ i. cells-grow n l i), total-cells n l h)
 
 total-zeros : (l : List ℕ) (m : ℕ) → total (l ++ replicate m 0) ≡ total l
@@ -243,20 +228,25 @@ threaded-width : (d : Module) (scan : Bool) (k : ℕ) → length (threaded d sca
 unfolding threaded
 threaded-width d scan k = thread-length (usedChains d scan) (empty k) ∙ length-replicate k 0
 
-module _ (d : Module) (scan : Bool) (k : ℕ) (pos : 1 ≤ k) where
-  -- "input cells over all chains sum to inputs + bidirs"
-  pub input-cells-sum : total (layoutOf d (threaded d scan k) .«input_cells») ≡ d .inputs + d .bidirs
-  unfolding layoutOf
-  input-cells-sum =
-      total-padded widthMax (gained (threaded d scan k .lengths) (withCells (inputCells d) (threaded d scan k .lengths)))
-      ∙ cells-sum (inputCells d) (threaded d scan k .lengths) (omega (arith, threaded-width d scan k))
+shared-width : (d : Module) (scan : Bool) (k : ℕ) → length (withBidirs d (threaded d scan k)) ≡ k
+shared-width d scan k = cells-length (d .bidirs) (threaded d scan k .lengths) ∙ threaded-width d scan k
 
-  -- "output cells to outputs + bidirs"
-  pub output-cells-sum : total (layoutOf d (threaded d scan k) .«output_cells») ≡ d .outputs + d .bidirs
+held-sum : (n : ℕ) (l : List ℕ) → 0 < length l → total (padded widthMax 0 (gained l (withCells n l))) ≡ n
+held-sum n l h = total-padded widthMax (gained l (withCells n l)) ∙ cells-sum n l h
+
+-- each input, output and bidirectional cell lies in exactly one wrapper chain: the counts over all chains are inputs, outputs and bidirs
+module _ (d : Module) (scan : Bool) (k : ℕ) (pos : 1 ≤ k) where
+  pub input-cells-sum : total (layoutOf d (threaded d scan k) .«input_cells») ≡ d .inputs
   unfolding layoutOf
-  output-cells-sum =
-      total-padded widthMax (gained (threaded d scan k .lengths) (withCells (outputCells d) (threaded d scan k .lengths)))
-      ∙ cells-sum (outputCells d) (threaded d scan k .lengths) (omega (arith, threaded-width d scan k))
+  input-cells-sum = held-sum (d .inputs) (withBidirs d (threaded d scan k)) (omega (arith, shared-width d scan k))
+
+  pub output-cells-sum : total (layoutOf d (threaded d scan k) .«output_cells») ≡ d .outputs
+  unfolding layoutOf
+  output-cells-sum = held-sum (d .outputs) (withBidirs d (threaded d scan k)) (omega (arith, shared-width d scan k))
+
+  pub bidir-cells-sum : total (layoutOf d (threaded d scan k) .«bidir_cells») ≡ d .bidirs
+  unfolding layoutOf
+  bidir-cells-sum = held-sum (d .bidirs) (threaded d scan k .lengths) (omega (arith, threaded-width d scan k))
 
 -- what the layout holds of each wrapper chain
 pub layout-flip-flops : (d : Module) → length (d .chains) ≡ chainsMax → (scan : Bool) (k : ℕ) → 1 ≤ k → (i : ℕ)
@@ -277,64 +267,97 @@ module _ (d : Module) (scan : Bool) (k i : ℕ) (past : k ≤ i) where
       ∙ List·getD-map flipFlops (threaded d scan k .lengths) i 0
       ∙ ap flipFlops (List·getD-eq-default (threaded d scan k .lengths) 0 (omega (arith, threaded-width d scan k)))
 
-  past-cells : (n : ℕ) → getD (padded widthMax 0 (gained (threaded d scan k .lengths) (withCells n (threaded d scan k .lengths)))) i 0 ≡ 0
-  past-cells n =
-      let l : List ℕ = threaded d scan k .lengths in
+  past-cells : (n : ℕ) (l : List ℕ) → length l ≡ k → getD (padded widthMax 0 (gained l (withCells n l))) i 0 ≡ 0
+  past-cells n l e =
       padded-at widthMax 0 (gained l (withCells n l)) i
       ∙ List·getD-eq-default (gained l (withCells n l)) 0
-      (omega (arith, gained-length l (withCells n l) (sym (cells-length n l)), threaded-width d scan k))
+      (omega (arith, gained-length l (withCells n l) (sym (cells-length n l)), e))
 
   pub past-input-cells : getD (layoutOf d (threaded d scan k) .«input_cells») i 0 ≡ 0
   unfolding layoutOf
-  past-input-cells = past-cells (inputCells d)
+  past-input-cells = past-cells (d .inputs) (withBidirs d (threaded d scan k)) (shared-width d scan k)
 
   pub past-output-cells : getD (layoutOf d (threaded d scan k) .«output_cells») i 0 ≡ 0
   unfolding layoutOf
-  past-output-cells = past-cells (outputCells d)
+  past-output-cells = past-cells (d .outputs) (withBidirs d (threaded d scan k)) (shared-width d scan k)
 
-longest-added : (xs ys : List ℕ) (m : ℕ) → length xs ≡ length ys → ((i : ℕ) → getD xs i 0 ≤ getD ys i 0)
-    → longest (added (map flipFlops xs ++ replicate m (flipFlops 0)) (gained xs ys ++ replicate m 0)) ≡ longest ys
-unfolding added longest gained
-longest-added [] [] zero e h = refl
-longest-added [] [] (suc m) e h = omega (arith, longest-added [] [] m e h)
-longest-added [] (y ∷ ys) m e h = absurd (omega arith)
-longest-added (x ∷ xs) [] m e h = absurd (omega arith)
-longest-added (x ∷ xs) (y ∷ ys) m e h = omega (arith, h 0, longest-added xs ys m (omega arith) (λ i. h (suc i)))
+  pub past-bidir-cells : getD (layoutOf d (threaded d scan k) .«bidir_cells») i 0 ≡ 0
+  unfolding layoutOf
+  past-bidir-cells = past-cells (d .bidirs) (threaded d scan k .lengths) (threaded-width d scan k)
 
-cells-longest-is : (n w : ℕ) (l : List ℕ)
-    → longestAfter n l ≡ longest (added (padded w (flipFlops 0) (map flipFlops l)) (padded w 0 (gained l (withCells n l))))
-unfolding longestAfter padded
-cells-longest-is n w l =
-    let e : length l ≡ length (withCells n l) = sym (cells-length n l) in
-    rw (length-map l flipFlops, gained-length l (withCells n l) e)
-    (sym (longest-added l (withCells n l) (w - length l) e (λ i. cells-grow n l i)))
+-- lengths, by how much they grew and by how much they grew again are the lengths at last
+added-gained : (xs ys zs : List ℕ) (m : ℕ) → length xs ≡ length ys → length ys ≡ length zs → ((i : ℕ) → getD xs i 0 ≤ getD ys i 0)
+    → ((i : ℕ) → getD ys i 0 ≤ getD zs i 0)
+    → added (map flipFlops xs ++ replicate m (flipFlops 0)) (gained xs ys ++ replicate m 0) (gained ys zs ++ replicate m 0)
+    ≡ zs ++ replicate m 0
+unfolding added gained
+added-gained [] [] [] zero e f g h = refl
+added-gained [] [] [] (suc m) e f g h = ap (λ l. 0 ∷ l) (added-gained [] [] [] m e f g h)
+added-gained [] [] (z ∷ zs) m e f g h = absurd (omega arith)
+added-gained [] (y ∷ ys) zs m e f g h = absurd (omega arith)
+added-gained (x ∷ xs) [] zs m e f g h = absurd (omega arith)
+added-gained (x ∷ xs) (y ∷ ys) [] m e f g h = absurd (omega arith)
+added-gained (x ∷ xs) (y ∷ ys) (z ∷ zs) m e f g h =
+    let a : x + (y - x) + (z - y) ≡ z = omega (arith, g 0, h 0) in
+    rw a (ap (λ l. z ∷ l) (added-gained xs ys zs m (omega arith) (omega arith) (λ i. g (suc i)) (λ i. h (suc i))))
 
--- "longest scan-in si and longest scan-out so": the layout's longest wrapper chain with its input cells, and with its output cells
-pub scan-in-is : (d : Module) (scan : Bool) (k : ℕ)
-    → scanIn d scan k ≡ longest (added (layoutOf d (threaded d scan k) .«flip_flops») (layoutOf d (threaded d scan k) .«input_cells»))
-unfolding scanIn layoutOf
-scan-in-is d scan k = cells-longest-is (inputCells d) widthMax (threaded d scan k .lengths)
+added-is : (b n w : ℕ) (l : List ℕ)
+    → added (padded w (flipFlops 0) (map flipFlops l)) (padded w 0 (gained l (withCells b l)))
+    (padded w 0 (gained (withCells b l) (withCells n (withCells b l))))
+    ≡ padded w 0 (withCells n (withCells b l))
+unfolding padded
+added-is b n w l =
+    let e : length l ≡ length (withCells b l) = sym (cells-length b l) in
+    let f : length (withCells b l) ≡ length (withCells n (withCells b l)) = sym (cells-length n (withCells b l)) in
+    rw (length-map l flipFlops, gained-length l (withCells b l) e, gained-length (withCells b l) (withCells n (withCells b l)) f, ← f, ← e)
+    (added-gained l (withCells b l) (withCells n (withCells b l)) (w - length l) e f (λ i. cells-grow b l i)
+    (λ i. cells-grow n (withCells b l) i))
 
-pub scan-out-is : (d : Module) (scan : Bool) (k : ℕ)
-    → scanOut d scan k ≡ longest (added (layoutOf d (threaded d scan k) .«flip_flops») (layoutOf d (threaded d scan k) .«output_cells»))
-unfolding scanOut layoutOf
-scan-out-is d scan k = cells-longest-is (outputCells d) widthMax (threaded d scan k .lengths)
+-- the scan-in of each wrapper chain is its flip-flops, bidirectional cells and input cells, its scan-out likewise with output cells
+module _ (d : Module) (t : Threaded) where
+  pub layout-scan-ins : scanIns (layoutOf d t) ≡ padded widthMax 0 (withCells (d .inputs) (withBidirs d t))
+  unfolding layoutOf
+  layout-scan-ins = added-is (d .bidirs) (d .inputs) widthMax (t .lengths)
 
--- and these are the figures by the sum: the larger of the longest length before and the total length plus the cells, divided by k, rounded
--- up
-module _ (d : Module) (scan : Bool) (k : ℕ) (pos : 1 ≤ k) where
-  evened-at : (n : ℕ)
-      → longestAfter n (threaded d scan k .lengths) ≡ evened (longest (threaded d scan k .lengths)) (total (threaded d scan k .lengths)) n k
-  evened-at n =
-      let l : length (threaded d scan k .lengths) ≡ k = threaded-width d scan k in
-      rw l at (cells-evened n (threaded d scan k .lengths) (omega arith))
+  pub layout-scan-outs : scanOuts (layoutOf d t) ≡ padded widthMax 0 (withCells (d .outputs) (withBidirs d t))
+  unfolding layoutOf
+  layout-scan-outs = added-is (d .bidirs) (d .outputs) widthMax (t .lengths)
 
-  pub layout-in-evened : longest (added (layoutOf d (threaded d scan k) .«flip_flops») (layoutOf d (threaded d scan k) .«input_cells»))
-      ≡ evened (longest (threaded d scan k .lengths)) (total (threaded d scan k .lengths)) (inputCells d) k
-  unfolding scanIn
-  layout-in-evened = sym (scan-in-is d scan k) ∙ evened-at (inputCells d)
+longest-zeros : (l : List ℕ) (m : ℕ) → longest (l ++ replicate m 0) ≡ longest l
+unfolding longest
+longest-zeros [] zero = refl
+longest-zeros [] (suc m) = omega (arith, longest-zeros [] m)
+longest-zeros (x ∷ l) m = ap (max x) (longest-zeros l m)
 
-  pub layout-out-evened : longest (added (layoutOf d (threaded d scan k) .«flip_flops») (layoutOf d (threaded d scan k) .«output_cells»))
-      ≡ evened (longest (threaded d scan k .lengths)) (total (threaded d scan k .lengths)) (outputCells d) k
-  unfolding scanOut
-  layout-out-evened = sym (scan-out-is d scan k) ∙ evened-at (outputCells d)
+longest-held : (l : List ℕ) → longest (padded widthMax 0 l) ≡ longest l
+unfolding padded
+longest-held l = longest-zeros l (widthMax - length l)
+
+-- "longest scan-in si and longest scan-out so": the longest of these
+module _ (d : Module) (scan : Bool) (k : ℕ) where
+  pub scan-in-is : scanIn d scan k ≡ longest (scanIns (layoutOf d (threaded d scan k)))
+  unfolding scanIn longestAfter
+  scan-in-is =
+      sym (ap longest (layout-scan-ins d (threaded d scan k)) ∙ longest-held (withCells (d .inputs) (withBidirs d (threaded d scan k))))
+
+  pub scan-out-is : scanOut d scan k ≡ longest (scanOuts (layoutOf d (threaded d scan k)))
+  unfolding scanOut longestAfter
+  scan-out-is =
+      sym (ap longest (layout-scan-outs d (threaded d scan k)) ∙ longest-held (withCells (d .outputs) (withBidirs d (threaded d scan k))))
+
+  -- and these are the figures by the sum: the larger of the longest length before and the total length plus the cells that count,
+  -- divided by k, rounded up
+  module _ (pos : 1 ≤ k) where
+    evened-at : (n : ℕ) → longestAfter n (threaded d scan k .lengths)
+        ≡ evened (longest (threaded d scan k .lengths)) (total (threaded d scan k .lengths)) n k
+    evened-at n =
+        let l : length (threaded d scan k .lengths) ≡ k = threaded-width d scan k in
+        rw l at (cells-evened n (threaded d scan k .lengths) (omega arith))
+
+    pub layout-in-evened : longest (scanIns (layoutOf d (threaded d scan k)))
+        ≡ evened (longest (threaded d scan k .lengths)) (total (threaded d scan k .lengths)) (d .inputs + d .bidirs) k
+    layout-in-evened = sym scan-in-is ∙ scan-in-counted d scan k ∙ evened-at (d .inputs + d .bidirs)
+
+    pub layout-out-evened : longest (scanOuts (layoutOf d (threaded d scan k)))
+        ≡ evened (longest (threaded d scan k .lengths)) (total (threaded d scan k .lengths)) (d .outputs + d .bidirs) k
+    layout-out-evened = sym scan-out-is ∙ scan-out-counted d scan k ∙ evened-at (d .outputs + d .bidirs)

@@ -1,5 +1,6 @@
 pub mod WrapperAnswerLaws
 pub mod BestLaws
+pub mod BidirLaws
 pub mod CellLaws
 pub mod ChainLaws
 pub mod ChainOrder

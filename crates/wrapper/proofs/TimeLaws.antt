@@ -29,6 +29,7 @@ use Rattle.wrapper.specs.Scans.{scanOf, scanWith, scanIf, scanNeeded, Sh
 use Rattle.wrapper.specs.declared.times.Scan.{Scan}
 use Rattle.wrapper.specs.declared.asked.AskedModule.{AskedModule}
 use Rattle.wrapper.specs.declared.asked.AskedTest.the-variants.{No, Is}
+use Rattle.wrapper.proofs.BidirLaws.{scan-in-counted, scan-out-counted}
 use Rattle.wrapper.proofs.KeptLaws.{good-kept, held-lengths, short-scan}
 
 -- a test of at most 16,777,215 patterns, where no scan is longer than 278,526
@@ -52,8 +53,8 @@ planned-most a b t h k m = go (t .«tam_use») (t .«scan_use»)
 -- the scan lengths of a module's chains are those of the rule
 scan-is : (d : Module) (scan : Bool) (w : ℕ)
     → scanWith d scan w ≡ record { si = scanIn d scan w; so = scanOut d scan w }
-unfolding scanOf scanIn scanOut
-scan-is d scan w = rw (held-lengths d scan w)
+unfolding scanOf
+scan-is d scan w = rw (held-lengths d scan w, scan-in-counted d scan w, scan-out-counted d scan w)
 
 -- a test's cycles by the scan lengths of its chains
 pub scan-time : (d : Module) (w : ℕ) (t : Test)

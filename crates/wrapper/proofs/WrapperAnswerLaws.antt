@@ -1,13 +1,15 @@
--- What document 01 demands of a layout and of a module's time ("The wrapper rule"), of the answers themselves where nothing is refused.
+-- What document 01 demands of a layout and of a module's time ("The wrapper rule"), and document 02 (item 2) of bidirectional cells, of the
+-- answers themselves where nothing is refused.
 -- Assumes nothing.
-use Prim.Native.Nat.{ℕ, suc, _+_, _-_, _≤_, _<_}
-use mathlib.Core.Path.{_≡_, refl, ap, _∙_}
+use Prim.Native.Nat.{ℕ, suc, _-_, _≤_, _<_}
+use mathlib.Core.Path.{_≡_, refl, sym, ap, _∙_}
 use mathlib.Core.Bool.{Bool, true, false, cond, _&&_}
 use native.Mathlib.Omega.{arith}
 use borrow.Author.Tests.{leb-true, ltb-true}
 use lib.Dec.{leb, ltb}
 use lib.ListN.{length, getD}
 use Rattle.units.specs.Refusals.{accepted}
+use Rattle.units.specs.Places.{padded}
 use Rattle.units.proofs.TestLaws.{and-both}
 use Rattle.soc.specs.Limits.{chainsMax}
 use Rattle.soc.specs.Record.{chainsOf, flipFlops}
@@ -15,13 +17,13 @@ use Rattle.soc.specs.Rules.{goodSoc}
 use Rattle.soc.specs.Sized.{Sized}
 use Rattle.soc.specs.declared.record.Module.{Module}
 use Rattle.soc.specs.declared.record.Soc.{Soc}
-use Rattle.wrapper.specs.Fit.{total}
+use Rattle.wrapper.specs.Fit.{longest, total, withCells}
 use Rattle.wrapper.specs.Chains.{threaded}
 use Rattle.wrapper.specs.Maxima.{testTimeMax, moduleTimeMax}
-use Rattle.wrapper.specs.Times.{figure, testTime, moduleBest}
+use Rattle.wrapper.specs.Times.{withBidirs, scanIn, scanOut, figure, testCycles, testTime, moduleBest}
 use Rattle.wrapper.specs.WrapperAnswers.{widthMax, cycles, moduleAt, askedModule, askedTest, layoutOf, noLayout, layoutAnswer}
 use Rattle.wrapper.specs.WrapperAnswers.{noTestTime, testTimeAnswer, noModuleTime, moduleTimeOf, moduleTimeAnswer}
-use Rattle.wrapper.specs.Laid.{testAt, lengthsIn}
+use Rattle.wrapper.specs.Laid.{testAt, lengthsIn, scanIns, scanOuts}
 use Rattle.wrapper.specs.declared.laid.WrapperLayout.{WrapperLayout}
 use Rattle.wrapper.specs.declared.asked.TestTime.{TestTime}
 use Rattle.wrapper.specs.declared.asked.ModuleTime.{ModuleTime}
@@ -30,6 +32,7 @@ use Rattle.wrapper.proofs.KeptLaws.{good-kept, good-count}
 use Rattle.wrapper.proofs.PromisedTimes.{time-most}
 use Rattle.wrapper.proofs.TimeLaws.{test-most}
 use Rattle.wrapper.proofs.LayoutLaws.{in-one-chain, in-no-chain, unused, layout-flip-flops, input-cells-sum, output-cells-sum}
+use Rattle.wrapper.proofs.LayoutLaws.{bidir-cells-sum, layout-scan-ins, layout-scan-outs, scan-in-is, scan-out-is}
 
 -- what was asked for is there
 record Asked (s : Soc) (m w : ℕ) : Type 0 where
@@ -65,16 +68,65 @@ module _ (s : Soc) (m i w : ℕ) where
       go true false z t a b c h = let no : ⊥ = omega arith in absurd no
       go false y z t a b c h = let no : ⊥ = omega arith in absurd no
 
+  -- and the time of that test
+  laid-time : layoutAnswer s m i w .refusal .number ≡ 0 → testTimeAnswer s m i w .cycles .0
+      ≡ testTime (moduleAt s m) w (testAt (moduleAt s m) i)
+  unfolding layoutAnswer testTimeAnswer askedModule askedTest noLayout
+  laid-time h =
+      go (goodSoc s) (leb 1 w && leb w widthMax) (ltb m (s .«module_count»)) (leb 1 i && leb i (moduleAt s m .«test_count»)) h
+    where
+      found : WrapperLayout
+      found = layoutOf (moduleAt s m) (threaded (moduleAt s m) (testAt (moduleAt s m) i .«scan_use») w)
+
+      go : (x y z t : Bool) →
+          let a = cond x (cond y (cond z (cond t found (noLayout 13)) (noLayout 13)) (noLayout 7)) (noLayout 14) in
+          let takes : TestTime = record { refusal = accepted; cycles = cycles (testTime (moduleAt s m) w (testAt (moduleAt s m) i)) } in
+          let b = cond x (cond y (cond z (cond t takes (noTestTime 13)) (noTestTime 13)) (noTestTime 7)) (noTestTime 14) in
+          a .refusal .number ≡ 0 → b .cycles .0 ≡ testTime (moduleAt s m) w (testAt (moduleAt s m) i)
+      go true true true true h = refl
+      go true true true false h = let no : ⊥ = omega arith in absurd no
+      go true true false t h = let no : ⊥ = omega arith in absurd no
+      go true false z t h = let no : ⊥ = omega arith in absurd no
+      go false y z t h = let no : ⊥ = omega arith in absurd no
+
 module _ (s : Soc) (m i w : ℕ) (h : layoutAnswer s m i w .refusal .number ≡ 0) where
   told : LaidOut s m i w (layoutAnswer s m i w)
   told = laid-out s m i w h
 
-  -- "input cells over all chains sum to inputs + bidirs, output cells to outputs + bidirs"
-  pub answer-input-cells : total (layoutAnswer s m i w .«input_cells») ≡ moduleAt s m .inputs + moduleAt s m .bidirs
+  -- each input, output and bidirectional cell lies in exactly one wrapper chain: the counts over all chains are inputs, outputs and bidirs
+  pub answer-input-cells : total (layoutAnswer s m i w .«input_cells») ≡ moduleAt s m .inputs
   answer-input-cells = rw (told .is) (input-cells-sum (moduleAt s m) (testAt (moduleAt s m) i .«scan_use») w (told .asked .low))
 
-  pub answer-output-cells : total (layoutAnswer s m i w .«output_cells») ≡ moduleAt s m .outputs + moduleAt s m .bidirs
+  pub answer-output-cells : total (layoutAnswer s m i w .«output_cells») ≡ moduleAt s m .outputs
   answer-output-cells = rw (told .is) (output-cells-sum (moduleAt s m) (testAt (moduleAt s m) i .«scan_use») w (told .asked .low))
+
+  pub answer-bidir-cells : total (layoutAnswer s m i w .«bidir_cells») ≡ moduleAt s m .bidirs
+  answer-bidir-cells = rw (told .is) (bidir-cells-sum (moduleAt s m) (testAt (moduleAt s m) i .«scan_use») w (told .asked .low))
+
+  -- the scan-in of each wrapper chain is its flip-flops, bidirectional cells and input cells, its scan-out likewise with output cells
+  pub answer-scan-ins :
+      let d = moduleAt s m in
+      scanIns (layoutAnswer s m i w) ≡ padded widthMax 0 (withCells (d .inputs) (withBidirs d (threaded d (testAt d i .«scan_use») w)))
+  answer-scan-ins = rw (told .is) (layout-scan-ins (moduleAt s m) (threaded (moduleAt s m) (testAt (moduleAt s m) i .«scan_use») w))
+
+  pub answer-scan-outs :
+      let d = moduleAt s m in
+      scanOuts (layoutAnswer s m i w) ≡ padded widthMax 0 (withCells (d .outputs) (withBidirs d (threaded d (testAt d i .«scan_use») w)))
+  answer-scan-outs = rw (told .is) (layout-scan-outs (moduleAt s m) (threaded (moduleAt s m) (testAt (moduleAt s m) i .«scan_use») w))
+
+  -- "longest scan-in si and longest scan-out so": the longest of these
+  pub answer-scan-in : longest (scanIns (layoutAnswer s m i w)) ≡ scanIn (moduleAt s m) (testAt (moduleAt s m) i .«scan_use») w
+  answer-scan-in = rw (told .is) (sym (scan-in-is (moduleAt s m) (testAt (moduleAt s m) i .«scan_use») w))
+
+  pub answer-scan-out : longest (scanOuts (layoutAnswer s m i w)) ≡ scanOut (moduleAt s m) (testAt (moduleAt s m) i .«scan_use») w
+  answer-scan-out = rw (told .is) (sym (scan-out-is (moduleAt s m) (testAt (moduleAt s m) i .«scan_use») w))
+
+  -- so the time that is answered for a test is that of its layout
+  pub answer-laid-time :
+      let l = layoutAnswer s m i w in
+      testTimeAnswer s m i w .cycles .0 ≡ testCycles (longest (scanIns l)) (longest (scanOuts l)) (testAt (moduleAt s m) i .patterns)
+  unfolding testTime
+  answer-laid-time = rw (answer-scan-in, answer-scan-out) (laid-time s m i w h)
 
   -- entries past the chains, and those of internal chains that the test does not use, are 0
   pub answer-unused : testAt (moduleAt s m) i .«scan_use» ≡ false → (j : ℕ) → getD (layoutAnswer s m i w .«chain_of») j 0 ≡ 0

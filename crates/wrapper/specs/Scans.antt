@@ -10,7 +10,7 @@ use Rattle.soc.specs.declared.record.Test.{Test}
 use Rattle.soc.specs.declared.record.Module.{Module}
 use Rattle.wrapper.specs.Fit.{placed, longestAfter}
 use Rattle.wrapper.specs.Chains.{usedChains}
-use Rattle.wrapper.specs.Times.{inputCells, outputCells, testCycles}
+use Rattle.wrapper.specs.Times.{testCycles}
 use Rattle.wrapper.specs.Held.{chainLengths, frontLengths}
 use Rattle.wrapper.specs.declared.chains.ChainLengths.{ChainLengths}
 use Rattle.wrapper.specs.declared.times.Scan.{Scan}
@@ -25,12 +25,19 @@ unfoldable pub withChains : List ℕ → List ℕ → List ℕ
 withChains [] l = l
 withChains (n ∷ ns) l = withChains ns (placed n l)
 
+-- how many cells count in scan-in, and how many in scan-out: where only the longest is wanted, they are placed at once (`cells-twice`)
+abbrev pub cellsIn : Module → ℕ
+cellsIn d = d .inputs + d .bidirs
+
+abbrev pub cellsOut : Module → ℕ
+cellsOut d = d .outputs + d .bidirs
+
 -- the scan lengths of a module at width k, with chains of these lengths
 unfoldable pub scanOf : Module → ChainLengths → ℕ → Scan
 scanOf d c k =
     record {
-      si = longestAfter (inputCells d) (withChains (frontLengths c) (replicate k 0));
-      so = longestAfter (outputCells d) (withChains (frontLengths c) (replicate k 0));
+      si = longestAfter (cellsIn d) (withChains (frontLengths c) (replicate k 0));
+      so = longestAfter (cellsOut d) (withChains (frontLengths c) (replicate k 0));
     }
 
 -- with the chains that a test uses

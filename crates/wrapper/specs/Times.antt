@@ -1,4 +1,4 @@
--- Times (document 01, "The wrapper rule").
+-- Times (document 01, "The wrapper rule"; document 02, item 2).
 use Prim.Native.Nat.{ℕ, zero, suc, _+_, _*_, min, max}
 use mathlib.Core.Bool.{Bool, cond}
 use mathlib.Core.List.{List, [], _∷_}
@@ -6,22 +6,20 @@ use lib.Dec.{ltb}
 use Rattle.soc.specs.Record.{testsOf}
 use Rattle.soc.specs.declared.record.Test.{Test}
 use Rattle.soc.specs.declared.record.Module.{Module}
-use Rattle.wrapper.specs.Fit.{longestAfter}
-use Rattle.wrapper.specs.Chains.{threaded}
+use Rattle.wrapper.specs.Fit.{withCells, longestAfter}
+use Rattle.wrapper.specs.Chains.{Threaded, threaded}
 
--- "A bidirectional terminal counts as one input cell and one output cell."
-abbrev pub inputCells : Module → ℕ
-inputCells d = d .inputs + d .bidirs
+-- "bidirectional cells are placed by the wrapper rule right after the internal chains, as elements of length 1, and count in both scan-in
+-- and scan-out of that chain"
+abbrev pub withBidirs : Module → Threaded → List ℕ
+withBidirs d t = withCells (d .bidirs) (t .lengths)
 
-abbrev pub outputCells : Module → ℕ
-outputCells d = d .outputs + d .bidirs
-
--- "longest scan-in si and longest scan-out so": output cells start again from the lengths without input cells
+-- "longest scan-in si and longest scan-out so": "input cells and output cells then start from these lengths"
 unfoldable pub scanIn : Module → Bool → ℕ → ℕ
-scanIn d scan k = longestAfter (inputCells d) (threaded d scan k .lengths)
+scanIn d scan k = longestAfter (d .inputs) (withBidirs d (threaded d scan k))
 
 unfoldable pub scanOut : Module → Bool → ℕ → ℕ
-scanOut d scan k = longestAfter (outputCells d) (threaded d scan k .lengths)
+scanOut d scan k = longestAfter (d .outputs) (withBidirs d (threaded d scan k))
 
 -- "a test of p patterns takes (1 + max(si, so)) × p + min(si, so) cycles"
 unfoldable pub testCycles : ℕ → ℕ → ℕ → ℕ

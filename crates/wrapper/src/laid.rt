@@ -1,4 +1,5 @@
-// A wrapper's layout for one test of a module at one width.
+// A wrapper's layout for one test of a module at one width: bidirectional cells right after the internal chains (document 02, item 2),
+// then input cells and output cells, each from the lengths with these.
 use super::asked::AskedTest;
 use super::asked::asked_module;
 use super::asked::asked_test;
@@ -13,23 +14,23 @@ use units::FlipFlops;
 use units::Refusal;
 use units::Wires;
 ghost use mathlib.Core.Path.{_≡_};
-ghost use mathlib.Core.List.{map};
+ghost use mathlib.Core.List.{map, _++_};
 ghost use Prim.Native.Nat.{ℕ, _+_, _≤_, _<_};
-ghost use lib.ListN.{take, getD};
-ghost use Rattle.units.specs.Places.{padded};
+ghost use lib.ListN.{take, drop, getD};
 ghost use Rattle.soc.specs.Record.{flipFlops};
 ghost use Rattle.wrapper.specs.Fit.{longest, withCells};
 ghost use Rattle.wrapper.specs.Chains.{threaded};
 ghost use Rattle.wrapper.specs.WrapperAnswers.{widthMax, gained, layoutOf, noLayout, layoutAnswer};
 ghost use Rattle.wrapper.specs.Scans.{Kept};
 
-// For each wrapper chain its flip-flops, input cells and output cells; for each internal chain its wrapper chain from 1. Entries past the
-// width or past the chains, and those of chains that the test does not use, are 0.
+// For each wrapper chain its flip-flops, input cells, output cells and bidirectional cells; for each internal chain its wrapper chain from
+// 1. Entries past the width or past the chains, and those of chains that the test does not use, are 0.
 pub struct WrapperLayout {
     pub refusal: Refusal,
     pub flip_flops: [FlipFlops; WIDTH_PLACES],
     pub input_cells: [u64; WIDTH_PLACES],
     pub output_cells: [u64; WIDTH_PLACES],
+    pub bidir_cells: [u64; WIDTH_PLACES],
     pub chain_of: [usize; CHAINS_MAX],
 }
 
@@ -41,23 +42,34 @@ fn no_layout(n: u8) -> WrapperLayout
         flip_flops: [FlipFlops(0); WIDTH_PLACES],
         input_cells: [0u64; WIDTH_PLACES],
         output_cells: [0u64; WIDTH_PLACES],
+        bidir_cells: [0u64; WIDTH_PLACES],
         chain_of: [0usize; CHAINS_MAX],
     }
 }
 
-// How many of n cells each of the first k wrapper chains gets.
-fn cells_of(lengths: [u64; WIDTH_PLACES], k: usize, n: u64) -> [u64; WIDTH_PLACES]
-    requires { ⌜ (0 < k) × (k ≤ widthMax) × (lengths ≡ padded widthMax 0 (take k lengths)) × (longest (take k lengths) + n < 18446744073709551616) ⌝ }
-    ensures { λ r. ⌜ r ≡ padded widthMax 0 (gained (take k lengths) (withCells n (take k lengths))) ⌝ }
+// The lengths with n cells in their places in the first k wrapper chains.
+fn with_cells(lengths: [u64; WIDTH_PLACES], k: usize, n: u64) -> [u64; WIDTH_PLACES]
+    requires { ⌜ (0 < k) × (k ≤ widthMax) × (longest (take k lengths) + n < 18446744073709551616) ⌝ }
+    ensures { λ r. ⌜ r ≡ withCells n (take k lengths) ++ drop k lengths ⌝ }
 {
     let mut after = lengths;
     add_cells(&mut after[..k], n);
+    after
+}
+
+// By how much each length grew.
+fn gained_by(before: [u64; WIDTH_PLACES], after: [u64; WIDTH_PLACES]) -> [u64; WIDTH_PLACES]
+    ensures { λ r. ⌜ r ≡ gained before after ⌝ }
+{
+    let mut cells = [0u64; WIDTH_PLACES];
     let mut i: usize = 0;
     while i < WIDTH_PLACES {
-        after[i] = after[i] - lengths[i];
+        let x = before[i];
+        let y = after[i];
+        cells[i] = if x < y { y - x } else { 0 };
         i += 1;
     }
-    after
+    cells
 }
 
 fn flip_flops_of(lengths: [u64; WIDTH_PLACES]) -> [FlipFlops; WIDTH_PLACES]
@@ -80,11 +92,15 @@ fn layout_of(d: Module, scan: bool, k: usize) -> WrapperLayout
     let t = thread_chains(order_of(d, scan), k);
     let lengths = t.lengths;
     let chain_of = t.places;
+    let with_bidirs = with_cells(lengths, k, d.bidirs as u64);
+    let scan_in = with_cells(with_bidirs, k, d.inputs as u64);
+    let scan_out = with_cells(with_bidirs, k, d.outputs as u64);
     WrapperLayout {
         refusal: Refusal::none(),
         flip_flops: flip_flops_of(lengths),
-        input_cells: cells_of(lengths, k, d.inputs as u64 + d.bidirs as u64),
-        output_cells: cells_of(lengths, k, d.outputs as u64 + d.bidirs as u64),
+        input_cells: gained_by(with_bidirs, scan_in),
+        output_cells: gained_by(with_bidirs, scan_out),
+        bidir_cells: gained_by(lengths, with_bidirs),
         chain_of,
     }
 }

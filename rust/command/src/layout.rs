@@ -26,10 +26,11 @@ pub fn run(file: &Path, module: u32, test: u32, width: u32, form: Form) -> Resul
 fn report(layout: LayoutView, width: u32, internal: u32, cycles: u64) -> Report {
     let chains: Vec<Chain> = (1..=width).map(|i| layout.chain(i)).collect();
     let longest = |length: fn(&Chain) -> u32| chains.iter().map(length).max().unwrap_or(0);
-    let scan_in = longest(|chain| chain.flip_flops + chain.input_cells);
-    let scan_out = longest(|chain| chain.flip_flops + chain.output_cells);
+    let scan_in = longest(|chain| chain.flip_flops + chain.bidir_cells + chain.input_cells);
+    let scan_out = longest(|chain| chain.flip_flops + chain.bidir_cells + chain.output_cells);
     let chain = |(i, chain): (u32, &Chain)| -> Row {
-        let figures = [("chain", i), ("ff", chain.flip_flops), ("in", chain.input_cells), ("out", chain.output_cells)];
+        let &Chain { flip_flops, input_cells, output_cells, bidir_cells } = chain;
+        let figures = [("chain", i), ("ff", flip_flops), ("in", input_cells), ("out", output_cells), ("bidir", bidir_cells)];
         figures.map(|(name, figure)| (name, figure.into())).to_vec()
     };
     let internal_chain = |j: u32| -> Row { vec![("internal", j.into()), ("chain", layout.wrapper_chain(j).into())] };

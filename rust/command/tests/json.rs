@@ -48,15 +48,22 @@ fn layout() {
     let folder = Folder::holding("x.soc", text);
     let with_chains = json!({
         "module": 1, "test": 1, "width": 2, "si": 10, "so": 10, "cycles": 65,
-        "chains": [{"chain": 1, "ff": 10, "in": 0, "out": 0}, {"chain": 2, "ff": 4, "in": 0, "out": 0}],
+        "chains": [{"chain": 1, "ff": 10, "in": 0, "out": 0, "bidir": 0}, {"chain": 2, "ff": 4, "in": 0, "out": 0, "bidir": 0}],
         "internal": [{"internal": 1, "chain": 1}, {"internal": 2, "chain": 2}],
     });
     assert_eq!(object(&folder, &["layout", "--json", "x.soc", "1", "1", "2"], 0), with_chains);
     let with_cells = json!({
         "module": 2, "test": 1, "width": 1, "si": 4, "so": 2, "cycles": 22,
-        "chains": [{"chain": 1, "ff": 0, "in": 4, "out": 2}], "internal": [],
+        "chains": [{"chain": 1, "ff": 0, "in": 4, "out": 2, "bidir": 0}], "internal": [],
     });
     assert_eq!(object(&folder, &["layout", "--json", "x.soc", "2", "1", "1"], 0), with_cells);
+    let folder = Folder::holding("x.soc", T1.replace("Inputs 3 Outputs 2 Bidirs 0", "Inputs 2 Outputs 1 Bidirs 1"));
+    let with_bidirs = json!({
+        "module": 2, "test": 1, "width": 2, "si": 2, "so": 1, "cycles": 13,
+        "chains": [{"chain": 1, "ff": 0, "in": 1, "out": 0, "bidir": 1}, {"chain": 2, "ff": 0, "in": 1, "out": 1, "bidir": 0}],
+        "internal": [],
+    });
+    assert_eq!(object(&folder, &["layout", "--json", "x.soc", "2", "1", "2"], 0), with_bidirs);
 }
 
 #[test]

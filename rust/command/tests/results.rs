@@ -82,7 +82,7 @@ fn layout_of_core_a() {
     assert_eq!(lines[0], "si 20 so 21 cycles 240");
     let mut chains: Vec<&str> = lines[1..5].iter().map(|line| line.split_once(" ff ").expect("a chain").1).collect();
     chains.sort_unstable();
-    assert_eq!(chains, ["16 in 4 out 5", "18 in 2 out 3", "18 in 2 out 3", "20 in 0 out 0"]);
+    assert_eq!(chains, ["16 in 4 out 5 bidir 0", "18 in 2 out 3 bidir 0", "18 in 2 out 3 bidir 0", "20 in 0 out 0 bidir 0"]);
     assert_eq!(lines[5], "internal 1 chain 1");
     assert_eq!(lines.len(), 1 + 4 + 9);
 }
@@ -91,8 +91,18 @@ fn layout_of_core_a() {
 fn layout_of_a_test_without_scan() {
     let folder = Folder::holding("a.soc", CORE_A);
     let internal: String = (1..=9).map(|j| format!("internal {j} chain 0\n")).collect();
-    let expected = format!("si 4 so 6 cycles 11\nchain 1 ff 0 in 4 out 6\nchain 2 ff 0 in 4 out 5\n{internal}");
+    let expected = format!("si 4 so 6 cycles 11\nchain 1 ff 0 in 4 out 6 bidir 0\nchain 2 ff 0 in 4 out 5 bidir 0\n{internal}");
     folder.run(&["layout", "a.soc", "0", "2", "2"]).done(&expected);
+}
+
+#[test]
+fn layout_with_bidirectional_cells() {
+    let folder = Folder::holding("a.soc", CORE_A.replace("Bidirs 0", "Bidirs 3"));
+    let ran = folder.run(&["layout", "a.soc", "0", "1", "4"]);
+    assert_eq!((ran.status, &ran.err[..]), (Some(0), ""));
+    let chains = "si 21 so 22 cycles 251\nchain 1 ff 18 in 1 out 2 bidir 2\nchain 2 ff 18 in 2 out 3 bidir 1\n\
+                  chain 3 ff 16 in 5 out 5 bidir 0\nchain 4 ff 20 in 0 out 1 bidir 0\ninternal 1 chain 1\n";
+    assert_eq!(&ran.out[..chains.len()], chains);
 }
 
 #[test]

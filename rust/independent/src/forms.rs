@@ -6,7 +6,7 @@ use crate::soc::{Module, Soc, Test};
 use crate::units::{Cycles, FlipFlops, Wires};
 
 pub const SOC_BYTES: usize = 16_688;
-pub const LAYOUT_BYTES: usize = 1_024;
+pub const LAYOUT_BYTES: usize = 1_280;
 pub const PLAN_BYTES: usize = 396;
 
 /// Takes numbers from the front of bytes.
@@ -107,7 +107,7 @@ fn put_module(bytes: &mut Vec<u8>, module: &Module) {
 pub fn layout_bytes(layout: &Layout) -> Vec<u8> {
     let mut bytes = Vec::with_capacity(LAYOUT_BYTES);
     let flip_flops = layout.flip_flops.map(|length| length.0);
-    for numbers in [flip_flops, layout.input_cells, layout.output_cells, layout.wrapper_chains] {
+    for numbers in [flip_flops, layout.input_cells, layout.output_cells, layout.bidir_cells, layout.wrapper_chains] {
         for number in numbers {
             put(&mut bytes, number);
         }

@@ -10,23 +10,35 @@ pub struct Layout {
     pub flip_flops: [FlipFlops; limits::CHAINS],
     pub input_cells: [u32; limits::CHAINS],
     pub output_cells: [u32; limits::CHAINS],
+    /// A bidirectional cell counts in both scan-in and scan-out of its chain.
+    pub bidir_cells: [u32; limits::CHAINS],
     /// The wrapper chain, from 1, of each internal chain.
     pub wrapper_chains: [u32; limits::CHAINS],
 }
 
 impl Layout {
     pub fn scan_in(&self) -> FlipFlops {
-        longest(&self.flip_flops, &self.input_cells)
+        longest(&self.with_bidirs(), &self.input_cells)
     }
 
     pub fn scan_out(&self) -> FlipFlops {
-        longest(&self.flip_flops, &self.output_cells)
+        longest(&self.with_bidirs(), &self.output_cells)
+    }
+
+    fn with_bidirs(&self) -> [FlipFlops; limits::CHAINS] {
+        with_cells(self.flip_flops, &self.bidir_cells)
     }
 }
 
-fn longest(flip_flops: &[FlipFlops], cells: &[u32]) -> FlipFlops {
-    let lengths = flip_flops.iter().zip(cells).map(|(&length, &cells)| length + FlipFlops(cells));
-    lengths.max().unwrap_or_default()
+fn with_cells(mut lengths: [FlipFlops; limits::CHAINS], cells: &[u32]) -> [FlipFlops; limits::CHAINS] {
+    for (length, &cells) in lengths.iter_mut().zip(cells) {
+        *length = *length + FlipFlops(cells);
+    }
+    lengths
+}
+
+fn longest(lengths: &[FlipFlops; limits::CHAINS], cells: &[u32]) -> FlipFlops {
+    with_cells(*lengths, cells).into_iter().max().unwrap_or_default()
 }
 
 /// The layout of a good module for one of its tests.
@@ -45,10 +57,14 @@ pub fn layout_for(module: &Module, scan_use: bool, width: Wires) -> Layout {
         flip_flops[place] = flip_flops[place] + used[chain];
         wrapper_chains[chain] = place as u32 + 1;
     }
+    // Bidirectional cells come right after the internal chains; input cells and output cells then start from these lengths.
+    let bidir_cells = add_cells(&flip_flops[..width], module.bidirs);
+    let lengths = with_cells(flip_flops, &bidir_cells);
     Layout {
         flip_flops,
-        input_cells: add_cells(&flip_flops[..width], module.inputs + module.bidirs),
-        output_cells: add_cells(&flip_flops[..width], module.outputs + module.bidirs),
+        input_cells: add_cells(&lengths[..width], module.inputs),
+        output_cells: add_cells(&lengths[..width], module.outputs),
+        bidir_cells,
         wrapper_chains,
     }
 }

@@ -58,10 +58,35 @@ fn nothing_to_scan() {
     assert_eq!(time_and_wires(&core, 0, 64), (7, 1));
 }
 
+/// Input, output and bidirectional cells of each of the first chains.
+fn cells(core: &Soc, width: u32) -> Vec<(u32, u32, u32)> {
+    let layout = layout(&core.modules[0], &core.modules[0].tests[0], Wires(width));
+    (0..width as usize).map(|chain| (layout.input_cells[chain], layout.output_cells[chain], layout.bidir_cells[chain])).collect()
+}
+
 #[test]
-fn a_bidirectional_terminal_is_a_cell_of_each_kind() {
+fn a_bidirectional_terminal_is_one_cell_for_both_scans() {
     let core = one_module("Inputs 2 Outputs 1 Bidirs 1 ScanChains 0 :", 4);
     assert_eq!(figures(&core, 1..=4), [18, 13, 9, 9]);
+    assert_eq!(cells(&core, 2), [(1, 0, 1), (1, 1, 0)]);
+    assert_eq!(cells(&core, 4), [(0, 0, 1), (1, 1, 0), (1, 0, 0), (0, 0, 0)]);
+}
+
+/// Core 6 of p93791, as document 000 gives it in section 4, with Table 4: widths, and the longest wrapper chain there.
+#[test]
+fn core_6() {
+    let lengths = [(500, 7), (520, 30), (521, 9)].iter().flat_map(|&(length, count)| vec![length.to_string(); count]);
+    let lengths: Vec<String> = lengths.collect();
+    let core = one_module(&format!("Inputs 417 Outputs 324 Bidirs 72 ScanChains {} : {}", lengths.len(), lengths.join(" ")), 218);
+    let table_4 =
+        [(1, 24278), (2, 12139), (3, 8263), (4, 6202), (8, 3101), (16, 1560), (24, 1040), (39, 1020), (46, 528), (47, 521), (64, 521)];
+    for (width, longest) in table_4 {
+        let layout = layout(&core.modules[0], &core.modules[0].tests[0], Wires(width));
+        assert_eq!(layout.scan_in().max(layout.scan_out()), FlipFlops(longest), "{width}");
+        let sum = |cells: [u32; limits::CHAINS]| cells.iter().sum::<u32>();
+        assert_eq!([layout.input_cells, layout.output_cells, layout.bidir_cells].map(sum), [417, 324, 72]);
+    }
+    assert_eq!(figures(&core, 46..=47), [115_848, 114_317]);
 }
 
 #[test]

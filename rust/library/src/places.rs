@@ -45,12 +45,13 @@ pub mod test {
     pub const BYTES: usize = 16;
 }
 
-/// A layout: offsets of its four rows, each of 64 numbers of 4 bytes.
+/// A layout: offsets of its five rows, each of 64 numbers of 4 bytes.
 pub mod layout {
     pub const FLIP_FLOPS: usize = 0;
     pub const INPUT_CELLS: usize = 256;
     pub const OUTPUT_CELLS: usize = 512;
-    pub const WRAPPER_CHAINS: usize = 768;
+    pub const BIDIR_CELLS: usize = 768;
+    pub const WRAPPER_CHAINS: usize = 1_024;
 }
 
 /// A plan record: offsets from its front.

@@ -62,12 +62,13 @@ impl ModuleView<'_> {
     }
 }
 
-/// A wrapper chain of a layout: flip-flops, input cells and output cells.
+/// A wrapper chain of a layout: flip-flops, input cells, output cells and bidirectional cells.
 #[derive(Clone, Copy, Debug, PartialEq, Eq)]
 pub struct Chain {
     pub flip_flops: u32,
     pub input_cells: u32,
     pub output_cells: u32,
+    pub bidir_cells: u32,
 }
 
 /// A layout.
@@ -81,9 +82,10 @@ impl<'a> LayoutView<'a> {
 
     /// Wrapper chain i, counted from 1.
     pub fn chain(self, i: u32) -> Chain {
-        use places::layout::{FLIP_FLOPS, INPUT_CELLS, OUTPUT_CELLS};
-        let [flip_flops, input_cells, output_cells] = [FLIP_FLOPS, INPUT_CELLS, OUTPUT_CELLS].map(|row| self.number(row, i));
-        Chain { flip_flops, input_cells, output_cells }
+        use places::layout::{BIDIR_CELLS, FLIP_FLOPS, INPUT_CELLS, OUTPUT_CELLS};
+        let rows = [FLIP_FLOPS, INPUT_CELLS, OUTPUT_CELLS, BIDIR_CELLS];
+        let [flip_flops, input_cells, output_cells, bidir_cells] = rows.map(|row| self.number(row, i));
+        Chain { flip_flops, input_cells, output_cells, bidir_cells }
     }
 
     /// The wrapper chain of internal chain j, both counted from 1, or 0 where the test does not use it.

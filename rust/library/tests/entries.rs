@@ -62,9 +62,13 @@ fn views_read_figures_by_name() {
 
     let mut bytes = [0; LAYOUT_BYTES];
     assert!(layout(&record, 2, 1, 2, &mut bytes).figure().is_some());
-    assert_eq!(LayoutView::new(&bytes).chain(1), Chain { flip_flops: 0, input_cells: 2, output_cells: 1 });
+    assert_eq!(LayoutView::new(&bytes).chain(1), Chain { flip_flops: 0, input_cells: 2, output_cells: 1, bidir_cells: 0 });
     assert!(layout(&record, 1, 1, 2, &mut bytes).figure().is_some());
     assert_eq!(LayoutView::new(&bytes).wrapper_chain(1), 1);
+    let mut with_bidirs = record;
+    with_bidirs[places::soc::module(2) + places::module::BIDIRS] = 3;
+    assert!(layout(&with_bidirs, 2, 1, 2, &mut bytes).figure().is_some());
+    assert_eq!(LayoutView::new(&bytes).chain(1), Chain { flip_flops: 0, input_cells: 1, output_cells: 1, bidir_cells: 2 });
 
     let mut bytes = [0; PLAN_BYTES];
     assert!(plan(&record, 4, 2, &mut bytes).figure().is_some());

@@ -44,6 +44,15 @@ element-copy-out-print-line-3 c = search needs
 print-line-requires : tie.Need-print-line-requires Inv-loop μ-loop
 print-line-requires c κs = search needs
 
+mul-print-line-4 : tie.Need-mul-print-line-4 Inv-loop μ-loop
+mul-print-line-4 c = search needs
+
+element-copy-out-print-line-4 : tie.Need-element-copy-out-print-line-4 Inv-loop μ-loop
+element-copy-out-print-line-4 c = search needs
+
+print-line-requires-2 : tie.Need-print-line-requires-2 Inv-loop μ-loop
+print-line-requires-2 c κs = search needs
+
 add-i : tie.Need-add-i Inv-loop μ-loop
 add-i c = search needs
 
@@ -73,6 +82,9 @@ print-layout-spec =
     mul-print-line-3
     element-copy-out-print-line-3
     print-line-requires
+    mul-print-line-4
+    element-copy-out-print-line-4
+    print-line-requires-2
     add-i
     loop-less
     loop-again

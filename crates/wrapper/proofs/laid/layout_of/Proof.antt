@@ -1,20 +1,22 @@
--- `wrapper::laid::layout_of` meets its contract: what is held of the threaded chains is what the layout shows, and their lengths are short.
--- Assumes nothing.
+-- `wrapper::laid::layout_of` meets its contract: what is held of the threaded chains, and of the lengths with cells, is what the layout
+-- shows, and these lengths are short. Assumes nothing.
 use borrow.Author.Needs.{needs}
 use native.Mathlib.Omega.{arith}
-use Prim.Native.Nat.{_≤_}
+use Prim.Native.Nat.{ℕ, _≤_}
 use mathlib.Core.Path.{_≡_, sym, ap, _∙_}
-use mathlib.Core.List.{map}
-use lib.ListN.{take}
+use mathlib.Core.List.{List, map}
+use lib.ListN.{length, take}
 use Rattle.units.specs.Places.{padded}
 use Rattle.soc.specs.Record.{flipFlops}
+use Rattle.units.proofs.PlaceLaws.{padded-take}
 use Rattle.wrapper.specs.Fit.{longest, withCells}
 use Rattle.wrapper.specs.Chains.{Threaded, thread, empty, threaded}
-use Rattle.wrapper.specs.Times.{inputCells, outputCells}
-use Rattle.wrapper.specs.WrapperAnswers.{widthMax, gained, layoutOf}
+use Rattle.wrapper.specs.Times.{withBidirs}
+use Rattle.wrapper.specs.WrapperAnswers.{widthMax, layoutOf}
 use Rattle.wrapper.specs.Held.{front, threadingOf}
-use Rattle.wrapper.proofs.KeptLaws.{kept-threadable, held-threaded, threaded-held, threaded-short}
-use Rattle.wrapper.proofs.LaidLaws.{map-padded, padded-longest}
+use Rattle.wrapper.proofs.FitLaws.{cells-length, longest-cells}
+use Rattle.wrapper.proofs.KeptLaws.{kept-threadable, held-threaded, threaded-length, threaded-short}
+use Rattle.wrapper.proofs.LaidLaws.{cells-held, gained-held, map-padded, padded-longest}
 use Rattle.wrapper.proofs.laid.layout_of.Statement.{statement}
 use Rattle.wrapper.proofs.laid.layout_of.Tie as tie
 
@@ -32,13 +34,55 @@ held c =
 lengths : (c : tie.After-thread-chains) → c .thread-chains .result .lengths ≡ padded widthMax 0 (chains c .lengths)
 lengths c = ap (λ t. t .lengths) (held c)
 
-first : (c : tie.After-thread-chains) → take (c .before .before .args .k) (c .thread-chains .result .lengths) ≡ chains c .lengths
-first c =
-    let s = c .before .before in
-    ap (take (s .args .k)) (lengths c) ∙ threaded-held (s .args .d) (s .args .scan) (s .args .k)
+long : (c : tie.After-thread-chains) → length (chains c .lengths) ≡ c .before .before .args .k
+long c = let s = c .before .before in threaded-length (s .args .d) (s .args .scan) (s .args .k)
 
 short : (c : tie.After-thread-chains) → longest (chains c .lengths) ≤ 262144
 short c = let s = c .before .before in threaded-short (s .args .d) (s .args .scan) (s .args .k) (s .pre .0)
+
+-- the longest of the first k places, where k lengths are held
+front-longest : (k : ℕ) (a l : List ℕ) → a ≡ padded widthMax 0 l → length l ≡ k → longest (take k a) ≡ longest l
+front-longest k a l e h = ap (λ x. longest (take k x)) e ∙ ap longest (rw h at (padded-take widthMax 0 l))
+
+-- the lengths with the bidirectional cells
+abbrev threads : tie.After-with-cells → tie.After-thread-chains
+threads c = c .before .before .before .before
+
+abbrev shared : tie.After-with-cells → List ℕ
+shared c = withBidirs (threads c .before .before .args .d) (chains (threads c))
+
+with-bidirs : (c : tie.After-with-cells) → c .with-cells .result ≡ padded widthMax 0 (shared c)
+with-bidirs c =
+    let t = threads c in
+    let s = t .before .before in
+    c .with-cells .ensures ∙ cells-held (s .args .d .bidirs) (s .args .k) _ (chains t .lengths) (lengths t) (long t)
+
+shared-long : (c : tie.After-with-cells) → length (shared c) ≡ threads c .before .before .args .k
+shared-long c = let t = threads c in cells-length (t .before .before .args .d .bidirs) (chains t .lengths) ∙ long t
+
+shared-short : (c : tie.After-with-cells) → longest (take (threads c .before .before .args .k) (c .with-cells .result)) ≤ 270335
+shared-short c =
+    let t = threads c in
+    let s = t .before .before in
+    rw (front-longest (s .args .k) (c .with-cells .result) (shared c) (with-bidirs c) (shared-long c))
+    (omega (arith, longest-cells (s .args .d .bidirs) (chains t .lengths), short t, s .pre .0 .bidirs))
+
+-- and with the input cells too, and with the output cells
+scan-in : (c : tie.After-with-cells2) →
+    let w = c .before .before in
+    c .with-cells2 .result ≡ padded widthMax 0 (withCells (threads w .before .before .args .d .inputs) (shared w))
+scan-in c =
+    let w = c .before .before in
+    let s = threads w .before .before in
+    c .with-cells2 .ensures ∙ cells-held (s .args .d .inputs) (s .args .k) _ (shared w) (with-bidirs w) (shared-long w)
+
+scan-out : (c : tie.After-with-cells3) →
+    let w = c .before .before .before .before in
+    c .with-cells3 .result ≡ padded widthMax 0 (withCells (threads w .before .before .args .d .outputs) (shared w))
+scan-out c =
+    let w = c .before .before .before .before in
+    let s = threads w .before .before in
+    c .with-cells3 .ensures ∙ cells-held (s .args .d .outputs) (s .args .k) _ (shared w) (with-bidirs w) (shared-long w)
 
 order-of-requires : tie.Need-order-of-requires
 order-of-requires c κs = search needs
@@ -48,65 +92,69 @@ thread-chains-requires c κs =
     let s = c .before in
     (s .pre .1, s .pre .2, rw (c .order-of .ensures) (kept-threadable (s .args .d) (s .args .scan) (s .pre .0)))
 
+cast-with-cells : tie.Need-cast-with-cells
+cast-with-cells c = search needs
+
+with-cells-requires : tie.Need-with-cells-requires
+with-cells-requires c κs =
+    let t = c .before .before .before in
+    let s = t .before .before in
+    omega (arith, s .pre, s .pre .0 .bidirs, front-longest (s .args .k) _ (chains t .lengths) (lengths t) (long t), short t)
+
+cast-with-cells-2 : tie.Need-cast-with-cells-2
+cast-with-cells-2 c = search needs
+
+with-cells-requires-2 : tie.Need-with-cells-requires-2
+with-cells-requires-2 c κs =
+    let w = c .before in
+    let s = threads w .before .before in
+    omega (arith, s .pre, s .pre .0 .inputs, shared-short w)
+
+cast-with-cells-3 : tie.Need-cast-with-cells-3
+cast-with-cells-3 c = search needs
+
+with-cells-requires-3 : tie.Need-with-cells-requires-3
+with-cells-requires-3 c κs =
+    let w = c .before .before .before in
+    let s = threads w .before .before in
+    omega (arith, s .pre, s .pre .0 .outputs, shared-short w)
+
 none-requires : tie.Need-none-requires
 none-requires c κs = search needs
 
 flip-flops-of-requires : tie.Need-flip-flops-of-requires
 flip-flops-of-requires c κs =
-    let t = c .before .before .before in
+    let t = threads (c .before .before .before .before .before) in
     λ i. rw (lengths t) (omega (arith, padded-longest widthMax (chains t .lengths) i, short t))
 
-cast-cells-of : tie.Need-cast-cells-of
-cast-cells-of c = search needs
+gained-by-requires : tie.Need-gained-by-requires
+gained-by-requires c κs = search needs
 
-cast-cells-of-2 : tie.Need-cast-cells-of-2
-cast-cells-of-2 c = search needs
+gained-by-requires-2 : tie.Need-gained-by-requires-2
+gained-by-requires-2 c κs = search needs
 
-add-cells-of : tie.Need-add-cells-of
-add-cells-of c = search needs
-
-cells-of-requires : tie.Need-cells-of-requires
-cells-of-requires c κs =
-    let t = c .before .before .before .before .before .before in
-    let s = t .before .before in (
-      s .pre .1,
-      s .pre .2,
-      lengths t ∙ ap (padded widthMax 0) (sym (first t)),
-      rw (first t) (omega (arith, short t, s .pre .0 .inputs, s .pre .0 .bidirs)),
-    )
-
-cast-cells-of-3 : tie.Need-cast-cells-of-3
-cast-cells-of-3 c = search needs
-
-cast-cells-of-4 : tie.Need-cast-cells-of-4
-cast-cells-of-4 c = search needs
-
-add-cells-of-2 : tie.Need-add-cells-of-2
-add-cells-of-2 c = search needs
-
-cells-of-requires-2 : tie.Need-cells-of-requires-2
-cells-of-requires-2 c κs =
-    let t = c .before .before .before .before .before .before .before .before .before in
-    let s = t .before .before in (
-      s .pre .1,
-      s .pre .2,
-      lengths t ∙ ap (padded widthMax 0) (sym (first t)),
-      rw (first t) (omega (arith, short t, s .pre .0 .outputs, s .pre .0 .bidirs)),
-    )
+gained-by-requires-3 : tie.Need-gained-by-requires-3
+gained-by-requires-3 c κs = search needs
 
 returns : tie.Need-returns
 unfolding layoutOf
 returns c =
-    let i = c .before .before .before in
-    let f = i .before .before .before in
-    let n = f .before in
-    let t = n .before .before .before in
+    let f = c .before .before .before in
+    let o = f .before .before in
+    let i = o .before .before in
+    let w = i .before .before in
+    let t = threads w in
     let d = t .before .before .args .d in
-    let e0 = n .none .ensures in
-    let e1 = f .flip-flops-of .ensures ∙ ap (map flipFlops) (lengths t) ∙ map-padded flipFlops widthMax 0 (chains t .lengths) in
-    let e2 = i .cells-of .ensures ∙ ap (λ l. padded widthMax 0 (gained l (withCells (inputCells d) l))) (first t) in
-    let e3 = c .cells-of2 .ensures ∙ ap (λ l. padded widthMax 0 (gained l (withCells (outputCells d) l))) (first t) in
-    rw (e0, e1, e2, e3, ap (λ r. r .places) (held t))
+    let n = cells-length (d .bidirs) (chains t .lengths) in
+    let e0 = f .before .none .ensures in
+    let e1 = ap (λ x. x .places) (held t) in
+    let e2 = f .flip-flops-of .ensures ∙ ap (map flipFlops) (lengths t) ∙ map-padded flipFlops widthMax 0 (chains t .lengths) in
+    let e3 = c .before .before .gained-by .ensures
+    ∙ gained-held _ _ _ _ (with-bidirs w) (scan-in i) (sym (cells-length (d .inputs) (shared w))) in
+    let e4 = c .before .gained-by2 .ensures
+    ∙ gained-held _ _ _ _ (with-bidirs w) (scan-out o) (sym (cells-length (d .outputs) (shared w))) in
+    let e5 = c .gained-by3 .ensures ∙ gained-held _ _ _ _ (lengths t) (with-bidirs w) (sym n) in
+    rw (e0, e1, e2, e3, e4, e5)
 
 pub layout-of-spec : {M : Type 1} → statement M
 layout-of-spec =
@@ -114,14 +162,15 @@ layout-of-spec =
     (tie.spec
     order-of-requires
     thread-chains-requires
+    cast-with-cells
+    with-cells-requires
+    cast-with-cells-2
+    with-cells-requires-2
+    cast-with-cells-3
+    with-cells-requires-3
     none-requires
     flip-flops-of-requires
-    cast-cells-of
-    cast-cells-of-2
-    add-cells-of
-    cells-of-requires
-    cast-cells-of-3
-    cast-cells-of-4
-    add-cells-of-2
-    cells-of-requires-2
+    gained-by-requires
+    gained-by-requires-2
+    gained-by-requires-3
     returns)

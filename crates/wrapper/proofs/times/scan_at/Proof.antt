@@ -8,9 +8,8 @@ use lib.ListN.{length, length-map, replicate, length-replicate}
 use lib.Seq.{length-take-le}
 use Rattle.wrapper.specs.Fit.{longestAfter}
 use Rattle.wrapper.specs.Cells.{evened}
-use Rattle.wrapper.specs.Times.{inputCells, outputCells}
 use Rattle.wrapper.specs.Held.{frontLengths}
-use Rattle.wrapper.specs.Scans.{withChains, scanOf}
+use Rattle.wrapper.specs.Scans.{withChains, cellsIn, cellsOut, scanOf}
 use Rattle.wrapper.proofs.CellLaws.{cells-known}
 use Rattle.wrapper.proofs.LengthLaws.{chains-length, chains-total, zeros-total}
 use Rattle.wrapper.proofs.times.scan_at.Statement.{statement}
@@ -76,7 +75,7 @@ unfolding scanOf
 returns c =
     let w = c .before .before .before .before .before .before in
     let d = w .before .before .before .args .d in
-    rw (c .before .before .before .longest-after .ensures ∙ known w (inputCells d), c .longest-after2 .ensures ∙ known w (outputCells d))
+    rw (c .before .before .before .longest-after .ensures ∙ known w (cellsIn d), c .longest-after2 .ensures ∙ known w (cellsOut d))
 
 pub scan-at-spec : {M : Type 1} → statement M
 scan-at-spec =
