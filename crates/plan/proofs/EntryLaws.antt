@@ -1,6 +1,6 @@
 -- Laws of the planner's entry: the busy figures, the buses and the placed modules as loops fill them, and that what is made of the plan that the search
 -- finds over the tables is that plan's record. Assumes nothing.
-use Prim.Native.Nat.{ℕ, zero, suc, _+_, _-_, _≤_, _<_}
+use Prim.Native.Nat.{ℕ, suc, _+_, _-_, _≤_, _<_}
 use mathlib.Core.Path.{_≡_, refl, ap, _∙_}
 use mathlib.Core.Bool.{cond}
 use mathlib.Core.List.{List, [], _∷_, _++_}
@@ -19,9 +19,10 @@ use Rattle.soc.specs.declared.planned.Planned.{Planned}
 use Rattle.soc.specs.declared.record.Soc.{Soc}
 use Rattle.units.proofs.PlaceLaws.{padded-take, padded-set, padded-at}
 use Rattle.wrapper.specs.WrapperAnswers.{widthMax, wires, cycles}
-use Rattle.plan_rules.specs.Plans.{Plan, IsPlan, sum, busyFrom, busies, timeOf}
+use Rattle.plan_rules.specs.Plans.{Plan, IsPlan, busyFrom, busies, timeOf}
 use Rattle.plan_rules.specs.Listed.{bestPlan}
 use Rattle.plan_rules.proofs.Demand.{best-first}
+use Rattle.plan_rules.proofs.BoundLaws.{width-in}
 use Rattle.plan_record.specs.Record.{busPlaces, modulePlaces, noBus, noPlaced, busRecords, moduleRecords, planRecord}
 use Rattle.plan_record.proofs.RecordLaws.{length-records}
 use Rattle.plan_search.specs.Search.{searchBuses, searchModules, tableTime, IsTable, foundOf}
@@ -120,21 +121,12 @@ module _ (p : Planned) (t : Tables) (f : Found) where
   unfolding modulesIs
   placed-all = refl
 
-width-most : (ws : List ℕ) (i : ℕ) → getD ws i 0 ≤ sum ws
-unfolding sum
-width-most [] i = omega arith
-width-most (w ∷ ws) zero = omega arith
-width-most (w ∷ ws) (suc i) = omega (arith, width-most ws i)
-
 module _ {W B n : ℕ} {p : Plan} (r : IsPlan W B n p) where
-  width-in : (j : ℕ) → j < length (p .widths) → (1 ≤ getD (p .widths) j 0) × (getD (p .widths) j 0 ≤ W)
-  width-in j h = (r .wide j h, omega (arith, width-most (p .widths) j, r .wires))
-
   -- what was found keeps the limits of a plan
   found-is : (time : ℕ → ℕ → ℕ) → W ≤ widthMax → B ≤ limitMax → IsFound (foundOf time p) n
   found-is time h k = record {
     few = omega (arith, r .limit);
-    wide = λ b l. rw (padded-at searchBuses 0 (p .widths) b) (width-in b l .0, omega (arith, width-in b l .1));
+    wide = λ b l. rw (padded-at searchBuses 0 (p .widths) b) (width-in r b l .0, omega (arith, width-in r b l .1));
     placed = λ i l. rw (padded-at searchModules 0 (p .buses) i) (r .low i l, r .high i l);
   }
 
@@ -165,7 +157,7 @@ module _ {W B n : ℕ} {p : Plan} (r : IsPlan W B n p) where
     modules-from time i (b ∷ bs) h q =
         let m = q 0 (omega arith) in
         let l : b - 1 < length (p .widths) = omega arith in
-        let v = width-in (b - 1) l in
+        let v = width-in r (b - 1) l in
         let k : i < n = omega arith in
         rw (
           padded-at modulesMax 0 (plannedOf s) i,

@@ -2,3 +2,4 @@ pub mod TableLaws
 pub mod EntryLaws
 pub mod PlannerLaws
 pub mod PlanDemand
+pub mod MoreWires

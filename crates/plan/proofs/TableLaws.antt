@@ -16,9 +16,10 @@ use Rattle.soc.specs.declared.record.Soc.{Soc}
 use Rattle.wrapper.specs.WrapperAnswers.{widthMax, moduleTimesAnswer}
 use Rattle.wrapper.proofs.BestLaws.{time-falls}
 use Rattle.wrapper.proofs.PromisedTimes.{time-most, times-at, wires-at, times-past}
-use Rattle.plan_rules.specs.Plans.{Plan, IsPlan, sum, busyFrom, busies, largest, timeOf}
+use Rattle.plan_rules.specs.Plans.{Plan, IsPlan, busyFrom, busies, largest, timeOf}
 use Rattle.plan_rules.specs.Listed.{plans, firstLeast, firstOf, bestPlan, bestOf}
 use Rattle.plan_rules.proofs.ListedLaws.{sound}
+use Rattle.plan_rules.proofs.BoundLaws.{width-in}
 use Rattle.plan.specs.PlanAnswers.{limitMax, plannedMax, plannedModule, timeIn, wiresIn}
 use Rattle.wrapper.specs.Maxima.{moduleTimeMax}
 use Rattle.plan_search.specs.Search.{searchBuses, searchModules, rowPlaces, tableTime, IsTable}
@@ -59,7 +60,7 @@ pub time-limit : (s : Soc) (i w : ℕ) → goodSoc s ≡ true → i < length (pl
 unfolding timeIn
 time-limit s i w good h k = time-most s (getD (plannedOf s) i 0) good (planned-number s i h .0) w k
 
-time-fall : (s : Soc) (i v w : ℕ) → 1 ≤ v → v ≤ w → timeIn s i w ≤ timeIn s i v
+pub time-fall : (s : Soc) (i v w : ℕ) → 1 ≤ v → v ≤ w → timeIn s i w ≤ timeIn s i v
 unfolding timeIn
 time-fall s i v w h k = time-falls (plannedModule s i) v w h k
 
@@ -162,12 +163,6 @@ unfolding firstOf
 first-same u v [] h = refl
 first-same u v (p ∷ ps) h = least-same u v p ps (h p (List·Memᴰ·head refl)) (λ q m. h q (List·Memᴰ·tail m))
 
-each-below : (ws : List ℕ) (i : ℕ) → getD ws i 0 ≤ sum ws
-unfolding sum
-each-below [] i = omega arith
-each-below (w ∷ ws) zero = omega arith
-each-below (w ∷ ws) (suc i) = omega (arith, each-below ws i)
-
 -- two times that agree on n modules and the widths 1 to W
 module _ {f g : ℕ → ℕ → ℕ} {W n : ℕ} (same : (i w : ℕ) → i < n → 1 ≤ w → w ≤ W → f i w ≡ g i w) where
   pub busy-same : (i b w : ℕ) (xs : List ℕ) → i + length xs ≤ n → 1 ≤ w → w ≤ W → busyFrom f i b w xs ≡ busyFrom g i b w xs
@@ -183,7 +178,7 @@ module _ {f g : ℕ → ℕ → ℕ} {W n : ℕ} (same : (i w : ℕ) → i < n �
       rw (busy-same 0 b w bs (omega arith) (l .0) (l .1), busies-all bs (suc b) ws h (λ i m. k (suc i) (omega arith)))
 
   pub busies-same : {B : ℕ} {p : Plan} → IsPlan W B n p → busies f (p .buses) 1 (p .widths) ≡ busies g (p .buses) 1 (p .widths)
-  busies-same {p = p} r = busies-all (p .buses) 1 (p .widths) (omega (arith, r .placed)) (λ i h. (r .wide i h, omega (arith, each-below (p .widths) i, r .wires)))
+  busies-same {p = p} r = busies-all (p .buses) 1 (p .widths) (omega (arith, r .placed)) (width-in r)
 
   pub time-same : {B : ℕ} {p : Plan} → IsPlan W B n p → timeOf f p ≡ timeOf g p
   unfolding timeOf

@@ -9,7 +9,7 @@ use native.Mathlib.Numerals.{add-one}
 use lib.ListN.{length, getD, set, replicate, length-append, length-set}
 use Rattle.plan_rules.specs.Plans.{sum, busies, largest, timeOf}
 use Rattle.plan_rules.specs.Listed.{upward, placements}
-use Rattle.plan_rules.proofs.SkipLaws.{total}
+use Rattle.plan_rules.specs.Bounds.{total}
 use Rattle.plan_rules.specs.Least.{leastAll, timeOn, leastBy, leastOn}
 use Rattle.plan_rules.specs.From.{loaded, eachBus, leastFrom}
 use Rattle.plan_rules.proofs.AllLaws.{all-append}

@@ -1,17 +1,18 @@
 -- What a search may skip: plans that are no better than the best so far, and lower bounds of the time of a plan, from the time of one
--- module and from the times of all of them together. For any time and any list of plans. Assumes nothing.
+-- module, from the times of all of them together, and from their areas. For any time and any list of plans. Assumes nothing.
 use Prim.Native.Nat.{ℕ, zero, suc, _+_, _-_, _*_, _≤_, _<_, max}
 use mathlib.Core.Path.{_≡_, refl, sym, ap, _∙_}
 use mathlib.Core.Bool.{Bool, true, false, cond}
 use mathlib.Core.Logic.{⊎-elim}
 use mathlib.Core.List.{List, [], _∷_, _++_, List·Memᴰ, List·Memᴰ·cases-cons}
 use native.Mathlib.Omega.{arith}
-use native.Mathlib.Nat.{eq-or-lt-of-le, suc-mul, mul-le-mul-left}
+use native.Mathlib.Nat.{eq-or-lt-of-le, suc-mul, add-mul, mul-le-mul-left}
 use lib.ListN.{length, getD}
 use lib.Dec.{ltb, eqb}
 use borrow.Author.Tests.{eq-eqb}
-use Rattle.plan_rules.specs.Plans.{Plan, busyFrom, busies, largest, timeOf}
+use Rattle.plan_rules.specs.Plans.{Plan, sum, busyFrom, busies, largest, timeOf}
 use Rattle.plan_rules.specs.Listed.{firstLeast}
+use Rattle.plan_rules.specs.Bounds.{total}
 use Rattle.plan_rules.proofs.LeastLaws.{least-is, least-same}
 use Rattle.plan_rules.proofs.BusyLaws.{largest-le}
 
@@ -44,11 +45,6 @@ unfolding busies
 busies-at time bs b [] j x h e = absurd (omega arith)
 busies-at time bs b (w ∷ ws) zero x h e = ap (λ (c : ℕ). busyFrom time 0 c w bs) (omega arith)
 busies-at time bs b (w ∷ ws) (suc j) x h e = busies-at time bs (suc b) ws j x (omega arith) (omega arith)
-
--- what f gives at n numbers from i on, added
-unfoldable pub total : ℕ → ℕ → (ℕ → ℕ) → ℕ
-total zero i f = 0
-total (suc n) i f = f i + total n (suc i) f
 
 -- what a module on bus x adds to the busy figures of the buses from number b on, f its time by the width
 one : (ℕ → ℕ) → ℕ → ℕ → List ℕ → ℕ
@@ -98,6 +94,29 @@ busy-largest time xs b (w ∷ ws) =
     let l : y ≤ max x y = omega arith in
     omega (arith, busy-largest time xs (suc b) ws, suc-mul (length ws) (max x y), mul-le-mul-left (length ws) l)
 
+-- what a bus is busy for, times its width
+wide-busy : (time : ℕ → ℕ → ℕ) (i b w : ℕ) (xs : List ℕ) → busyFrom (λ k v. v * time k v) i b w xs ≡ w * busyFrom time i b w xs
+unfolding busyFrom
+wide-busy time i b w [] = omega arith
+wide-busy time i b w (x ∷ xs) = pick (busyFrom time (suc i) b w xs) (wide-busy time (suc i) b w xs) (eqb x b)
+  where
+    pick : (y : ℕ) → busyFrom (λ k v. v * time k v) (suc i) b w xs ≡ w * y
+        → (t : Bool) → cond t (w * time i w) 0 + busyFrom (λ k v. v * time k v) (suc i) b w xs ≡ w * (cond t (time i w) 0 + y)
+    pick y e true = omega arith
+    pick y e false = omega arith
+
+wide-largest : (time : ℕ → ℕ → ℕ) (xs : List ℕ) (b : ℕ) (ws : List ℕ)
+    → busy (λ k v. v * time k v) 0 xs b ws ≤ sum ws * largest (busies time xs b ws)
+unfolding busy busies largest sum
+wide-largest time xs b [] = omega arith
+wide-largest time xs b (w ∷ ws) =
+    let x = busyFrom time 0 b w xs in
+    let y = largest (busies time xs (suc b) ws) in
+    let l : y ≤ max x y = omega arith in
+    let m : x ≤ max x y = omega arith in
+    let d : (w + sum ws) * max x y ≡ w * max x y + sum ws * max x y = add-mul w (sum ws) (max x y) in
+    omega (arith, wide-largest time xs (suc b) ws, wide-busy time 0 b w xs, mul-le-mul-left w m, mul-le-mul-left (sum ws) l)
+
 module _ (time : ℕ → ℕ → ℕ) (p : Plan) where
   -- the time of a module at its bus is at most the time of the plan
   pub module-le : (i : ℕ) → i < length (p .buses) → 1 ≤ getD (p .buses) i 0 → getD (p .buses) i 0 ≤ length (p .widths) → time i (getD (p .widths) (getD (p .buses) i 0 - 1) 0) ≤ timeOf time p
@@ -120,10 +139,13 @@ module _ (time : ℕ → ℕ → ℕ) (p : Plan) where
       let a = total-busy time t 0 (p .buses) 1 (p .widths) l (λ k m. omega (arith, u k m)) (λ k j m n o. s k j (omega arith) o) in
       omega (arith, busy-largest time (p .buses) 1 (p .widths))
 
-  module _ (w : ℕ) (antitone : (i u v : ℕ) → u ≤ v → time i v ≤ time i u) (widest : (j : ℕ) → j < length (p .widths) → getD (p .widths) j 0 ≤ w) where
-    pub bound-single : (i : ℕ) → i < length (p .buses) → 1 ≤ getD (p .buses) i 0 → getD (p .buses) i 0 ≤ length (p .widths) → time i w ≤ timeOf time p
-    bound-single i h l u = lower-single i (time i w) h l u (λ j m. antitone i (getD (p .widths) j 0) w (widest j m))
-
-    pub bound-shared : ((i : ℕ) → i < length (p .buses) → 1 ≤ getD (p .buses) i 0) → ((i : ℕ) → i < length (p .buses) → getD (p .buses) i 0 ≤ length (p .widths))
-        → total (length (p .buses)) 0 (λ i. time i w) ≤ length (p .widths) * timeOf time p
-    bound-shared l u = lower-shared (λ i. time i w) l u (λ i j h m. antitone i (getD (p .widths) j 0) w (widest j m))
+  -- areas that the modules have at least, on whichever bus, added, are at most what the wires have room for
+  pub lower-area : (area : ℕ → ℕ) → ((i : ℕ) → i < length (p .buses) → 1 ≤ getD (p .buses) i 0)
+      → ((i : ℕ) → i < length (p .buses) → getD (p .buses) i 0 ≤ length (p .widths))
+      → ((i j : ℕ) → i < length (p .buses) → j < length (p .widths) → area i ≤ getD (p .widths) j 0 * time i (getD (p .widths) j 0))
+      → total (length (p .buses)) 0 area ≤ sum (p .widths) * timeOf time p
+  unfolding timeOf
+  lower-area area l u s =
+      let a = total-busy (λ i w. w * time i w) area 0 (p .buses) 1 (p .widths) l (λ k m. omega (arith, u k m))
+      (λ k j m n o. s k j (omega arith) o) in
+      omega (arith, wide-largest time (p .buses) 1 (p .widths))

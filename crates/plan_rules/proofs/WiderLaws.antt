@@ -62,10 +62,14 @@ module _ (time : ℕ → ℕ → ℕ) (n top : ℕ) (falls : (i v w : ℕ) → i
   wider-busies bs e b (wider {w} {v} l h t r) =
       omega (arith, busy-falls time 0 b v w bs (λ k a d. falls k w v (omega arith) l h t), wider-busies bs e (suc b) r)
 
-  -- the least time on wider buses is no larger
-  pub wider-time : {ws vs : List ℕ} → Wider top ws vs → (t : ℕ) → leastOn time n vs t ≤ leastOn time n ws t
+  -- a placement takes no longer on wider buses
+  pub wider-plan : {ws vs : List ℕ} → Wider top ws vs → (bs : List ℕ) → length bs ≡ n → timeOf time (plan vs bs) ≤ timeOf time (plan ws bs)
   unfolding timeOf
-  wider-time r = wider-least (timeOf time) n top r (λ bs e. wider-busies bs e 1 r)
+  wider-plan r bs e = wider-busies bs e 1 r
+
+  -- so the least time on wider buses is no larger
+  pub wider-time : {ws vs : List ℕ} → Wider top ws vs → (t : ℕ) → leastOn time n vs t ≤ leastOn time n ws t
+  wider-time r = wider-least (timeOf time) n top r (wider-plan r)
 
   -- so where none is found on them, none is on the others
   pub wider-none : {ws vs : List ℕ} → Wider top ws vs → (t : ℕ) → leastOn time n vs t ≡ t → leastOn time n ws t ≡ t

@@ -7,7 +7,7 @@ use native.Mathlib.Omega.{arith}
 use native.Mathlib.Nat.{eq-or-lt-of-le, suc-mul}
 use lib.ListN.{length, getD, set, length-set}
 use lib.Seq.{getD-set-same, getD-set-other}
-use Rattle.plan_rules.proofs.SkipLaws.{total}
+use Rattle.plan_rules.specs.Bounds.{total}
 
 -- the sum of m times at most
 pub total-most : (n i m : ℕ) (f : ℕ → ℕ) → ((j : ℕ) → f j ≤ m) → total n i f ≤ n * m

@@ -4,7 +4,7 @@ use mathlib.Core.Path.{_≡_}
 use mathlib.Core.List.{List}
 use lib.ListN.{length, getD}
 use Rattle.plan_rules.specs.Plans.{sum, largest}
-use Rattle.plan_rules.proofs.SkipLaws.{total}
+use Rattle.plan_rules.specs.Bounds.{total}
 use Rattle.plan_search.specs.Search.{tableTime, timeBound, IsTable, AreWidths}
 
 -- for each module and behind the last one, the times of the modules from there on at width w
