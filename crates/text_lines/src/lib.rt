@@ -18,6 +18,7 @@ pub use level::block_number;
 pub use level::block_shape;
 pub use level::level_line;
 pub use part::Verdict;
+pub use part::key_due;
 pub use second::SecondLine;
 pub use second::second_line;
 pub use second::tests_line;

@@ -1,0 +1,3 @@
+pub mod BlockLaws
+pub mod PairLaws
+pub mod ShownLaws

@@ -1,0 +1,15 @@
+-- `overlay::pair::combined_soc` meets its contract. Assumes nothing.
+use borrow.Author.Needs.{needs}
+use Rattle.overlay.specs.Pair.{combined}
+use Rattle.overlay.proofs.pair.combined_soc.Statement.{statement}
+use Rattle.overlay.proofs.pair.combined_soc.Tie as tie
+
+laid-over-requires : tie.Need-laid-over-requires
+laid-over-requires c κs = search needs
+
+returns : tie.Need-returns
+unfolding combined
+returns c = rw (c .laid-over .ensures)
+
+pub combined-soc-spec : {M : Type 1} → statement M
+combined-soc-spec = tie.close (tie.spec laid-over-requires returns)

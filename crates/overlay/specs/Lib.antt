@@ -1,0 +1,4 @@
+pub mod Overlay
+pub mod Pair
+pub mod Shown
+pub mod Steps
