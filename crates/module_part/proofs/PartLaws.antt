@@ -2,18 +2,16 @@
 -- Assumes nothing.
 use Prim.Native.Nat.{ℕ, zero, suc, _+_, _-_, _≤_, _<_}
 use native.Mathlib.Omega.{arith}
-use native.Mathlib.Numerals.{add-one}
-use mathlib.Core.Path.{_≡_, refl, sym, ap, _∙_}
+use mathlib.Core.Path.{_≡_, refl, ap, _∙_}
 use mathlib.Core.Bool.{Bool, true, false, cond, _&&_, and-false, false≢true}
 use mathlib.Core.List.{List, [], _∷_, _++_}
-use borrow.Author.Tests.{eq-eqb, ne-eqb, lt-ltb, le-ltb, ltb-true}
+use borrow.Author.Tests.{ne-eqb, lt-ltb, le-ltb, ltb-true}
 use lib.ListN.{length, getD, take, drop, length-drop}
 use lib.Seq.{take-suc, length-take-le}
 use lib.Dec.{ltb, eqb}
-use Rattle.units.proofs.TestLaws.{clash}
 use Rattle.fields.specs.Fields.{gap, gaps, begins, onField, fieldsOf, part}
 use Rattle.fields.specs.Lines.{lineAt}
-use Rattle.fields.specs.Readers.{FieldsGot, no, got, after, bytesDue}
+use Rattle.fields.specs.Readers.{after, bytesDue}
 use Rattle.fields.proofs.LineLaws.{line-is}
 use Rattle.text_lines.specs.Kinds.{moduleDue}
 use Rattle.module_part.specs.ModulePart.{lastEnd, begun, isOf, noPart, widened, withLine, partFrom, modulePart}

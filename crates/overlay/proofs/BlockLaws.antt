@@ -2,13 +2,12 @@
 -- places that the blocks fill. Assumes nothing.
 use Prim.Native.Nat.{ℕ, suc, _+_, _-_, _≤_, _<_}
 use native.Mathlib.Omega.{arith}
-use mathlib.Core.Path.{_≡_, refl, sym, ap, _∙_}
-use mathlib.Core.Bool.{Bool, true, false, cond}
+use mathlib.Core.Path.{_≡_, refl, sym, ap}
+use mathlib.Core.Bool.{true, false}
 use mathlib.Core.List.{List, [], _∷_}
 use Rattle.units.specs.declared.Refusal.{Refusal}
 use Rattle.fields.specs.Lines.{Line}
-use Rattle.fields.specs.Readers.{Got, no, got, FieldsGot, after, give}
-use Rattle.fields.proofs.ReaderLaws.{after-no, after-got}
+use Rattle.fields.specs.Readers.{no, got, FieldsGot, after, give}
 use Rattle.soc.specs.Limits.{modulesMax}
 use Rattle.soc.specs.declared.record.Module.{Module}
 use Rattle.text_lines.specs.Parts.{Whole, refuses, says, closed}

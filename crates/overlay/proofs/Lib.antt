@@ -1,3 +1,1 @@
 pub mod BlockLaws
-pub mod PairLaws
-pub mod ShownLaws

@@ -1,4 +1,2 @@
 pub mod Overlay
-pub mod Pair
-pub mod Shown
 pub mod Steps

@@ -1,5 +1,4 @@
 -- What the answers of the steps of reading an overlay mean: a refusal, or what was read.
-use mathlib.Core.List.{List}
 use Rattle.text_lines.specs.Parts.{Whole, refuses, says}
 use Rattle.text_lines.specs.Kinds.{BlockStart}
 use Rattle.text_lines.specs.declared.part.Verdict.{Verdict}

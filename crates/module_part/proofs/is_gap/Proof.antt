@@ -1,5 +1,4 @@
 -- `module_part::is_gap` meets its contract: each arm's test gives the value of `gap`. Assumes nothing.
-use borrow.Author.Needs.{needs}
 use borrow.Author.Tests.{eq-eqb, ne-eqb}
 use Rattle.module_part.proofs.is_gap.Statement.{statement}
 use Rattle.module_part.proofs.is_gap.Tie as tie

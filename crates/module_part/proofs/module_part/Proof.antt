@@ -3,11 +3,10 @@
 use borrow.Author.Needs.{needs}
 use native.Mathlib.Omega.{arith}
 use Prim.Native.Nat.{_+_, _-_, _≤_}
-use mathlib.Core.Path.{_≡_, refl, sym, ap, _∙_}
+use mathlib.Core.Path.{_≡_, sym, ap, _∙_}
 use lib.ListN.{length}
 use Rattle.fields.proofs.LineLaws.{LineIs, line-is}
 use Rattle.fields.specs.Fields.{part}
-use Rattle.fields.specs.Lines.{lineAt}
 use Rattle.module_part.specs.ModulePart.{withLine, partFrom, modulePart}
 use Rattle.module_part.proofs.PartLaws.{from-more, from-end}
 use Rattle.module_part.proofs.module_part.Statement.{statement}

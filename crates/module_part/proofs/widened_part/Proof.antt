@@ -1,5 +1,4 @@
 -- `module_part::widened_part` meets its contract: its test is that of `widened`. Assumes nothing.
-use borrow.Author.Needs.{needs}
 use borrow.Author.Tests.{eq-eqb, ne-eqb}
 use Rattle.module_part.proofs.widened_part.Statement.{statement}
 use Rattle.module_part.proofs.widened_part.Tie as tie

@@ -2,7 +2,7 @@
 -- one lie in it. Assumes nothing.
 use borrow.Author.Needs.{needs}
 use native.Mathlib.Omega.{arith}
-use Prim.Native.Nat.{_≤_, _-_}
+use Prim.Native.Nat.{_-_}
 use mathlib.Core.Path.{_≡_, sym, ap, _∙_}
 use mathlib.Core.Bool.{true, false}
 use lib.ListN.{length, drop, length-drop}
@@ -10,7 +10,7 @@ use lib.Seq.{length-take-le}
 use Rattle.fields.specs.Fields.{gap, gaps, part}
 use Rattle.fields.specs.Readers.{pastIs}
 use Rattle.fields.proofs.CountLaws.{gaps-counts, count-le}
-use Rattle.module_part.specs.ModulePart.{begun, isOf, widened, withLine}
+use Rattle.module_part.specs.ModulePart.{begun, isOf, withLine}
 use Rattle.module_part.proofs.PartLaws.{last-inside}
 use Rattle.module_part.proofs.with_line.Statement.{statement}
 use Rattle.module_part.proofs.with_line.Tie as tie

@@ -3,13 +3,12 @@
 -- the next number is. The measure is how many blocks may come. Assumes nothing.
 use borrow.Author.Needs.{needs}
 use native.Mathlib.Omega.{arith}
-use Prim.Native.Nat.{_+_, _-_, _≤_, _<_}
-use mathlib.Core.Path.{_≡_, refl, sym, ap, _∙_}
+use Prim.Native.Nat.{_-_, _≤_}
+use mathlib.Core.Path.{_≡_, refl, sym, _∙_}
 use mathlib.Core.Bool.{cond}
 use mathlib.Core.List.{[]}
-use lib.ListN.{length, replicate, length-set}
-use Rattle.fields.specs.Readers.{no, got, after}
-use Rattle.soc.specs.Record.{noModule}
+use lib.ListN.{length, length-set}
+use Rattle.fields.specs.Readers.{got, after}
 use Rattle.text_lines.specs.Kinds.{Options}
 use Rattle.text_line_reader.specs.Due.{linesAt, Inside}
 use Rattle.text_reader.proofs.StepLaws.{step-no, step-next}

@@ -1,6 +1,6 @@
 -- `overlay::read::blocks_to_end` meets its contract. The definition goes on behind the blocks as the code does. Assumes nothing.
 use borrow.Author.Needs.{needs}
-use mathlib.Core.Path.{_≡_, sym, ap, _∙_}
+use mathlib.Core.Path.{sym, ap, _∙_}
 use Rattle.fields.proofs.ReaderLaws.{after-no, after-got}
 use Rattle.text_reader.proofs.StepLaws.{step-no, step-next}
 use Rattle.overlay.specs.Overlay.{withBlocks, answer}
