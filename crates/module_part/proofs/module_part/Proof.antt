@@ -33,7 +33,7 @@ line-at-requires : tie.Need-line-at-requires Inv-loop μ-loop
 line-at-requires c κs = search needs
 
 with-line-requires : tie.Need-with-line-requires Inv-loop μ-loop
-with-line-requires c κs = let f = found c in (f .begin, omega (arith, f .end, f .inside))
+with-line-requires c κs = let f = found c in (omega (arith, f .begin, f .end), omega (arith, f .end, f .inside))
 
 add-n : tie.Need-add-n Inv-loop μ-loop
 add-n c = let f = found (c .before) in omega arith

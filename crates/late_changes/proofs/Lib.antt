@@ -1,0 +1,5 @@
+pub mod BlockAs
+pub mod GoodOverlay
+pub mod GoodPair
+pub mod Laid
+pub mod PairAnswers
