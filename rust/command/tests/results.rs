@@ -177,3 +177,50 @@ fn help_and_version() {
     }
     folder.run(&["--version"]).done(concat!("tallowwing ", env!("CARGO_PKG_VERSION"), "\n"));
 }
+
+/// Module 1 with a chain of 20, in a spacing of its own.
+const OVERLAY: &str = "Overlay t1\r\nOptions Power 0 XY 0\r\n  Module 1 Level 1 Inputs 0 Outputs 0 Bidirs 0 ScanChains 1 : 20\r\n\n\
+    Module\t1 TotalTests 1 \nModule 1 Test 1 ScanUse 1 TamUse 1 Patterns 5 ";
+
+fn pair() -> Folder {
+    let folder = Folder::holding("t1.soc", T1);
+    folder.put("late.overlay", OVERLAY);
+    folder.put("both.soc", T1.replace("ScanChains 1 : 10", "ScanChains 1 : 20"));
+    folder
+}
+
+#[test]
+fn an_overlay_takes_the_place_of_its_modules() {
+    let folder = pair();
+    let both = folder.run(&["soc", "both.soc"]).out;
+    folder.run(&["overlay", "t1.soc", "late.overlay"]).done(&both);
+    for words in [&["plan", "4", "2"][..], &["time", "1", "3"], &["layout", "1", "1", "2"]] {
+        let alone = folder.run(&[&words[..1], &["both.soc"], &words[1..]].concat()).out;
+        folder.run(&[&words[..1], &["t1.soc"], &words[1..], &["--overlay", "late.overlay"]].concat()).done(&alone);
+    }
+}
+
+#[test]
+fn lines_are_shown_as_they_stand() {
+    let folder = pair();
+    let part = OVERLAY[OVERLAY.find("Module").expect("a block")..].trim_end();
+    folder.run(&["lines", "t1.soc", "late.overlay", "1"]).done(part);
+    folder
+        .run(&["lines", "t1.soc", "late.overlay", "0"])
+        .done("Module 0 Level 0 Inputs 0 Outputs 0 Bidirs 0 ScanChains 0 :\nModule 0 TotalTests 0");
+}
+
+#[test]
+fn a_refusal_of_a_pair_names_the_text_that_is_meant() {
+    let folder = pair();
+    let refused = |words: &[&str]| folder.run(words).out;
+    assert_eq!(refused(&["overlay", "late.overlay", "late.overlay"]), "refused 3 line 1 base\n");
+    assert_eq!(refused(&["overlay", "t1.soc", "t1.soc"]), "refused 3 line 1 overlay\n");
+    assert_eq!(refused(&["lines", "t1.soc", "late.overlay", "3"]), "refused 13 line 0\n");
+    folder.put("late.overlay", OVERLAY.replace("XY 0", "XY 1"));
+    assert_eq!(refused(&["overlay", "t1.soc", "late.overlay"]), "refused 15 line 0 overlay\n");
+    assert_eq!(
+        refused(&["plan", "t1.soc", "4", "2", "--json", "--overlay", "late.overlay"]),
+        "{\"refused\":15,\"line\":0,\"text\":\"overlay\"}\n"
+    );
+}

@@ -1,10 +1,11 @@
 //! Every entry of the C interface, on slices: the figure, or the refusal.
 
 use crate::forms::{layout_bytes, plan_bytes, plan_from, soc_bytes, soc_from};
+use crate::overlay::{PairRefusal, Text};
 use crate::plan::Plan;
 use crate::refusal::{demand, Refusal};
 use crate::soc::Soc;
-use crate::{listing, plan_file, planner, soc_text, soc_written, time};
+use crate::{listing, overlay, plan_file, planner, soc_text, soc_written, time};
 
 pub type Outcome = Result<u64, Refusal>;
 
@@ -50,6 +51,26 @@ pub fn show(plan: &[u8], listing: &mut [u8]) -> Outcome {
 
 pub fn listing(input: &[u8], listing: &mut [u8]) -> Outcome {
     give(listing::listing(input).as_bytes(), listing)
+}
+
+/// A refusal of a pair has as its line 4 times the line, and 1 more for the base or 2 more for the overlay.
+fn of_pair(refused: PairRefusal) -> Refusal {
+    let text = match refused.text {
+        Text::Neither => 0,
+        Text::Base => 1,
+        Text::Overlay => 2,
+    };
+    Refusal::at(refused.refusal.number, 4 * refused.refusal.line + text)
+}
+
+pub fn read_pair(base: &[u8], overlay: &[u8], record: &mut [u8]) -> Outcome {
+    let (soc, _) = overlay::read_pair(base, overlay).map_err(of_pair)?;
+    give(&soc_bytes(&soc), record).map_err(|refusal| of_pair(PairRefusal { refusal, text: Text::Neither }))
+}
+
+pub fn module_lines(base: &[u8], overlay: &[u8], module: u32) -> Outcome {
+    let (text, from, to) = overlay::module_lines(base, overlay, module).map_err(of_pair)?;
+    Ok(131_072 * from as u64 + 2 * to as u64 + u64::from(text == Text::Overlay))
 }
 
 fn good_soc(record: &[u8]) -> Result<Soc, Refusal> {

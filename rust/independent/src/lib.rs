@@ -10,6 +10,7 @@ pub mod layout;
 pub mod limits;
 pub mod lines;
 pub mod listing;
+pub mod overlay;
 pub mod plan;
 pub mod plan_file;
 pub mod planner;

@@ -27,6 +27,11 @@ impl<'a> LineReader<'a> {
         }
     }
 
+    /// Whether no line is left but blank ones.
+    pub fn at_end(&self) -> bool {
+        LineReader { ..*self }.next_filled().is_none()
+    }
+
     fn next_filled(&mut self) -> Option<Fields<'a>> {
         while self.position < self.text.len() {
             let rest = &self.text[self.position..];

@@ -11,7 +11,7 @@ pub fn read(text: &[u8]) -> Result<Soc, Refusal> {
     check_bytes(text)?;
     let mut lines = LineReader::new(text);
     let mut soc = Soc::spare();
-    read_name(&mut soc, &mut lines)?;
+    read_name("SocName", &mut soc, &mut lines)?;
     read_module_count(&mut soc, &mut lines)?;
     read_options(&mut soc, &mut lines)?;
     for number in 0..soc.module_count as usize {
@@ -23,7 +23,7 @@ pub fn read(text: &[u8]) -> Result<Soc, Refusal> {
 }
 
 /// Bytes are judged before any field, wherever they stand.
-fn check_bytes(text: &[u8]) -> Result<(), Refusal> {
+pub fn check_bytes(text: &[u8]) -> Result<(), Refusal> {
     let mut line = 1;
     for (place, &byte) in text.iter().enumerate() {
         let allowed = match byte {
@@ -39,9 +39,9 @@ fn check_bytes(text: &[u8]) -> Result<(), Refusal> {
     Ok(())
 }
 
-fn read_name(soc: &mut Soc, lines: &mut LineReader) -> Result<(), Refusal> {
+pub fn read_name(keyword: &str, soc: &mut Soc, lines: &mut LineReader) -> Result<(), Refusal> {
     let mut fields = lines.due()?;
-    fields.keyword("SocName")?;
+    fields.keyword(keyword)?;
     let name = fields.field()?;
     let good = name.len() <= limits::NAME_BYTES && name.iter().all(|&byte| name_byte(byte));
     fields.demand(good, 3)?;
@@ -57,7 +57,7 @@ fn read_module_count(soc: &mut Soc, lines: &mut LineReader) -> Result<(), Refusa
     fields.end()
 }
 
-fn read_options(soc: &mut Soc, lines: &mut LineReader) -> Result<(), Refusal> {
+pub fn read_options(soc: &mut Soc, lines: &mut LineReader) -> Result<(), Refusal> {
     let mut fields = lines.due()?;
     fields.keyword("Options")?;
     fields.keyword("Power")?;
@@ -70,6 +70,23 @@ fn read_options(soc: &mut Soc, lines: &mut LineReader) -> Result<(), Refusal> {
 fn read_module(number: usize, previous: Option<u32>, soc: &Soc, lines: &mut LineReader) -> Result<Module, Refusal> {
     let mut module = Module { x: NOT_GIVEN, y: NOT_GIVEN, ..Module::SPARE };
     read_level_line(&mut module, number, previous, lines)?;
+    read_behind_level(module, number, soc, lines)
+}
+
+/// A block of an overlay, whose number is from `least` to 39; no level rule is tested.
+pub fn read_block(least: usize, soc: &Soc, lines: &mut LineReader) -> Result<(usize, Module), Refusal> {
+    let mut module = Module { x: NOT_GIVEN, y: NOT_GIVEN, ..Module::SPARE };
+    let mut fields = lines.due()?;
+    fields.keyword("Module")?;
+    let number = fields.number(0, limits::MODULES as u32 - 1)? as usize;
+    fields.demand(number >= least, 5)?;
+    fields.keyword("Level")?;
+    module.level = fields.number(0, limits::LEVEL)?;
+    read_shape(&mut module, &mut fields)?;
+    Ok((number, read_behind_level(module, number, soc, lines)?))
+}
+
+fn read_behind_level(mut module: Module, number: usize, soc: &Soc, lines: &mut LineReader) -> Result<Module, Refusal> {
     let mut fields = module_line(number, lines)?;
     // The third field alone tells a position line from the one that says how many tests there are.
     if soc.xy && fields.peek() == Some(b"X") {
@@ -98,6 +115,10 @@ fn read_level_line(module: &mut Module, number: usize, previous: Option<u32>, li
     fields.keyword("Level")?;
     module.level = fields.number(0, limits::LEVEL)?;
     fields.demand(level_follows(module.level, previous), 5)?;
+    read_shape(module, &mut fields)
+}
+
+fn read_shape(module: &mut Module, fields: &mut Fields) -> Result<(), Refusal> {
     fields.keyword("Inputs")?;
     module.inputs = fields.number(0, limits::TERMINALS)?;
     fields.keyword("Outputs")?;
