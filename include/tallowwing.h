@@ -80,9 +80,9 @@ uint64_t tallowwing_read_soc(const uint8_t *text, size_t text_len, uint8_t *reco
 uint64_t tallowwing_read_pair(
     const uint8_t *base, size_t base_len, const uint8_t *overlay, size_t overlay_len, uint8_t *record, size_t record_len);
 
-/* Where the lines of a module of a pair stand, from their first field to their last. Refusals as of tallowwing_read_pair, then 13; their line
- * and text as there. Of the figure, figure / 131072 is the place of the first byte, figure / 2 % 65536 the place behind the last one, and
- * figure % 2 is 1 where they stand in the overlay, 0 where they stand in the base. */
+/* Where the lines of a module of a pair stand, from their first field to their last. Refusals as of tallowwing_read_pair without 11, then
+ * 13; their line and text as there. Of the figure, figure / 131072 is the place of the first byte, figure / 2 % 65536 the place behind the
+ * last one, and figure % 2 is 1 where they stand in the overlay, 0 where they stand in the base. */
 uint64_t tallowwing_module_lines(const uint8_t *base, size_t base_len, const uint8_t *overlay, size_t overlay_len, uint32_t module);
 
 /* Writes the written form of a SOC record. Refusals 14, 11. The figure is the number of bytes written. A record of another length than

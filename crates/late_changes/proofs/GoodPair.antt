@@ -1,32 +1,20 @@
 -- The combined description of a pair that is accepted is good, so that whatever takes a record takes it. Assumes nothing.
-use Prim.Native.Nat.{ℕ, _+_, _≤_}
+use Prim.Native.Nat.{_+_}
 use native.Mathlib.Omega.{arith}
 use mathlib.Core.Path.{_≡_, refl, sym, ap, _∙_}
-use mathlib.Core.Bool.{Bool, true, false, cond, _&&_}
-use mathlib.Core.List.{List}
-use mathlib.Core.Logic.{_⊎_, inl, inr}
-use borrow.Author.Tests.{eqb-true, eqb-false}
+use mathlib.Core.Bool.{Bool, true, false, _&&_}
 use lib.Dec.{leb, eqb}
 use lib.ListN.{take, drop}
 use Rattle.units.specs.Places.{allOf}
-use Rattle.units.specs.Refusals.{refused}
-use Rattle.units.specs.declared.Refusal.{Refusal}
 use Rattle.units.proofs.TestLaws.{and-both, and-holds}
 use Rattle.fields.specs.Bytes.{sameBytes}
 use Rattle.soc.specs.Limits.{modulesMax}
 use Rattle.soc.specs.Rules.{goodName, goodModules, spareModule, goodSoc}
 use Rattle.soc.specs.declared.record.Soc.{Soc}
-use Rattle.text_reader.specs.Reading.{acceptedSoc, refusedSoc, readSoc}
-use Rattle.text_reader.specs.declared.read.SocRead.{SocRead}
-use Rattle.text.proofs.Acceptance.{accepts-or-refuses, accepted-good}
-use Rattle.overlay.specs.Overlay.{readOverlay}
 use Rattle.overlay.specs.declared.read.Overlay.{Overlay}
-use Rattle.overlay.specs.declared.read.OverlayRead.{OverlayRead}
-use Rattle.pair.specs.Pair.{sameFlag, sameHead, placesFit, fits, laid, combined, refusedPair, acceptedPair, joined, pairOf, readPair}
+use Rattle.pair.specs.Pair.{sameFlag, sameHead, placesFit, fits, laid, combined}
 use Rattle.pair.specs.declared.read.Meant.the-variants as meant
-use Rattle.pair.specs.declared.read.PairRead.{PairRead}
 use Rattle.late_changes.specs.Blocks.{GoodPlaces}
-use Rattle.late_changes.proofs.GoodOverlay.{read-good}
 use Rattle.late_changes.proofs.Laid.{laid-good, laid-behind}
 
 pub same-flag : (a b : Bool) → sameFlag a b ≡ true → a ≡ b
@@ -36,7 +24,7 @@ same-flag false true e = e
 same-flag false false e = refl
 
 -- what an overlay that fits says of its options and its places
-head-options : (s : Soc) (o : Overlay) → sameHead s o ≡ true → (s .power ≡ o .power) × (s .xy ≡ o .xy)
+pub head-options : (s : Soc) (o : Overlay) → sameHead s o ≡ true → (s .power ≡ o .power) × (s .xy ≡ o .xy)
 unfolding sameHead
 head-options s o h =
     let f = sameFlag (s .power) (o .power) && sameFlag (s .xy) (o .xy) in
@@ -61,41 +49,3 @@ combined-good s o g f p =
     let u = laid-good (s .power) (s .xy) n n 0 0 (o .has) (o .modules) (s .modules) (d .0) (h .1) (λ i t. let z : 0 + i ≡ i = omega arith in rw z (q .each i t)) in
     let v : allOf spareModule (drop n (laid (o .has) (o .modules) (s .modules))) ≡ true = ap (allOf spareModule) (laid-behind n n 0 (o .has) (o .modules) (s .modules) (omega arith) (h .1)) ∙ d .1 in
     and-holds (a .0) (and-holds (b .0) (and-holds (c .0) (and-holds u v)))
-
--- a base whose reading refuses nothing is good
-base-good : (t : List ℕ) → readSoc t .refusal .number ≡ 0 → goodSoc (readSoc t .soc) ≡ true
-base-good t h = go (accepts-or-refuses t)
-  where
-    go : ((s : Soc) × (readSoc t ≡ acceptedSoc s)) ⊎ ((r : Refusal) × (readSoc t ≡ refusedSoc r) × (1 ≤ r .number) × (r .number ≤ 6)) → goodSoc (readSoc t .soc) ≡ true
-    go (inl (s, e)) = ap (λ (a : SocRead). goodSoc (a .soc)) e ∙ accepted-good t s e
-    go (inr (r, e, l, m)) =
-        let z : r .number ≡ 0 = sym (ap (λ (a : SocRead). a .refusal .number) e) ∙ h in
-        absurd (omega arith)
-
--- a pair that is accepted
-joined-good : (s : Soc) (o : Overlay) → goodSoc s ≡ true → GoodPlaces (o .power) (o .xy) (o .has) (o .modules) → joined s o .refusal .number ≡ 0 → goodSoc (joined s o .soc) ≡ true
-unfolding joined
-joined-good s o g p h = go (fits s o) refl h
-  where
-    go : (t : Bool) → fits s o ≡ t → cond t (acceptedPair (combined s o) (o .has)) (refusedPair (refused 15 0) meant.Overlay) .refusal .number ≡ 0
-        → goodSoc (cond t (acceptedPair (combined s o) (o .has)) (refusedPair (refused 15 0) meant.Overlay) .soc) ≡ true
-    go true e h = combined-good s o g e p
-    go false e h = absurd (omega arith)
-
-pub pair-good : (base overlay : List ℕ) → readPair base overlay .refusal .number ≡ 0 → goodSoc (readPair base overlay .soc) ≡ true
-unfolding readPair pairOf
-pair-good base overlay h = go (eqb (b .refusal .number) 0) refl (eqb (o .refusal .number) 0) refl h
-  where
-    b : SocRead
-    b = readSoc base
-
-    o : OverlayRead
-    o = readOverlay overlay
-
-    chosen : Bool → Bool → PairRead
-    chosen t u = cond t (cond u (joined (b .soc) (o .overlay)) (refusedPair (o .refusal) meant.Overlay)) (refusedPair (b .refusal) meant.Base)
-
-    go : (t : Bool) → eqb (b .refusal .number) 0 ≡ t → (u : Bool) → eqb (o .refusal .number) 0 ≡ u → chosen t u .refusal .number ≡ 0 → goodSoc (chosen t u .soc) ≡ true
-    go true e true f h = joined-good (b .soc) (o .overlay) (base-good base (eqb-true (b .refusal .number) 0 e)) (read-good overlay) h
-    go true e false f h = absurd (eqb-false (o .refusal .number) 0 f h)
-    go false e u f h = absurd (eqb-false (b .refusal .number) 0 e h)

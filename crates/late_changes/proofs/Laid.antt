@@ -31,7 +31,7 @@ place-fits n m o b e =
     (ltb-true m n (a .0), eqb-true (o .level) (b .level) (a .1))
 
 -- a module of a SOC text keeps the level rule
-rule-of : (power xy : Bool) (m last : ℕ) (d : Module) → goodModule power xy m last d ≡ true → levelRule m last (d .level) ≡ true
+pub rule-of : (power xy : Bool) (m last : ℕ) (d : Module) → goodModule power xy m last d ≡ true → levelRule m last (d .level) ≡ true
 unfolding goodModule
 rule-of power xy m last d g =
     let r = goodTerminals d && (goodChains d && (goodPosition xy (d .x) (d .y) && goodTests power d)) in

@@ -50,7 +50,7 @@ place-back n m true o b e = and-holds (lt-ltb m n (e refl .0)) (eq-eqb (o .level
 place-back n m false o b e = refl
 
 module _ (n : ℕ) where
-  places-only : (m i : ℕ) (hs : List Bool) (os bs : List Module) → placesFit n m hs os bs ≡ true → i < length os → i < length bs → getD hs i false ≡ true
+  pub places-only : (m i : ℕ) (hs : List Bool) (os bs : List Module) → placesFit n m hs os bs ≡ true → i < length os → i < length bs → getD hs i false ≡ true
       → (m + i < n) × (getD os i noModule .level ≡ getD bs i noModule .level)
   unfolding placesFit
   places-only m i [] os bs f k l e = absurd (false≢true e)
