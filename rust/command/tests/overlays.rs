@@ -115,3 +115,19 @@ fn the_base_is_judged_first() {
     folder.put("late.overlay", "Overlay\n");
     assert_eq!(folder.run(&["overlay", "wide.soc", "late.overlay"]).out, "refused 4 line 4 base\n");
 }
+
+#[test]
+fn the_example_changes_two_cores_of_d695() {
+    let (base, overlay) = (include_str!("../../../examples/d695.soc"), include_str!("../../../examples/d695.overlay"));
+    let folder = Folder::holding("d695.soc", base);
+    folder.put("d695.overlay", overlay);
+    let (before, after) = (folder.run(&["soc", "d695.soc"]).out, folder.run(&["overlay", "d695.soc", "d695.overlay"]).out);
+    let changed: Vec<(&str, &str)> = before.lines().zip(after.lines()).filter(|(before, after)| before != after).collect();
+    assert_eq!(changed.iter().map(|(before, _)| &before[..9]).collect::<Vec<_>>(), ["Module 5 ", "Module 9 "]);
+    folder.put("both.soc", &after);
+    let alone = folder.run(&["plan", "both.soc", "32", "3"]).out;
+    folder.run(&["plan", "d695.soc", "32", "3", "--overlay", "d695.overlay"]).done(&alone);
+    folder
+        .run(&["lines", "d695.soc", "d695.overlay", "5"])
+        .done(overlay[overlay.find("Module 5").expect("it")..overlay.find("\n\tModule  9").expect("it")].trim_end());
+}
