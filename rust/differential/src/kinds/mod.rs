@@ -3,7 +3,7 @@
 mod listings;
 mod plans;
 mod records;
-mod texts;
+pub mod texts;
 
 use independent::limits;
 use tallowwing_library::{LAYOUT_BYTES, PLAN_BYTES, PLAN_FILE_MAX, SOC_BYTES};
