@@ -8,7 +8,7 @@
  *
  * An answer is one number:
  *
- *   answer % 256   0, or the number of the refusal (1 to 14)
+ *   answer % 256   0, or the number of the refusal (1 to 15)
  *   answer / 256   of a refusal its line, counted from 1, or 0 where it has none; else the figure that the function gives
  *
  * A refused call leaves every lent byte as it was. One that is not refused writes its result at the front of the bytes lent for it and
@@ -30,6 +30,7 @@
  *   12 this is not a good plan file or plan record
  *   13 there is no such module, or no such test in it
  *   14 the SOC record breaks a limit or rule of the text, or a spare place in it is not 0
+ *   15 the overlay does not fit the base: another name or options, a module that is not there, or another level
  */
 #ifndef TALLOWWING_H
 #define TALLOWWING_H
@@ -73,6 +74,17 @@ extern "C" {
 
 /* Reads a SOC text to its record. Refusals 1 to 6 with their line, then 11. The figure is 16,688, the bytes written. */
 uint64_t tallowwing_read_soc(const uint8_t *text, size_t text_len, uint8_t *record, size_t record_len);
+
+/* Reads a SOC text, the base, and an overlay to the record of the combined description: each module is the overlay's where it has it,
+ * otherwise the base's. Every function on a record takes it. Refusals 1 to 6 of the base, 1 to 6 of the overlay, 15, then 11. Of a refusal
+ * answer / 256 is 4 times its line, and 1 more where the base is meant, 2 more where the overlay is. The figure is 16,688. */
+uint64_t tallowwing_read_pair(
+    const uint8_t *base, size_t base_len, const uint8_t *overlay, size_t overlay_len, uint8_t *record, size_t record_len);
+
+/* Where the lines of a module of a pair stand, from their first field to their last. Refusals as of tallowwing_read_pair without 11, then
+ * 13; their line and text as there. Of the figure, figure / 131072 is the place of the first byte, figure / 2 % 65536 the place behind the
+ * last one, and figure % 2 is 1 where they stand in the overlay, 0 where they stand in the base. */
+uint64_t tallowwing_module_lines(const uint8_t *base, size_t base_len, const uint8_t *overlay, size_t overlay_len, uint32_t module);
 
 /* Writes the written form of a SOC record. Refusals 14, 11. The figure is the number of bytes written. A record of another length than
  * 16,688 bytes, or with a flag that is neither 0 nor 1, is not good: 14, here and below. */

@@ -17,6 +17,14 @@ static const char text[] =
     "Module 2 TotalTests 1\n"
     "Module 2 Test 1 ScanUse 1 TamUse 1 Patterns 4\n";
 
+static const char overlay[] =
+    "Overlay t1\r\n"
+    "Options Power 0 XY 0\r\n"
+    "  Module 1 Level 1 Inputs 0 Outputs 0 Bidirs 0 ScanChains 1 : 20\r\n"
+    "\n"
+    "Module\t1 TotalTests 1 \n"
+    "Module 1 Test 1 ScanUse 1 TamUse 1 Patterns 5 ";
+
 static const char listing[] =
     "soc t1 wires 4 limit 2 time 65\n"
     "bus 1 width 1 busy 65\n"
@@ -59,12 +67,28 @@ int main(void)
     static uint8_t soc[TALLOWWING_SOC_BYTES], written[TALLOWWING_TEXT_MAX], layout[TALLOWWING_LAYOUT_BYTES];
     static uint8_t plan[TALLOWWING_PLAN_BYTES], again[TALLOWWING_PLAN_BYTES], file[TALLOWWING_PLAN_FILE_MAX];
     static uint8_t input[9 + sizeof text], listed[TALLOWWING_LISTING_MAX];
-    const size_t length = sizeof text - 1;
+    static uint8_t pair[TALLOWWING_SOC_BYTES];
+    static const char other[] =
+        "SocName t1\nTotalModules 1\nOptions Power 0 XY 0\n"
+        "Module 0 Level 0 Inputs 0 Outputs 0 Bidirs 0 ScanChains 0 :\nModule 0 TotalTests 0\n";
+    const uint8_t *base = (const uint8_t *)text, *late = (const uint8_t *)overlay, *short_base = (const uint8_t *)other;
+    const size_t length = sizeof text - 1, over = sizeof overlay - 1;
 
     expect("read", tallowwing_read_soc((const uint8_t *)text, length, soc, sizeof soc), 0, TALLOWWING_SOC_BYTES);
     expect("read a part", tallowwing_read_soc((const uint8_t *)text, 26, soc, sizeof soc), 6, 0);
     expect("read, wrong line", tallowwing_read_soc((const uint8_t *)text, 20, soc, sizeof soc), 3, 2);
     expect("read, no room", tallowwing_read_soc((const uint8_t *)text, length, soc, sizeof soc - 1), 11, 0);
+    expect("pair", tallowwing_read_pair(base, length, late, over, pair, sizeof pair), 0, sizeof pair);
+    expect("pair, no room", tallowwing_read_pair(base, length, late, over, pair, 7), 11, 0);
+    expect("pair, base", tallowwing_read_pair(base, 20, late, over, pair, sizeof pair), 3, 4 * 2 + 1);
+    expect("pair, overlay", tallowwing_read_pair(base, length, base, length, pair, sizeof pair), 3, 4 * 1 + 2);
+    expect("pair, unfit", tallowwing_read_pair(short_base, sizeof other - 1, late, over, pair, sizeof pair), 15, 2);
+    expect("pair, chain", pair[48 + 416 + 20], 20, 0);
+    expect("lines", tallowwing_module_lines(base, length, late, over, 1), 0,
+           131072ul * 36 + 2ul * (over - 1) + 1);
+    expect("lines of the base", tallowwing_module_lines(base, length, late, over, 0), 0,
+           131072ul * 47 + 2ul * 128);
+    expect("lines, no module", tallowwing_module_lines(base, length, late, over, 3), 13, 0);
     expect("write", tallowwing_write_soc(soc, sizeof soc, written, sizeof written), 0, length);
     expect_bytes("written", written, text, length);
     expect("layout", tallowwing_layout(soc, sizeof soc, 2, 1, 3, layout, sizeof layout), 0, TALLOWWING_LAYOUT_BYTES);

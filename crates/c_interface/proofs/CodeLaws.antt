@@ -1,6 +1,6 @@
 -- Laws of what the entries answer: nothing refused and a figure, or the refusal; and a result of bytes, which is never empty. Assumes nothing.
-use Prim.Native.Nat.{ℕ, _<_}
-use mathlib.Core.Path.{_≡_, refl, ap, _∙_}
+use Prim.Native.Nat.{ℕ, _≤_, _<_}
+use mathlib.Core.Path.{_≡_, refl, sym, ap, _∙_}
 use mathlib.Core.Bool.{Bool, true, false, cond}
 use mathlib.Core.List.{List}
 use native.Mathlib.Omega.{arith}
@@ -9,7 +9,12 @@ use lib.Dec.{leb}
 use lib.ListN.{length}
 use Rattle.units.specs.declared.Refusal.{Refusal}
 use Rattle.buffer.specs.Puts.{putFront, putCount}
-use Rattle.c_interface.specs.Codes.{above, code, bytesCode, given, givenUnless, heldUnless}
+use Rattle.c_forms.specs.SocForm.{socBytes}
+use Rattle.c_interface.specs.Codes.{above, code, bytesCode, given, givenUnless, heldUnless, meantNumber, pairRefused, pairCode, partFigure, shownCode}
+use Rattle.pair.specs.declared.read.Meant.{Meant}
+use Rattle.pair.specs.declared.read.Meant.the-variants as meant
+use Rattle.pair.specs.declared.read.PairRead.{PairRead}
+use Rattle.pair.specs.declared.shown.Shown.{Shown}
 
 module _ (r : Refusal) (v : ℕ) where
   pub code-none : r .number ≡ 0 → above 0 v ≡ code r v
@@ -52,3 +57,35 @@ module _ {r q : Refusal} (same : r ≡ q) where
       let t = eq-eqb (r .number) 0 z in
       let g : bytesCode (putCount w buf) ≡ given w buf = given-code w buf (omega (arith, p .2)) in
       (e ∙ ap bytesCode (p .0) ∙ g ∙ rw (← same, t, ← m), p .1 ∙ rw (← same, t, ← m))
+
+-- a pair
+
+pub meant-most : (m : Meant) → meantNumber m ≤ 2
+unfolding meantNumber
+meant-most meant.Neither = omega arith
+meant-most meant.Base = omega arith
+meant-most meant.Overlay = omega arith
+
+-- q is what the definition says of the answer p that the code holds
+module _ {p q : PairRead} (same : p ≡ q) (buf : List ℕ) {c : ℕ} where
+  pub pair-refused : (p .refusal .number ≡ 0 → ⊥) → c ≡ pairRefused (p .refusal) (p .meant) → (c ≡ pairCode q buf) × (buf ≡ heldUnless (q .refusal) (socBytes (q .soc)) buf)
+  unfolding pairCode heldUnless
+  pair-refused h e = let t = ne-eqb (p .refusal .number) 0 h in (e ∙ rw (← same, t), rw (← same, t))
+
+  pub pair-given : {held : List ℕ} → p .refusal .number ≡ 0 → (c ≡ givenUnless (q .refusal) (socBytes (q .soc)) buf) × (held ≡ heldUnless (q .refusal) (socBytes (q .soc)) buf)
+      → (c ≡ pairCode q buf) × (held ≡ heldUnless (q .refusal) (socBytes (q .soc)) buf)
+  unfolding pairCode givenUnless
+  pair-given h e =
+      let z : q .refusal .number ≡ 0 = sym (ap (λ (a : PairRead). a .refusal .number) same) ∙ h in
+      let t = eq-eqb (q .refusal .number) 0 z in
+      let k : givenUnless (q .refusal) (socBytes (q .soc)) buf ≡ pairCode q buf = rw t in
+      (e .0 ∙ k, e .1)
+
+module _ {s q : Shown} (same : s ≡ q) {c : ℕ} where
+  pub shown-refused : (s .refusal .number ≡ 0 → ⊥) → c ≡ pairRefused (s .refusal) (s .meant) → c ≡ shownCode q
+  unfolding shownCode
+  shown-refused h e = let t = ne-eqb (s .refusal .number) 0 h in e ∙ rw (← same, t)
+
+  pub shown-figure : s .refusal .number ≡ 0 → c ≡ above 0 (partFigure (s .over) (s .part .from) (s .part .to)) → c ≡ shownCode q
+  unfolding shownCode
+  shown-figure h e = let t = eq-eqb (s .refusal .number) 0 h in e ∙ rw (← same, t)

@@ -1,7 +1,7 @@
 -- What the functions for other languages answer: one number, whose lowest byte is the refusal's number or 0, above it the refusal's line, or the figure
 -- that the function gives.
 use Prim.Native.Nat.{ℕ, _+_, _*_, _%_}
-use mathlib.Core.Bool.{cond}
+use mathlib.Core.Bool.{Bool, cond}
 use mathlib.Core.List.{List}
 use lib.ListN.{length}
 use lib.Dec.{leb, eqb}
@@ -9,6 +9,12 @@ use Rattle.units.specs.declared.Refusal.{Refusal}
 use Rattle.buffer.specs.Puts.{putFront}
 use Rattle.text_reader.specs.Reading.{readSoc}
 use Rattle.text_writer.specs.WrittenSoc as soctext
+use Rattle.pair.specs.Pair.{readPair}
+use Rattle.pair.specs.Shown.{linesShown}
+use Rattle.pair.specs.declared.read.Meant.{Meant}
+use Rattle.pair.specs.declared.read.Meant.the-variants as meant
+use Rattle.pair.specs.declared.read.PairRead.{PairRead}
+use Rattle.pair.specs.declared.shown.Shown.{Shown}
 use Rattle.wrapper.specs.WrapperAnswers.{layoutAnswer, testTimeAnswer, moduleTimeAnswer}
 use Rattle.plan.specs.PlanAnswers.{planAnswer}
 use Rattle.plan_file.specs.Files as planfile
@@ -99,3 +105,35 @@ showCode b buf = code (showAnswer (planIn b) buf .refusal) (showAnswer (planIn b
 
 abbrev pub showHeld : List ℕ → List ℕ → List ℕ
 showHeld b buf = showLeaves (planIn b) buf
+
+-- "the answer says which text is meant": 0 neither, 1 the base, 2 the overlay
+unfoldable pub meantNumber : Meant → ℕ
+meantNumber meant.Neither = 0
+meantNumber meant.Base = 1
+meantNumber meant.Overlay = 2
+
+abbrev pub lineMax : ℕ
+lineMax = 18014398509481984
+
+-- a refusal of a pair: 4 times its line, and the text that is meant
+unfoldable pub pairRefused : Refusal → Meant → ℕ
+pairRefused r m = above (r .number) (4 * (r .line % lineMax) + meantNumber m)
+
+unfoldable pub pairCode : PairRead → List ℕ → ℕ
+pairCode p buf = cond (eqb (p .refusal .number) 0) (given (socBytes (p .soc)) buf) (pairRefused (p .refusal) (p .meant))
+
+abbrev pub readPairCode : List ℕ → List ℕ → List ℕ → ℕ
+readPairCode base overlay buf = pairCode (readPair base overlay) buf
+
+abbrev pub readPairHeld : List ℕ → List ℕ → List ℕ → List ℕ
+readPairHeld base overlay buf = heldUnless (readPair base overlay .refusal) (socBytes (readPair base overlay .soc)) buf
+
+-- where the lines of a module stand, in texts of at most 61,440 bytes: 131,072 times where they begin, and twice where they end, and 1 in the overlay
+unfoldable pub partFigure : Bool → ℕ → ℕ → ℕ
+partFigure over from to = 131072 * (from % 65536) + 2 * (to % 65536) + cond over 1 0
+
+unfoldable pub shownCode : Shown → ℕ
+shownCode s = cond (eqb (s .refusal .number) 0) (above 0 (partFigure (s .over) (s .part .from) (s .part .to))) (pairRefused (s .refusal) (s .meant))
+
+abbrev pub moduleLinesCode : List ℕ → List ℕ → ℕ → ℕ
+moduleLinesCode base overlay m = shownCode (linesShown base overlay m)

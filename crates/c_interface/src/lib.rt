@@ -1,9 +1,10 @@
 // Every entry of the library for callers in other languages, on numbers and bytes (include/tallowwing.h). An answer is one number: its lowest byte
 // is the refusal's number or 0, above it stands the refusal's line, or the figure that the function gives.
+use pair::Meant;
 use units::Refusal;
 use units::Wires;
 ghost use mathlib.Core.Path.{_≡_};
-ghost use Rattle.c_interface.specs.Codes.{above, code, bytesCode, readCode, readHeld, writeCode, writeHeld, layoutCode, layoutHeld, testTimeCode, moduleTimeCode, moduleWiresCode, planCode, planHeld, writePlanCode, writePlanHeld, readPlanCode, readPlanHeld, listingCode, listingHeld, showCode, showHeld};
+ghost use Rattle.c_interface.specs.Codes.{above, code, bytesCode, readCode, readHeld, writeCode, writeHeld, layoutCode, layoutHeld, testTimeCode, moduleTimeCode, moduleWiresCode, planCode, planHeld, writePlanCode, writePlanHeld, readPlanCode, readPlanHeld, listingCode, listingHeld, showCode, showHeld, meantNumber, pairRefused, readPairCode, readPairHeld, partFigure, moduleLinesCode};
 
 // v has 56 bits: a line and a length stay far below, and a time has at most 46.
 fn above_byte(n: u8, v: u64) -> u64
@@ -143,4 +144,58 @@ pub extern "C" fn tallowwing_show(from: &[u8], into: &mut [u8]) -> u64
     let p = c_forms::plan_in(from);
     let shown = listing::show(p, &mut *into);
     code_of(shown.refusal, shown.len as u64)
+}
+
+fn meant_number(m: Meant) -> u64
+    ensures { λ r. ⌜ r ≡ meantNumber m ⌝ }
+{
+    match m {
+        Meant::Neither => 0,
+        Meant::Base => 1,
+        Meant::Overlay => 2,
+    }
+}
+
+// A line stays far below 2⁵⁴.
+fn pair_refused(r: Refusal, m: Meant) -> u64
+    ensures { λ c. ⌜ c ≡ pairRefused r m ⌝ }
+{
+    above_byte(
+        r.number,
+        4 * (r.line as u64 % 18014398509481984) + meant_number(m),
+    )
+}
+
+#[no_mangle]
+pub extern "C" fn tallowwing_read_pair(base: &[u8], overlay: &[u8], into: &mut [u8]) -> u64
+    ensures { λ r. ⌜ (r ≡ readPairCode (now (base .entry)) (now (overlay .entry)) (now (into .entry))) × (now (into .exit) ≡ readPairHeld (now (base .entry)) (now (overlay .entry)) (now (into .entry))) ⌝ }
+{
+    let read = pair::read_pair(base, overlay);
+    if read.refusal.number != 0 {
+        let meant = read.meant;
+        return pair_refused(read.refusal, meant);
+    }
+    code_of_bytes(c_forms::soc_bytes(read.soc, &mut *into))
+}
+
+fn part_figure(over: bool, from: usize, to: usize) -> u64
+    ensures { λ r. ⌜ r ≡ partFigure over from to ⌝ }
+{
+    let places = 131072 * (from as u64 % 65536) + 2 * (to as u64 % 65536);
+    if over {
+        return places + 1;
+    }
+    places + 0
+}
+
+#[no_mangle]
+pub extern "C" fn tallowwing_module_lines(base: &[u8], overlay: &[u8], module: u32) -> u64
+    ensures { λ r. ⌜ r ≡ moduleLinesCode (now (base .entry)) (now (overlay .entry)) «module» ⌝ }
+{
+    let shown = pair::lines_shown(base, overlay, module);
+    if shown.refusal.number != 0 {
+        let meant = shown.meant;
+        return pair_refused(shown.refusal, meant);
+    }
+    above_byte(0, part_figure(shown.over, shown.part.from, shown.part.to))
 }

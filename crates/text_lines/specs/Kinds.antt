@@ -1,8 +1,9 @@
 -- The lines of a SOC text (document 01, "The SOC text"), each a reading of its fields from the left.
-use Prim.Native.Nat.{ℕ}
+use Prim.Native.Nat.{ℕ, _-_}
 use mathlib.Core.Bool.{Bool, true, false, cond, not}
 use mathlib.Core.List.{List, [], _∷_}
 use lib.ListN.{length}
+use lib.Dec.{leb}
 use lib.IntN.{ℤ}
 use Rattle.units.specs.declared.FlipFlops.{FlipFlops}
 use Rattle.fields.specs.Bytes.{bytes}
@@ -30,6 +31,12 @@ nameLine = do
   word "SocName"
   namePart
 
+-- "An overlay is a text: `Overlay` and the SOC's name"
+unfoldable pub overlayLine : Reader Name
+overlayLine = do
+  word "Overlay"
+  namePart
+
 -- "`TotalModules` n, 1 to 40"
 unfoldable pub totalLine : Reader ℕ
 totalLine = keyed "TotalModules" 1 modulesMax
@@ -54,11 +61,15 @@ optionsLine = do
 abbrev pub moduleDue : ℕ → Reader (Unit {0})
 moduleDue m = keyDue (bytes "Module") m
 
+-- "`Level` v"
+abbrev pub levelKey : Reader ℕ
+levelKey = keyed "Level" 0 levelMax
+
 -- "`Module` m `Level` v", where the previous module has level last
 unfoldable pub level : ℕ → ℕ → Reader ℕ
 level m last = do
   moduleDue m
-  v ← keyed "Level" 0 levelMax
+  v ← levelKey
   rule (levelRule m last v)
   give v
 
@@ -104,11 +115,40 @@ chainsPart v t = do
   word ":"
   lengthsPart s v t
 
+-- a module's first line behind its level
+abbrev pub shapePart : ℕ → Reader Shape
+shapePart v = do
+  t ← terminals
+  chainsPart v t
+
 unfoldable pub levelLine : ℕ → ℕ → Reader Shape
 levelLine m last = do
   v ← level m last
-  t ← terminals
-  chainsPart v t
+  shapePart v
+
+-- a block of an overlay by its first line: the module's number, and the rest of the line
+pub record BlockStart : Type 0 where
+  pub number : ℕ
+  pub shape : Shape
+
+-- "5 when module numbers don't ascend; a block's number over 39 is 4": a number from low on
+unfoldable pub blockNumber : ℕ → Reader ℕ
+blockNumber low = do
+  m ← keyed "Module" 0 (modulesMax - 1)
+  rule (leb low m)
+  give m
+
+-- "no level rule is tested there"
+unfoldable pub blockShape : Reader Shape
+blockShape = do
+  v ← levelKey
+  shapePart v
+
+unfoldable pub blockLine : ℕ → Reader BlockStart
+blockLine low = do
+  m ← blockNumber low
+  s ← blockShape
+  give (record { number = m; shape = s })
 
 -- "X and Y are both -1 or neither"
 abbrev pub pairRule : ℤ → ℤ → Bool

@@ -47,7 +47,7 @@ fn due_at(l: &[u8], at: usize, n: u32) -> Past
     }
 }
 
-pub(crate) fn key_due(l: &[u8], at: usize, w: &[u8], n: u32) -> Past
+pub fn key_due(l: &[u8], at: usize, w: &[u8], n: u32) -> Past
     ensures { λ r. ⌜ pastIs (now (l .entry)) r ≡ keyDue (now (w .entry)) n (fieldsOf (drop at (now (l .entry)))) ⌝ }
 {
     match fields::past_word(l, at, w) {

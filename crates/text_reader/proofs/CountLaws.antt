@@ -17,7 +17,7 @@ use Rattle.text_reader.specs.Lines.{LinesRead, judged, line}
 use Rattle.text_reader.specs.Reading.{Body, behind, body}
 
 -- a value of a line is what the line says
-line-got : {A C : Type 0} (r : Reader A) (a : A) → ((fs : List (List ℕ)) → whole r fs ≡ says a → C) → (ls ms : List Line) → line r ls ≡ got a ms → C
+pub line-got : {A C : Type 0} (r : Reader A) (a : A) → ((fs : List (List ℕ)) → whole r fs ≡ says a → C) → (ls ms : List Line) → line r ls ≡ got a ms → C
 unfolding line judged
 line-got r a f [] ms h = clash cc
 line-got {A = A} {C = C} r a f (l ∷ ls) ms h = go (whole r (l .fields)) refl h
@@ -27,7 +27,7 @@ line-got {A = A} {C = C} r a f (l ∷ ls) ms h = go (whole r (l .fields)) refl h
     go (says b) e k = f (l .fields) (cc)
 
 -- a value of two readings is of the second, behind a value of the first
-after-gives : {E S A B C : Type 0} (k : A → Reads E S B) (b : B) (t : S) → (g : Got E S A) → ((a : A) (s : S) → g ≡ got a s → k a s ≡ got b t → C) → after g k ≡ got b t → C
+pub after-gives : {E S A B C : Type 0} (k : A → Reads E S B) (b : B) (t : S) → (g : Got E S A) → ((a : A) (s : S) → g ≡ got a s → k a s ≡ got b t → C) → after g k ≡ got b t → C
 unfolding after
 after-gives k b t (no c) f h = clash cc
 after-gives k b t (got a s) f h = f a s refl h

@@ -198,7 +198,14 @@ fn module_tests(
 }
 
 // A module whose first line is read.
-fn module_rest(text: &[u8], p: Place, m: u32, line: LevelLine, power: bool, xy: bool) -> ModuleStep
+pub fn module_rest(
+    text: &[u8],
+    p: Place,
+    m: u32,
+    line: LevelLine,
+    power: bool,
+    xy: bool,
+) -> ModuleStep
     requires { ⌜ Inside (now text) p ⌝ }
     ensures { λ r. ⌜ StepMeans (now (text .entry)) (r .module) (r .step) (moduleRest (record { power = power; xy = xy }) m (shapeIn line) (linesAt (now (text .entry)) p)) ⌝ }
 {

@@ -69,7 +69,7 @@ pub(crate) fn total_step(text: &[u8], p: Place) -> CountStep
     }
 }
 
-pub(crate) fn options_step(text: &[u8], p: Place) -> OptionsStep
+pub fn options_step(text: &[u8], p: Place) -> OptionsStep
     requires { ⌜ Inside (now text) p ⌝ }
     ensures { λ r. ⌜ OptionsMeans (now (text .entry)) r (line optionsLine (linesAt (now (text .entry)) p)) ⌝ }
 {

@@ -11,7 +11,7 @@ pub enum Step {
 }
 
 // The text ends while lines are still due.
-pub(crate) fn missing() -> Refusal
+pub fn missing() -> Refusal
     ensures { λ r. ⌜ r ≡ refused 6 0 ⌝ }
 {
     Refusal::at(6, 0)

@@ -17,12 +17,14 @@ use crate::refusals::NOT_DECIMAL;
 
 /// What the user asks for.
 pub enum Job {
-    Plan { file: PathBuf, wires: u32, limit: u32 },
+    Plan { file: PathBuf, overlay: Option<PathBuf>, wires: u32, limit: u32 },
     Soc { file: PathBuf },
-    Layout { file: PathBuf, module: u32, test: u32, width: u32 },
-    Time { file: PathBuf, module: u32, width: u32 },
-    Write { file: PathBuf, wires: u32, limit: u32, out: PathBuf },
+    Layout { file: PathBuf, overlay: Option<PathBuf>, module: u32, test: u32, width: u32 },
+    Time { file: PathBuf, overlay: Option<PathBuf>, module: u32, width: u32 },
+    Write { file: PathBuf, overlay: Option<PathBuf>, wires: u32, limit: u32, out: PathBuf },
     Show { file: PathBuf },
+    Overlay { base: PathBuf, overlay: PathBuf },
+    Lines { base: PathBuf, overlay: PathBuf, module: u32 },
     Completions { shell: Shell },
     Manual,
 }
@@ -54,12 +56,14 @@ pub fn command() -> Command {
         .after_long_help(help::after_long())
         .subcommand_required(true)
         .disable_help_subcommand(true)
-        .subcommand(subcommand("plan", help::PLAN).arg(soc_file()).arg(wires()).arg(limit()).arg(json()))
+        .subcommand(subcommand("plan", help::PLAN).arg(soc_file()).arg(wires()).arg(limit()).arg(over()).arg(json()))
         .subcommand(subcommand("soc", help::SOC).arg(soc_file()))
-        .subcommand(subcommand("layout", help::LAYOUT).arg(soc_file()).arg(module()).arg(test()).arg(width()).arg(json()))
-        .subcommand(subcommand("time", help::TIME).arg(soc_file()).arg(module()).arg(width()).arg(json()))
-        .subcommand(subcommand("write", help::WRITE).arg(soc_file()).arg(wires()).arg(limit()).arg(out()))
+        .subcommand(subcommand("layout", help::LAYOUT).arg(soc_file()).arg(module()).arg(test()).arg(width()).arg(over()).arg(json()))
+        .subcommand(subcommand("time", help::TIME).arg(soc_file()).arg(module()).arg(width()).arg(over()).arg(json()))
+        .subcommand(subcommand("write", help::WRITE).arg(soc_file()).arg(wires()).arg(limit()).arg(out()).arg(over()))
         .subcommand(subcommand("show", help::SHOW).arg(plan_file()).arg(json()))
+        .subcommand(subcommand("overlay", help::OVERLAY).arg(base_file()).arg(overlay_file()))
+        .subcommand(subcommand("lines", help::LINES).arg(base_file()).arg(overlay_file()).arg(module()))
         .subcommand(subcommand("completions", help::COMPLETIONS).arg(shell()))
         .subcommand(subcommand("manual", help::MANUAL))
 }
@@ -77,6 +81,25 @@ fn file_argument(name: &'static str, help: &'static str) -> Arg {
 
 fn soc_file() -> Arg {
     file_argument("FILE", "A SOC text, or - for standard input")
+}
+
+fn base_file() -> Arg {
+    file_argument("BASE", "A SOC text, or - for standard input")
+}
+
+fn overlay_file() -> Arg {
+    let help = "An overlay on it, or - for standard input";
+    Arg::new("OVERLAY").help(help).required(true).value_parser(value_parser!(PathBuf)).value_hint(ValueHint::FilePath)
+}
+
+fn over() -> Arg {
+    let help = "An overlay on the SOC text, or - for standard input";
+    Arg::new("overlay")
+        .long("overlay")
+        .value_name("OVERLAY")
+        .help(help)
+        .value_parser(value_parser!(PathBuf))
+        .value_hint(ValueHint::FilePath)
 }
 
 fn plan_file() -> Arg {
@@ -146,16 +169,21 @@ impl Given<'_> {
 
     fn job(&self) -> Result<Job, Failure> {
         let file = || self.path("FILE");
+        let overlay = || self.matches.get_one::<PathBuf>("overlay").cloned();
         Ok(match self.name {
-            "plan" => Job::Plan { file: file(), wires: self.word("W")?, limit: self.word("B")? },
+            "plan" => Job::Plan { file: file(), overlay: overlay(), wires: self.word("W")?, limit: self.word("B")? },
             "soc" => Job::Soc { file: file() },
             "layout" => {
                 let (module, test, width) = (self.number("MODULE")?, self.number("TEST")?, self.number("WIDTH")?);
-                Job::Layout { file: file(), module, test, width }
+                Job::Layout { file: file(), overlay: overlay(), module, test, width }
             }
-            "time" => Job::Time { file: file(), module: self.number("MODULE")?, width: self.number("WIDTH")? },
-            "write" => Job::Write { file: file(), wires: self.word("W")?, limit: self.word("B")?, out: self.path("OUT") },
+            "time" => Job::Time { file: file(), overlay: overlay(), module: self.number("MODULE")?, width: self.number("WIDTH")? },
+            "write" => {
+                Job::Write { file: file(), overlay: overlay(), wires: self.word("W")?, limit: self.word("B")?, out: self.path("OUT") }
+            }
             "show" => Job::Show { file: file() },
+            "overlay" => Job::Overlay { base: file(), overlay: self.path("OVERLAY") },
+            "lines" => Job::Lines { base: file(), overlay: self.path("OVERLAY"), module: self.number("MODULE")? },
             "completions" => Job::Completions { shell: self.shell() },
             _ => Job::Manual,
         })

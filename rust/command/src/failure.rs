@@ -28,6 +28,8 @@ pub struct Refusal {
     /// Counted from 1, or 0 where the refusal has none.
     pub line: u64,
     pub place: Place,
+    /// Of a pair, the text that is meant.
+    pub text: Option<&'static str>,
     /// What is known beyond the words: a count, or what would have been right.
     pub known: Option<String>,
     /// The line as it is shown beneath the message, and the byte of it that is meant.
@@ -48,11 +50,16 @@ impl Refusal {
         let spot = shown.and_then(|bytes| spot(bytes, number));
         let known = spot.as_ref().and_then(|spot| spot.known.clone());
         let shown = shown.map(|bytes| (bytes.to_vec(), spot.map(|spot| spot.at)));
-        Refusal { number, line, place: Place::File(file.to_path_buf()), known, shown }
+        Refusal { number, line, place: Place::File(file.to_path_buf()), text: None, known, shown }
+    }
+
+    /// The same of one of the two texts of a pair.
+    pub fn of_pair(self, text: &'static str) -> Self {
+        Refusal { text: Some(text), ..self }
     }
 
     pub fn without_line(place: Place, number: u8, known: Option<String>) -> Self {
-        Refusal { number, line: 0, place, known, shown: None }
+        Refusal { number, line: 0, place, text: None, known, shown: None }
     }
 }
 

@@ -66,6 +66,17 @@ Shows what a plan file holds.
 
 Prints `wires W limit B time T`, then the lines of the buses and modules as `tallowwing plan` has them.";
 
+pub const OVERLAY: &str = "\
+Writes a SOC text with an overlay on it in its written form.
+
+Each module is the overlay's where it has it, otherwise the base's. A refusal prints `refused N line L base` or `.. overlay` for the text \
+that is meant.";
+
+pub const LINES: &str = "\
+Prints the lines of a module as they stand.
+
+Of the overlay where it has the module, otherwise of the base: from their first field to their last, with nothing added.";
+
 pub const COMPLETIONS: &str = "\
 Prints the completions for a shell.
 

@@ -11,8 +11,8 @@ use crate::output;
 use crate::report::{Group, Report, Row};
 use crate::soc_file::SocFile;
 
-pub fn run(file: &Path, module: u32, test: u32, width: u32, form: Form) -> Result<(), Failure> {
-    let soc = SocFile::read(file)?;
+pub fn run(file: &Path, overlay: Option<&Path>, module: u32, test: u32, width: u32, form: Form) -> Result<(), Failure> {
+    let soc = SocFile::read_with(file, overlay)?;
     let arguments = [("MODULE", module), ("TEST", test), ("WIDTH", width)];
     let mut layout = [0; LAYOUT_BYTES];
     soc.figure(library::layout(soc.record(), module, test, width, &mut layout), &arguments)?;

@@ -12,6 +12,8 @@ mod input;
 mod layout;
 mod manual;
 mod output;
+mod overlay;
+mod pair_file;
 mod plan;
 mod plan_record;
 mod refusals;
@@ -40,12 +42,14 @@ fn main() -> ExitCode {
 
 fn run(job: &Job, form: Form) -> Result<(), Failure> {
     match job {
-        Job::Plan { file, wires, limit } => plan::run(file, *wires, *limit, form),
+        Job::Plan { file, overlay, wires, limit } => plan::run(file, overlay.as_deref(), *wires, *limit, form),
         Job::Soc { file } => soc::run(file),
-        Job::Layout { file, module, test, width } => layout::run(file, *module, *test, *width, form),
-        Job::Time { file, module, width } => time::run(file, *module, *width, form),
-        Job::Write { file, wires, limit, out } => write::run(file, *wires, *limit, out),
+        Job::Layout { file, overlay, module, test, width } => layout::run(file, overlay.as_deref(), *module, *test, *width, form),
+        Job::Time { file, overlay, module, width } => time::run(file, overlay.as_deref(), *module, *width, form),
+        Job::Write { file, overlay, wires, limit, out } => write::run(file, overlay.as_deref(), *wires, *limit, out),
         Job::Show { file } => show::run(file, form),
+        Job::Overlay { base, overlay } => overlay::run(base, overlay),
+        Job::Lines { base, overlay, module } => overlay::lines(base, overlay, *module),
         Job::Completions { shell } => completions::run(*shell, arguments::command()),
         Job::Manual => manual::run(),
     }

@@ -7,7 +7,7 @@ use crate::form::Form;
 use crate::plan_record::PlanRecord;
 use crate::soc_file::SocFile;
 
-pub fn run(file: &Path, wires: u32, limit: u32, form: Form) -> Result<(), Failure> {
-    let soc = SocFile::read(file)?;
+pub fn run(file: &Path, overlay: Option<&Path>, wires: u32, limit: u32, form: Form) -> Result<(), Failure> {
+    let soc = SocFile::read_with(file, overlay)?;
     PlanRecord::planned(&soc, file, wires, limit)?.print(Some(soc.view().name()), form)
 }

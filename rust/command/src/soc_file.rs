@@ -6,6 +6,7 @@ use tallowwing_library::views::SocView;
 use tallowwing_library::{self as library, Answer, SOC_BYTES, TEXT_MAX};
 
 use crate::failure::{Failure, Place, Refusal};
+use crate::pair_file::PairFile;
 use crate::{input, refusals};
 
 pub struct SocFile {
@@ -24,6 +25,18 @@ impl SocFile {
             Answer::Figure(_) => Ok(SocFile { path: path.to_path_buf(), record }),
             Answer::Refused { number, line } => Err(Refusal::of_text(path, &text, number, line).into()),
         }
+    }
+
+    /// The text of a file alone, or the base of an overlay.
+    pub fn read_with(path: &Path, overlay: Option<&Path>) -> Result<Self, Failure> {
+        match overlay {
+            None => SocFile::read(path),
+            Some(overlay) => PairFile::read(path, overlay)?.soc(),
+        }
+    }
+
+    pub fn of_record(path: &Path, record: Box<[u8; SOC_BYTES]>) -> Self {
+        SocFile { path: path.to_path_buf(), record }
     }
 
     pub fn record(&self) -> &[u8] {

@@ -27,10 +27,12 @@ pub fn tell(failure: Failure, form: Form) -> ExitCode {
 
 fn tell_refusal(refusal: &Refusal, form: Form) -> ExitCode {
     tell_lines(&message(refusal, columns()));
-    let Refusal { number, line, .. } = refusal;
-    let printed = match form {
-        Form::Json => format!("{{\"refused\":{number},\"line\":{line}}}\n"),
-        Form::Lines | Form::Table => format!("refused {number} line {line}\n"),
+    let Refusal { number, line, text, .. } = refusal;
+    let printed = match (form, text) {
+        (Form::Json, None) => format!("{{\"refused\":{number},\"line\":{line}}}\n"),
+        (Form::Json, Some(text)) => format!("{{\"refused\":{number},\"line\":{line},\"text\":\"{text}\"}}\n"),
+        (Form::Lines | Form::Table, None) => format!("refused {number} line {line}\n"),
+        (Form::Lines | Form::Table, Some(text)) => format!("refused {number} line {line} {text}\n"),
     };
     match output::print(printed.as_bytes()) {
         Ok(()) => ExitCode::from(REFUSED),
@@ -40,7 +42,7 @@ fn tell_refusal(refusal: &Refusal, form: Form) -> ExitCode {
 
 /// `FILE:LINE: what is wrong (refusal N)` with the line beneath, or `ARGUMENT VALUE: what is wrong (refusal N)`.
 fn message(refusal: &Refusal, columns: usize) -> String {
-    let Refusal { number, line, place, known, shown } = refusal;
+    let Refusal { number, line, place, known, shown, .. } = refusal;
     let place = match place {
         Place::File(file) if *line > 0 => format!("{}:{line}", file.display()),
         Place::File(file) => file.display().to_string(),

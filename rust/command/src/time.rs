@@ -10,8 +10,8 @@ use crate::output;
 use crate::report::Report;
 use crate::soc_file::SocFile;
 
-pub fn run(file: &Path, module: u32, width: u32, form: Form) -> Result<(), Failure> {
-    let soc = SocFile::read(file)?;
+pub fn run(file: &Path, overlay: Option<&Path>, module: u32, width: u32, form: Form) -> Result<(), Failure> {
+    let soc = SocFile::read_with(file, overlay)?;
     let arguments = [("MODULE", module), ("WIDTH", width)];
     let cycles = soc.figure(library::module_time(soc.record(), module, width), &arguments)?;
     let wires = soc.figure(library::module_wires(soc.record(), module, width), &arguments)?;

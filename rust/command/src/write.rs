@@ -7,7 +7,7 @@ use crate::output;
 use crate::plan_record::PlanRecord;
 use crate::soc_file::SocFile;
 
-pub fn run(file: &Path, wires: u32, limit: u32, out: &Path) -> Result<(), Failure> {
-    let soc = SocFile::read(file)?;
+pub fn run(file: &Path, overlay: Option<&Path>, wires: u32, limit: u32, out: &Path) -> Result<(), Failure> {
+    let soc = SocFile::read_with(file, overlay)?;
     output::write_file(out, &PlanRecord::planned(&soc, file, wires, limit)?.file()?)
 }

@@ -2,6 +2,7 @@
 
 use independent::entries;
 use independent::entries::Outcome;
+use independent::pair_entries;
 use tallowwing_library::{self as library, Answer};
 
 #[derive(Clone, Copy, Debug, PartialEq, Eq)]
@@ -17,9 +18,11 @@ pub enum Entry {
     ReadPlan,
     Show,
     Listing,
+    ReadPair,
+    ModuleLines,
 }
 
-pub const ENTRIES: [Entry; 11] = [
+pub const ENTRIES: [Entry; 13] = [
     Entry::ReadSoc,
     Entry::WriteSoc,
     Entry::Layout,
@@ -31,6 +34,8 @@ pub const ENTRIES: [Entry; 11] = [
     Entry::ReadPlan,
     Entry::Show,
     Entry::Listing,
+    Entry::ReadPair,
+    Entry::ModuleLines,
 ];
 
 impl Entry {
@@ -47,6 +52,8 @@ impl Entry {
             Entry::ReadPlan => "read_plan",
             Entry::Show => "show",
             Entry::Listing => "listing",
+            Entry::ReadPair => "read_pair",
+            Entry::ModuleLines => "module_lines",
         }
     }
 
@@ -56,7 +63,7 @@ impl Entry {
 
     /// Whether bytes are lent for a result.
     pub fn writes(self) -> bool {
-        !matches!(self, Entry::TestTime | Entry::ModuleTime | Entry::ModuleWires)
+        !matches!(self, Entry::TestTime | Entry::ModuleTime | Entry::ModuleWires | Entry::ModuleLines)
     }
 }
 
@@ -89,6 +96,8 @@ impl Case {
             Entry::ReadPlan => library::read_plan(input, lent),
             Entry::Show => library::show(input, lent),
             Entry::Listing => library::listing(input, lent),
+            Entry::ReadPair => library::read_pair(base(input, c), overlay(input, c), lent),
+            Entry::ModuleLines => library::module_lines(base(input, c), overlay(input, c), a),
         }
     }
 
@@ -107,8 +116,19 @@ impl Case {
             Entry::ReadPlan => entries::read_plan(input, lent),
             Entry::Show => entries::show(input, lent),
             Entry::Listing => entries::listing(input, lent),
+            Entry::ReadPair => pair_entries::read_pair_for_c(base(input, c), overlay(input, c), lent),
+            Entry::ModuleLines => pair_entries::module_lines_for_c(base(input, c), overlay(input, c), a),
         })
     }
+}
+
+/// The two texts of a pair, of which the second begins at a place.
+fn base(input: &[u8], at: u32) -> &[u8] {
+    &input[..input.len().min(at as usize)]
+}
+
+fn overlay(input: &[u8], at: u32) -> &[u8] {
+    &input[input.len().min(at as usize)..]
 }
 
 fn answer(outcome: Outcome) -> Answer {

@@ -11,6 +11,7 @@ mod kinds;
 mod make_plan;
 mod make_soc;
 mod options;
+// No entry of the library takes a pair yet: these cases are put to the independent implementation alone.
 mod random;
 mod run;
 mod self_test;

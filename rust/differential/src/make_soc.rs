@@ -53,7 +53,7 @@ fn make_name(soc: &mut Soc, random: &mut Random) {
     }
 }
 
-fn make_module(soc: &Soc, planned: bool, large: bool, random: &mut Random) -> Module {
+pub fn make_module(soc: &Soc, planned: bool, large: bool, random: &mut Random) -> Module {
     let mut module = Module { x: NOT_GIVEN, y: NOT_GIVEN, ..Module::SPARE };
     for terminals in [&mut module.inputs, &mut module.outputs, &mut module.bidirs] {
         *terminals = make_terminals(large, random);

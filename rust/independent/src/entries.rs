@@ -65,7 +65,7 @@ fn good_plan(record: &[u8]) -> Result<Plan, Refusal> {
 }
 
 /// Writes a result at the front of the lent bytes, or refuses with 11 and writes none.
-fn give(result: &[u8], lent: &mut [u8]) -> Outcome {
+pub fn give(result: &[u8], lent: &mut [u8]) -> Outcome {
     demand(result.len() <= lent.len(), 11)?;
     lent[..result.len()].copy_from_slice(result);
     Ok(result.len() as u64)

@@ -5,12 +5,16 @@
 
 #![forbid(unsafe_code)]
 
+pub mod block;
 pub mod entries;
 pub mod forms;
 pub mod layout;
 pub mod limits;
 pub mod lines;
 pub mod listing;
+pub mod overlay;
+pub mod pair;
+pub mod pair_entries;
 pub mod plan;
 pub mod plan_file;
 pub mod planner;

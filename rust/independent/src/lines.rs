@@ -1,17 +1,31 @@
 //! Lines and their fields, and what one field may be refused for.
 
+use std::ops::Range;
+
 use crate::refusal::Refusal;
 
 /// Gives the lines of a text that are not blank, each with its number.
+#[derive(Clone)]
 pub struct LineReader<'a> {
     text: &'a [u8],
     position: usize,
     line: usize,
+    part: Range<usize>,
 }
 
 impl<'a> LineReader<'a> {
     pub fn new(text: &'a [u8]) -> Self {
-        LineReader { text, position: 0, line: 0 }
+        LineReader { text, position: 0, line: 0, part: 0..0 }
+    }
+
+    /// Where in the text the line given last stands, from its first field to its last.
+    pub fn part(&self) -> Range<usize> {
+        self.part.clone()
+    }
+
+    /// Whether another line follows that is not blank.
+    pub fn more(&self) -> bool {
+        self.clone().next_filled().is_some()
     }
 
     /// The next line that is due, or refusal 6 where the text ends.
@@ -29,14 +43,17 @@ impl<'a> LineReader<'a> {
 
     fn next_filled(&mut self) -> Option<Fields<'a>> {
         while self.position < self.text.len() {
-            let rest = &self.text[self.position..];
+            let start = self.position;
+            let rest = &self.text[start..];
             let length = rest.iter().position(|&byte| byte == b'\n').unwrap_or(rest.len());
             self.position += length + 1;
             self.line += 1;
             let line = &rest[..length];
-            let fields = Fields::new(line.strip_suffix(b"\r").unwrap_or(line), self.line);
-            if !fields.at_end() {
-                return Some(fields);
+            let line = line.strip_suffix(b"\r").unwrap_or(line);
+            if let Some(first) = line.iter().position(|&byte| !blank(byte)) {
+                let blanks_behind = line.iter().rev().take_while(|&&byte| blank(byte)).count();
+                self.part = start + first..start + line.len() - blanks_behind;
+                return Some(Fields::new(line, self.line));
             }
         }
         None
@@ -101,7 +118,7 @@ impl<'a> Fields<'a> {
     }
 
     /// A module or test number: any decimal but the one due is 5, however long.
-    pub fn due_number(&mut self, due: usize) -> Result<(), Refusal> {
+    pub fn due_number(&mut self, due: u32) -> Result<(), Refusal> {
         let field = self.field()?;
         self.demand(decimal(field), 4)?;
         self.demand(field == due.to_string().as_bytes(), 5)

@@ -29,6 +29,13 @@ pub struct Module {
     pub tests: [Test; limits::TESTS],
 }
 
+/// Which of the optional figures a text may give.
+#[derive(Clone, Copy, Debug, PartialEq, Eq)]
+pub struct Options {
+    pub power: bool,
+    pub xy: bool,
+}
+
 /// Places past a count are spare, and 0 in a good record.
 #[derive(Clone, Debug, PartialEq, Eq)]
 pub struct Soc {
@@ -83,6 +90,10 @@ impl Soc {
 
     pub fn name(&self) -> &[u8] {
         &self.name[..self.name_length as usize]
+    }
+
+    pub fn options(&self) -> Options {
+        Options { power: self.power, xy: self.xy }
     }
 
     pub fn modules(&self) -> &[Module] {

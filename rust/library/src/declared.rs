@@ -2,6 +2,15 @@
 
 extern "C" {
     pub fn tallowwing_read_soc(text: *const u8, text_len: usize, record: *mut u8, record_len: usize) -> u64;
+    pub fn tallowwing_read_pair(
+        base: *const u8,
+        base_len: usize,
+        overlay: *const u8,
+        overlay_len: usize,
+        record: *mut u8,
+        record_len: usize,
+    ) -> u64;
+    pub fn tallowwing_module_lines(base: *const u8, base_len: usize, overlay: *const u8, overlay_len: usize, module: u32) -> u64;
     pub fn tallowwing_write_soc(record: *const u8, record_len: usize, text: *mut u8, text_len: usize) -> u64;
     pub fn tallowwing_layout(
         record: *const u8,

@@ -11,6 +11,18 @@ pub fn read_soc(text: &[u8], record: &mut [u8]) -> Answer {
     Answer::from_number(unsafe { tallowwing_read_soc(text.as_ptr(), text.len(), record.as_mut_ptr(), record.len()) })
 }
 
+/// Reads a SOC text, the base, and an overlay to the record of the combined description. The line of a refusal has 4 times the line, and 1
+/// more for the base or 2 more for the overlay.
+pub fn read_pair(base: &[u8], overlay: &[u8], record: &mut [u8]) -> Answer {
+    let (b, o) = (base.as_ptr(), overlay.as_ptr());
+    Answer::from_number(unsafe { tallowwing_read_pair(b, base.len(), o, overlay.len(), record.as_mut_ptr(), record.len()) })
+}
+
+/// Where the lines of a module of a pair stand: 131,072 times where they begin, twice where they end, and 1 in the overlay.
+pub fn module_lines(base: &[u8], overlay: &[u8], module: u32) -> Answer {
+    Answer::from_number(unsafe { tallowwing_module_lines(base.as_ptr(), base.len(), overlay.as_ptr(), overlay.len(), module) })
+}
+
 /// Writes the written form of a SOC record.
 pub fn write_soc(record: &[u8], text: &mut [u8]) -> Answer {
     Answer::from_number(unsafe { tallowwing_write_soc(record.as_ptr(), record.len(), text.as_mut_ptr(), text.len()) })

@@ -1,9 +1,10 @@
 //! The kinds of cases: how each is made, how often, and what must come of it at least once.
 
 mod listings;
+mod pairs;
 mod plans;
 mod records;
-mod texts;
+pub mod texts;
 
 use independent::limits;
 use tallowwing_library::{LAYOUT_BYTES, PLAN_BYTES, PLAN_FILE_MAX, SOC_BYTES};
@@ -47,6 +48,10 @@ pub const KINDS: &[Kind] = &[
     Kind { name: "listing, good", share: 40, make: listings::listing_good, must_occur: &[0, 11] },
     Kind { name: "listing, faulty first line", share: 60, make: listings::listing_line, must_occur: &[0, 3, 4, 6] },
     Kind { name: "listing, other faults", share: 60, make: listings::listing_faults, must_occur: &[0, 1, 2, 3, 4, 5, 6, 7, 8, 9, 10] },
+    Kind { name: "pair, good", share: 80, make: pairs::pair_good, must_occur: &[0, 11, 13] },
+    Kind { name: "pair, damaged", share: 150, make: pairs::pair_damaged, must_occur: &[0, 2, 3, 4, 5, 6, 13, 15] },
+    Kind { name: "pair, numbers at their limits", share: 60, make: pairs::pair_limits, must_occur: &[0, 3, 4, 5, 6, 15] },
+    Kind { name: "pair, of two texts", share: 60, make: pairs::pair_unfit, must_occur: &[0, 15] },
 ];
 
 /// The case of a number, and the index of its kind.
@@ -81,7 +86,7 @@ fn with_room(mut case: Case, random: &mut Random) -> Case {
 /// The length of the result, or a likely one where the call is refused.
 fn exact_room(case: &Case) -> usize {
     match case.entry {
-        Entry::ReadSoc => SOC_BYTES,
+        Entry::ReadSoc | Entry::ReadPair => SOC_BYTES,
         Entry::Layout => LAYOUT_BYTES,
         Entry::Plan | Entry::ReadPlan => PLAN_BYTES,
         _ => {

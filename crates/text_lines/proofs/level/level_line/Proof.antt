@@ -1,5 +1,5 @@
--- `text_lines::level::level_line` meets its contract. The definition goes on behind the level and behind the terminals as the code does. A
--- level that was read is within its limit, so the cast keeps it. Assumes nothing.
+-- `text_lines::level::level_line` meets its contract. The definition goes on behind the level as the code does. A level that was read is
+-- within its limit, so the cast keeps it. Assumes nothing.
 use borrow.Author.Needs.{needs}
 use native.Mathlib.Omega.{arith}
 use mathlib.Core.Path.{_≡_, sym, ap, _∙_}
@@ -9,15 +9,14 @@ use Rattle.fields.specs.Readers.{got, figureIs}
 use Rattle.fields.proofs.ReaderLaws.{after-no, after-got}
 use Rattle.text_lines.specs.Parts.{closed}
 use Rattle.text_lines.specs.Kinds.{level, levelLine}
-use Rattle.text_lines.specs.LineAnswers.{levelAnswer, termsIs}
+use Rattle.text_lines.specs.LineAnswers.{levelAnswer}
 use Rattle.text_lines.proofs.HeadLaws.{closed-no}
 use Rattle.text_lines.proofs.LevelLaws.{level-within}
 use Rattle.text_lines.proofs.level.level_line.Statement.{statement}
 use Rattle.text_lines.proofs.level.level_line.Tie as tie
 
 -- the level that was read
-found : (c : tie.After-v) → let s = c .before .before .before .before in let l = s .args .l .now in
-    level (s .args .m) (s .args .last) (fieldsOf l) ≡ got (c .v .given .0 .0) (fieldsOf (drop (c .v .given .0 .1 .0) l))
+found : (c : tie.After-v) → let s = c .before .before .before .before in let l = s .args .l .now in level (s .args .m) (s .args .last) (fieldsOf l) ≡ got (c .v .given .0 .0) (fieldsOf (drop (c .v .given .0 .1 .0) l))
 found c = sym (c .before .before .level-part .ensures) ∙ ap (figureIs (c .before .before .before .before .args .l .now)) (c .v .given .1)
 
 level-part-requires : tie.Need-level-part-requires
@@ -32,23 +31,11 @@ no-level-requires c κs = search needs
 enum-known-v : tie.Need-enum-known-v
 enum-known-v c = search needs
 
-terminals-at-requires : tie.Need-terminals-at-requires
-terminals-at-requires c κs = search needs
+cast-shape-to-end : tie.Need-cast-shape-to-end
+cast-shape-to-end c = let w = level-within _ _ _ _ _ (found (c .before)) in omega arith
 
-enum-known-c-2 : tie.Need-enum-known-c-2
-enum-known-c-2 c = search needs
-
-no-level-requires-2 : tie.Need-no-level-requires-2
-no-level-requires-2 c κs = search needs
-
-enum-known-i : tie.Need-enum-known-i
-enum-known-i c = search needs
-
-cast-chains-to-end : tie.Need-cast-chains-to-end
-cast-chains-to-end c = let w = level-within _ _ _ _ _ (found (c .before .before .before .before .before)) in omega arith
-
-chains-to-end-requires : tie.Need-chains-to-end-requires
-chains-to-end-requires c κs = search needs
+shape-to-end-requires : tie.Need-shape-to-end-requires
+shape-to-end-requires c κs = search needs
 
 returns : tie.Need-returns
 unfolding levelLine
@@ -56,21 +43,7 @@ returns c = c .no-level .ensures ∙ sym (ap levelAnswer (closed-no _ _ (after-n
 
 returns-2 : tie.Need-returns-2
 unfolding levelLine
-returns-2 c =
-    c .no-level2 .ensures
-    ∙ sym
-    (ap
-    levelAnswer
-    (closed-no _ _ (after-got _ _ _ _ (found (c .before .before .before .before .before .before)) ∙ after-no _ _ _ (sym (c .before .before .before .before .terminals-at .ensures) ∙ ap (termsIs (c .before .before .before .before .before .before .before .before .before .before .args .l .now)) (c .before .before .c2 .given .1)))))
-
-returns-3 : tie.Need-returns-3
-unfolding levelLine
-returns-3 c =
-    c .chains-to-end .ensures
-    ∙ sym
-    (ap
-    (λ g. levelAnswer (closed g))
-    (after-got _ _ _ _ (found (c .before .before .before .before .before .before)) ∙ after-got _ _ _ _ (sym (c .before .before .before .before .terminals-at .ensures) ∙ ap (termsIs (c .before .before .before .before .before .before .before .before .before .before .args .l .now)) (c .before .before .i .given .1))))
+returns-2 c = c .shape-to-end .ensures ∙ sym (ap (λ g. levelAnswer (closed g)) (after-got _ _ _ _ (found (c .before .before))))
 
 pub level-line-spec : {M : Type 1} → statement M
 level-line-spec =
@@ -80,12 +53,7 @@ level-line-spec =
     enum-known-c
     no-level-requires
     enum-known-v
-    terminals-at-requires
-    enum-known-c-2
-    no-level-requires-2
-    enum-known-i
-    cast-chains-to-end
-    chains-to-end-requires
+    cast-shape-to-end
+    shape-to-end-requires
     returns
-    returns-2
-    returns-3)
+    returns-2)

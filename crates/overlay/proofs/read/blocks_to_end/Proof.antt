@@ -1,0 +1,43 @@
+-- `overlay::read::blocks_to_end` meets its contract. The definition goes on behind the blocks as the code does. Assumes nothing.
+use borrow.Author.Needs.{needs}
+use mathlib.Core.Path.{sym, ap, _∙_}
+use Rattle.fields.proofs.ReaderLaws.{after-no, after-got}
+use Rattle.text_reader.proofs.StepLaws.{step-no, step-next}
+use Rattle.overlay.specs.Overlay.{withBlocks, answer}
+use Rattle.overlay.proofs.read.blocks_to_end.Statement.{statement}
+use Rattle.overlay.proofs.read.blocks_to_end.Tie as tie
+
+blocks-step-requires : tie.Need-blocks-step-requires
+blocks-step-requires c κs = search needs
+
+enum-known-step : tie.Need-enum-known-step
+enum-known-step c = search needs
+
+refused-overlay-requires : tie.Need-refused-overlay-requires
+refused-overlay-requires c κs = search needs
+
+enum-told : tie.Need-enum-told
+enum-told c = search needs
+
+accepted-overlay-requires : tie.Need-accepted-overlay-requires
+accepted-overlay-requires c κs = search needs
+
+returns : tie.Need-returns
+unfolding withBlocks answer
+returns c = c .refused-overlay .ensures ∙ sym (ap answer (after-no _ _ _ (step-no _ _ _ _ (c .before .before .before .before .blocks-step .ensures) _ (c .before .before .step .given .1))))
+
+returns-2 : tie.Need-returns-2
+unfolding withBlocks answer
+returns-2 c = c .accepted-overlay .ensures ∙ sym (ap answer (after-got _ _ _ _ (step-next _ _ _ _ (c .before .before .before .before .before .blocks-step .ensures) _ (c .before .before .before .enum-told .given .1) .0)))
+
+pub blocks-to-end-spec : {M : Type 1} → statement M
+blocks-to-end-spec =
+    tie.close
+    (tie.spec
+    blocks-step-requires
+    enum-known-step
+    refused-overlay-requires
+    enum-told
+    accepted-overlay-requires
+    returns
+    returns-2)
