@@ -170,12 +170,12 @@ fn pair_refused(r: Refusal, m: Meant) -> u64
 pub extern "C" fn tallowwing_read_pair(base: &[u8], overlay: &[u8], into: &mut [u8]) -> u64
     ensures { λ r. ⌜ (r ≡ readPairCode (now (base .entry)) (now (overlay .entry)) (now (into .entry))) × (now (into .exit) ≡ readPairHeld (now (base .entry)) (now (overlay .entry)) (now (into .entry))) ⌝ }
 {
-    let read = pair::read_pair(base, overlay);
-    if read.refusal.number != 0 {
-        let meant = read.meant;
-        return pair_refused(read.refusal, meant);
+    let both = pair::read_pair(base, overlay);
+    if both.refusal.number != 0 {
+        let meant = both.meant;
+        return pair_refused(both.refusal, meant);
     }
-    code_of_bytes(c_forms::soc_bytes(read.soc, &mut *into))
+    code_of_bytes(c_forms::soc_bytes(both.soc, &mut *into))
 }
 
 fn part_figure(over: bool, from: usize, to: usize) -> u64

@@ -1,7 +1,9 @@
 pub mod BlockAs
+pub mod BlocksEnough
 pub mod GoodOverlay
 pub mod GoodPair
 pub mod Laid
+pub mod OverlayRefused
 pub mod PairAnswers
 pub mod PairOnly
 pub mod PartEnds

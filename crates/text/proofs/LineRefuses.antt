@@ -155,7 +155,7 @@ fair-level : (m last : ℕ) → FairReader (level m last)
 unfolding level
 fair-level m last = fair-then (fair-module m) (fair-bind (fair-keyed (bytes "Level") 0 levelMax) (λ v. fair-then (fair-rule (levelRule m last v)) (fair-got v)))
 
-fair-terminals : FairReader terminals
+pub fair-terminals : FairReader terminals
 unfolding terminals
 fair-terminals =
     fair-bind (fair-keyed (bytes "Inputs") 0 terminalsMax)
@@ -169,7 +169,7 @@ fair-lengths : (s v : ℕ) (t : Terminals) → FairReader (lengthsPart s v t)
 unfolding lengthsPart
 fair-lengths s v t = fair-bind (fair-each s (λ _. fair-length) 0) (λ ls. fair-got _)
 
-fair-chains : (v : ℕ) (t : Terminals) → FairReader (chainsPart v t)
+pub fair-chains : (v : ℕ) (t : Terminals) → FairReader (chainsPart v t)
 unfolding chainsPart
 fair-chains v t = fair-bind (fair-keyed (bytes "ScanChains") 0 chainsMax) (λ s. fair-then (fair-word (bytes ":")) (fair-lengths s v t))
 

@@ -93,7 +93,7 @@ module _ (R : ℕ → ℕ → Type 0) where
   unfolding moduleTests
   alike-module-tests o m s b = alike-bind (alike-tests (b .tests) m (o .power)) (λ ts. alike-give _)
 
-  alike-module-rest : (o : Options) (m : ℕ) (s : Shape) → AlikeReader (moduleRest o m s)
+  pub alike-module-rest : (o : Options) (m : ℕ) (s : Shape) → AlikeReader (moduleRest o m s)
   unfolding moduleRest
   alike-module-rest o m s = alike-bind (alike-body m (o .xy)) (alike-module-tests o m s)
 
@@ -132,7 +132,7 @@ pub record Refuses (P : ℕ → Type 0) (r : Refusal) : Type 0 where
   pub last : r .number ≡ 6 → r .line ≡ 0
   pub others : r .number ≤ 5 → P (r .line)
 
-alike-refuses : (P : ℕ → Type 0) {A : Type 0} {g h : LinesRead A} → Alike (λ i j. P i) g h → (r : Refusal) → g ≡ no r → Refuses P r
+pub alike-refuses : (P : ℕ → Type 0) {A : Type 0} {g h : LinesRead A} → Alike (λ i j. P i) g h → (r : Refusal) → g ≡ no r → Refuses P r
 alike-refuses P ended r e =
     let i : refused 6 0 ≡ r = cc in
     rw (← i) (record { least = omega arith; most = omega arith; last = λ k. refl; others = λ k. absurd (omega arith) })
