@@ -86,6 +86,22 @@ uint64_t tallowwing_read_pair(
  * last one, and figure % 2 is 1 where they stand in the overlay, 0 where they stand in the base. */
 uint64_t tallowwing_module_lines(const uint8_t *base, size_t base_len, const uint8_t *overlay, size_t overlay_len, uint32_t module);
 
+/* The entries below, asked of a pair: each answers what it answers of the combined record, and reads the pair once. Refusals as of
+ * tallowwing_read_pair without 11, then those that the entry has of a good record, so never 14. Of a refusal answer / 256 is as there;
+ * what is refused of an accepted pair is about neither text, and answer / 256 is 0. */
+uint64_t tallowwing_write_pair(
+    const uint8_t *base, size_t base_len, const uint8_t *overlay, size_t overlay_len, uint8_t *text, size_t text_len);
+uint64_t tallowwing_layout_pair(const uint8_t *base, size_t base_len, const uint8_t *overlay, size_t overlay_len, uint32_t module,
+                                uint32_t test, uint32_t width, uint8_t *layout, size_t layout_len);
+uint64_t tallowwing_test_time_pair(const uint8_t *base, size_t base_len, const uint8_t *overlay, size_t overlay_len, uint32_t module,
+                                   uint32_t test, uint32_t width);
+uint64_t tallowwing_module_time_pair(
+    const uint8_t *base, size_t base_len, const uint8_t *overlay, size_t overlay_len, uint32_t module, uint32_t width);
+uint64_t tallowwing_module_wires_pair(
+    const uint8_t *base, size_t base_len, const uint8_t *overlay, size_t overlay_len, uint32_t module, uint32_t width);
+uint64_t tallowwing_plan_pair(const uint8_t *base, size_t base_len, const uint8_t *overlay, size_t overlay_len, uint32_t wires,
+                              uint32_t limit, uint8_t *plan, size_t plan_len);
+
 /* Writes the written form of a SOC record. Refusals 14, 11. The figure is the number of bytes written. A record of another length than
  * 16,688 bytes, or with a flag that is neither 0 nor 1, is not good: 14, here and below. */
 uint64_t tallowwing_write_soc(const uint8_t *record, size_t record_len, uint8_t *text, size_t text_len);

@@ -89,6 +89,20 @@ int main(void)
     expect("lines of the base", tallowwing_module_lines(base, length, late, over, 0), 0,
            131072ul * 47 + 2ul * 128);
     expect("lines, no module", tallowwing_module_lines(base, length, late, over, 3), 13, 0);
+    expect("write a pair", tallowwing_write_pair(base, length, late, over, written, sizeof written), 0, length);
+    expect_bytes("the pair's chain", written + (strstr(text, ": 10") - text), ": 20", 4);
+    expect("write a pair, no room", tallowwing_write_pair(base, length, late, over, written, 7), 11, 0);
+    expect("layout of a pair", tallowwing_layout_pair(base, length, late, over, 1, 1, 2, layout, sizeof layout), 0, sizeof layout);
+    expect_bytes("the pair's flip-flops", layout, "\24\0\0\0\0", 5);
+    expect("layout of a pair, no test", tallowwing_layout_pair(base, length, late, over, 1, 2, 2, layout, sizeof layout), 13, 0);
+    expect("test time of a pair", tallowwing_test_time_pair(base, length, late, over, 1, 1, 1), 0, 125);
+    expect("module time of a pair", tallowwing_module_time_pair(base, length, late, over, 1, 4), 0, 125);
+    expect("module wires of a pair", tallowwing_module_wires_pair(base, length, late, over, 1, 4), 0, 1);
+    expect("module wires of a pair, base", tallowwing_module_wires_pair(base, 20, late, over, 1, 4), 3, 4 * 2 + 1);
+    expect("plan of a pair", tallowwing_plan_pair(base, length, late, over, 4, 2, plan, sizeof plan), 0, sizeof plan);
+    expect("time of the pair's plan", plan[16], 125, 0);
+    expect("plan of a pair, overlay", tallowwing_plan_pair(base, length, base, length, 4, 2, plan, sizeof plan), 3, 4 * 1 + 2);
+    expect("plan of a pair, wires", tallowwing_plan_pair(base, length, late, over, 0, 2, plan, sizeof plan), 7, 0);
     expect("write", tallowwing_write_soc(soc, sizeof soc, written, sizeof written), 0, length);
     expect_bytes("written", written, text, length);
     expect("layout", tallowwing_layout(soc, sizeof soc, 2, 1, 3, layout, sizeof layout), 0, TALLOWWING_LAYOUT_BYTES);

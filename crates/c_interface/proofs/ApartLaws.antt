@@ -32,11 +32,11 @@ use Rattle.c_interface.specs.Codes.{moduleTimeCode, moduleWiresCode, pla
 use Rattle.c_interface.specs.Apart.{Says, roomed}
 
 module _ (n v : ℕ) (small : n < 256) where
-  above-number : above n v % 256 ≡ n
+  pub above-number : above n v % 256 ≡ n
   unfolding above
   above-number = omega arith
 
-  above-figure : v < aboveMax → above n v / 256 ≡ v
+  pub above-figure : v < aboveMax → above n v / 256 ≡ v
   unfolding above
   above-figure h = omega arith
 

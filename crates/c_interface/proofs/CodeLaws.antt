@@ -9,12 +9,10 @@ use lib.Dec.{leb}
 use lib.ListN.{length}
 use Rattle.units.specs.declared.Refusal.{Refusal}
 use Rattle.buffer.specs.Puts.{putFront, putCount}
-use Rattle.c_forms.specs.SocForm.{socBytes}
-use Rattle.c_interface.specs.Codes.{above, code, bytesCode, given, givenUnless, heldUnless, meantNumber, pairRefused, pairCode, partFigure, shownCode}
+use Rattle.c_interface.specs.Codes.{above, code, bytesCode, given, givenUnless, heldUnless}
+use Rattle.c_interface.specs.Codes.{meantNumber, pairRefused, pairFigure, pairGiven}
 use Rattle.pair.specs.declared.read.Meant.{Meant}
 use Rattle.pair.specs.declared.read.Meant.the-variants as meant
-use Rattle.pair.specs.declared.read.PairRead.{PairRead}
-use Rattle.pair.specs.declared.shown.Shown.{Shown}
 
 module _ (r : Refusal) (v : ℕ) where
   pub code-none : r .number ≡ 0 → above 0 v ≡ code r v
@@ -66,26 +64,27 @@ meant-most meant.Neither = omega arith
 meant-most meant.Base = omega arith
 meant-most meant.Overlay = omega arith
 
--- q is what the definition says of the answer p that the code holds
-module _ {p q : PairRead} (same : p ≡ q) (buf : List ℕ) {c : ℕ} where
-  pub pair-refused : (p .refusal .number ≡ 0 → ⊥) → c ≡ pairRefused (p .refusal) (p .meant) → (c ≡ pairCode q buf) × (buf ≡ heldUnless (q .refusal) (socBytes (q .soc)) buf)
-  unfolding pairCode heldUnless
-  pair-refused h e = let t = ne-eqb (p .refusal .number) 0 h in (e ∙ rw (← same, t), rw (← same, t))
+module _ (r : Refusal) (m : Meant) (v : ℕ) where
+  pub figure-none : r .number ≡ 0 → above 0 v ≡ pairFigure r m v
+  unfolding pairFigure
+  figure-none e = rw (eq-eqb (r .number) 0 e)
 
-  pub pair-given : {held : List ℕ} → p .refusal .number ≡ 0 → (c ≡ givenUnless (q .refusal) (socBytes (q .soc)) buf) × (held ≡ heldUnless (q .refusal) (socBytes (q .soc)) buf)
-      → (c ≡ pairCode q buf) × (held ≡ heldUnless (q .refusal) (socBytes (q .soc)) buf)
-  unfolding pairCode givenUnless
-  pair-given h e =
-      let z : q .refusal .number ≡ 0 = sym (ap (λ (a : PairRead). a .refusal .number) same) ∙ h in
-      let t = eq-eqb (q .refusal .number) 0 z in
-      let k : givenUnless (q .refusal) (socBytes (q .soc)) buf ≡ pairCode q buf = rw t in
-      (e .0 ∙ k, e .1)
+  pub figure-refused : (r .number ≡ 0 → ⊥) → pairRefused r m ≡ pairFigure r m v
+  unfolding pairFigure
+  figure-refused h = rw (ne-eqb (r .number) 0 h)
 
-module _ {s q : Shown} (same : s ≡ q) {c : ℕ} where
-  pub shown-refused : (s .refusal .number ≡ 0 → ⊥) → c ≡ pairRefused (s .refusal) (s .meant) → c ≡ shownCode q
-  unfolding shownCode
-  shown-refused h e = let t = ne-eqb (s .refusal .number) 0 h in e ∙ rw (← same, t)
+-- q and n are what the definition says of the refusal and the text that the code holds, and v of the bytes
+module _ {r q : Refusal} (same : r ≡ q) {m n : Meant} (means : m ≡ n) where
+  pub pair-refused-given : (w buf : List ℕ) {c : ℕ} → (r .number ≡ 0 → ⊥) → c ≡ pairRefused r m
+      → (c ≡ pairGiven q n w buf) × (buf ≡ heldUnless q w buf)
+  unfolding pairGiven heldUnless
+  pair-refused-given w buf h e = let t = ne-eqb (r .number) 0 h in (e ∙ rw (← same, ← means, t), rw (← same, t))
 
-  pub shown-figure : s .refusal .number ≡ 0 → c ≡ above 0 (partFigure (s .over) (s .part .from) (s .part .to)) → c ≡ shownCode q
-  unfolding shownCode
-  shown-figure h e = let t = eq-eqb (s .refusal .number) 0 h in e ∙ rw (← same, t)
+  pub pair-whole-given : (buf : List ℕ) {w v held : List ℕ} {i c k : ℕ} → w ≡ v → 0 < k → r .number ≡ 0
+      → (i ≡ putCount w buf) × (held ≡ putFront w buf) × (length w ≡ k)
+      → c ≡ bytesCode i → (c ≡ pairGiven q n v buf) × (held ≡ heldUnless q v buf)
+  unfolding pairGiven givenUnless
+  pair-whole-given buf {w} {v} b h z p e =
+      let g = whole-given same buf b h z p e in
+      let k : givenUnless q v buf ≡ pairGiven q n v buf = rw (eq-eqb (q .number) 0 (ap (λ (a : Refusal). a .number) (sym same) ∙ z)) in
+      (g .0 ∙ k, g .1)

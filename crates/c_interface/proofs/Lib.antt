@@ -1,2 +1,4 @@
 pub mod ApartLaws
 pub mod CodeLaws
+pub mod LinesApart
+pub mod PairApart

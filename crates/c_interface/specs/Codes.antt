@@ -13,8 +13,11 @@ use Rattle.pair.specs.Pair.{readPair}
 use Rattle.pair.specs.Shown.{linesShown}
 use Rattle.pair.specs.declared.read.Meant.{Meant}
 use Rattle.pair.specs.declared.read.Meant.the-variants as meant
-use Rattle.pair.specs.declared.read.PairRead.{PairRead}
 use Rattle.pair.specs.declared.shown.Shown.{Shown}
+use Rattle.pair_entries.specs.LaidPair.{layoutPair}
+use Rattle.pair_entries.specs.PlannedPair.{planPair}
+use Rattle.pair_entries.specs.TimedPair.{testTimePair, moduleTimePair}
+use Rattle.pair_entries.specs.WrittenPair.{writePair}
 use Rattle.wrapper.specs.WrapperAnswers.{layoutAnswer, testTimeAnswer, moduleTimeAnswer}
 use Rattle.plan.specs.PlanAnswers.{planAnswer}
 use Rattle.plan_file.specs.Files as planfile
@@ -119,11 +122,18 @@ lineMax = 18014398509481984
 unfoldable pub pairRefused : Refusal → Meant → ℕ
 pairRefused r m = above (r .number) (4 * (r .line % lineMax) + meantNumber m)
 
-unfoldable pub pairCode : PairRead → List ℕ → ℕ
-pairCode p buf = cond (eqb (p .refusal .number) 0) (given (socBytes (p .soc)) buf) (pairRefused (p .refusal) (p .meant))
+-- nothing refused, and a figure; or the refusal
+unfoldable pub pairFigure : Refusal → Meant → ℕ → ℕ
+pairFigure r m v = cond (eqb (r .number) 0) (above 0 v) (pairRefused r m)
+
+-- a result of bytes w where nothing is refused; without the room 11, about neither text
+unfoldable pub pairGiven : Refusal → Meant → List ℕ → List ℕ → ℕ
+pairGiven r m w buf = cond (eqb (r .number) 0) (given w buf) (pairRefused r m)
 
 abbrev pub readPairCode : List ℕ → List ℕ → List ℕ → ℕ
-readPairCode base overlay buf = pairCode (readPair base overlay) buf
+readPairCode base overlay buf =
+    let p = readPair base overlay in
+    pairGiven (p .refusal) (p .meant) (socBytes (p .soc)) buf
 
 abbrev pub readPairHeld : List ℕ → List ℕ → List ℕ → List ℕ
 readPairHeld base overlay buf = heldUnless (readPair base overlay .refusal) (socBytes (readPair base overlay .soc)) buf
@@ -132,8 +142,48 @@ readPairHeld base overlay buf = heldUnless (readPair base overlay .refusal) (soc
 unfoldable pub partFigure : Bool → ℕ → ℕ → ℕ
 partFigure over from to = 131072 * (from % 65536) + 2 * (to % 65536) + cond over 1 0
 
-unfoldable pub shownCode : Shown → ℕ
-shownCode s = cond (eqb (s .refusal .number) 0) (above 0 (partFigure (s .over) (s .part .from) (s .part .to))) (pairRefused (s .refusal) (s .meant))
+abbrev pub shownCode : Shown → ℕ
+shownCode s = pairFigure (s .refusal) (s .meant) (partFigure (s .over) (s .part .from) (s .part .to))
 
 abbrev pub moduleLinesCode : List ℕ → List ℕ → ℕ → ℕ
 moduleLinesCode base overlay m = shownCode (linesShown base overlay m)
+
+abbrev pub writePairCode : List ℕ → List ℕ → List ℕ → ℕ
+writePairCode base overlay buf =
+    let a = writePair base overlay buf in
+    pairFigure (a .answer .refusal) (a .meant) (a .answer .len)
+
+abbrev pub layoutPairCode : List ℕ → List ℕ → ℕ → ℕ → ℕ → List ℕ → ℕ
+layoutPairCode base overlay m i w buf =
+    let a = layoutPair base overlay m i w in
+    pairGiven (a .answer .refusal) (a .meant) (layoutBytes (a .answer)) buf
+
+abbrev pub layoutPairHeld : List ℕ → List ℕ → ℕ → ℕ → ℕ → List ℕ → List ℕ
+layoutPairHeld base overlay m i w buf =
+    let a = layoutPair base overlay m i w .answer in
+    heldUnless (a .refusal) (layoutBytes a) buf
+
+abbrev pub testTimePairCode : List ℕ → List ℕ → ℕ → ℕ → ℕ → ℕ
+testTimePairCode base overlay m i w =
+    let a = testTimePair base overlay m i w in
+    pairFigure (a .answer .refusal) (a .meant) (a .answer .cycles .0)
+
+abbrev pub moduleTimePairCode : List ℕ → List ℕ → ℕ → ℕ → ℕ
+moduleTimePairCode base overlay m w =
+    let a = moduleTimePair base overlay m w in
+    pairFigure (a .answer .refusal) (a .meant) (a .answer .cycles .0)
+
+abbrev pub moduleWiresPairCode : List ℕ → List ℕ → ℕ → ℕ → ℕ
+moduleWiresPairCode base overlay m w =
+    let a = moduleTimePair base overlay m w in
+    pairFigure (a .answer .refusal) (a .meant) (a .answer .wires .0)
+
+abbrev pub planPairCode : List ℕ → List ℕ → ℕ → ℕ → List ℕ → ℕ
+planPairCode base overlay W B buf =
+    let a = planPair base overlay W B in
+    pairGiven (a .answer .refusal) (a .meant) (planBytes (a .answer .plan)) buf
+
+abbrev pub planPairHeld : List ℕ → List ℕ → ℕ → ℕ → List ℕ → List ℕ
+planPairHeld base overlay W B buf =
+    let a = planPair base overlay W B .answer in
+    heldUnless (a .refusal) (planBytes (a .plan)) buf

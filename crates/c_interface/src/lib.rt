@@ -5,6 +5,9 @@ use units::Refusal;
 use units::Wires;
 ghost use mathlib.Core.Path.{_≡_};
 ghost use Rattle.c_interface.specs.Codes.{above, code, bytesCode, readCode, readHeld, writeCode, writeHeld, layoutCode, layoutHeld, testTimeCode, moduleTimeCode, moduleWiresCode, planCode, planHeld, writePlanCode, writePlanHeld, readPlanCode, readPlanHeld, listingCode, listingHeld, showCode, showHeld, meantNumber, pairRefused, readPairCode, readPairHeld, partFigure, moduleLinesCode};
+ghost use Rattle.c_interface.specs.Codes.{pairFigure, writePairCode, layoutPairCode, layoutPairHeld, testTimePairCode};
+ghost use Rattle.c_interface.specs.Codes.{moduleTimePairCode, moduleWiresPairCode, planPairCode, planPairHeld};
+ghost use Rattle.pair_entries.specs.WrittenPair.{writePairLeaves};
 
 // v has 56 bits: a line and a length stay far below, and a time has at most 46.
 fn above_byte(n: u8, v: u64) -> u64
@@ -166,6 +169,15 @@ fn pair_refused(r: Refusal, m: Meant) -> u64
     )
 }
 
+fn pair_code_of(r: Refusal, m: Meant, v: u64) -> u64
+    ensures { λ c. ⌜ c ≡ pairFigure r m v ⌝ }
+{
+    if r.number == 0 {
+        return above_byte(0, v);
+    }
+    pair_refused(r, m)
+}
+
 #[no_mangle]
 pub extern "C" fn tallowwing_read_pair(base: &[u8], overlay: &[u8], into: &mut [u8]) -> u64
     ensures { λ r. ⌜ (r ≡ readPairCode (now (base .entry)) (now (overlay .entry)) (now (into .entry))) × (now (into .exit) ≡ readPairHeld (now (base .entry)) (now (overlay .entry)) (now (into .entry))) ⌝ }
@@ -198,4 +210,96 @@ pub extern "C" fn tallowwing_module_lines(base: &[u8], overlay: &[u8], module: u
         return pair_refused(shown.refusal, meant);
     }
     above_byte(0, part_figure(shown.over, shown.part.from, shown.part.to))
+}
+
+#[no_mangle]
+pub extern "C" fn tallowwing_write_pair(base: &[u8], overlay: &[u8], into: &mut [u8]) -> u64
+    ensures { λ r. ⌜ (r ≡ writePairCode (now (base .entry)) (now (overlay .entry)) (now (into .entry)))
+        × (now (into .exit) ≡ writePairLeaves (now (base .entry)) (now (overlay .entry)) (now (into .entry))) ⌝ }
+{
+    let written = pair_entries::write_pair(base, overlay, &mut *into);
+    let meant = written.meant;
+    pair_code_of(written.answer.refusal, meant, written.answer.len as u64)
+}
+
+#[no_mangle]
+pub extern "C" fn tallowwing_layout_pair(
+    base: &[u8],
+    overlay: &[u8],
+    module: u32,
+    test: u32,
+    width: u32,
+    into: &mut [u8],
+) -> u64
+    ensures { λ r. ⌜ (r ≡ layoutPairCode (now (base .entry)) (now (overlay .entry)) «module» test width (now (into .entry)))
+        × (now (into .exit) ≡ layoutPairHeld (now (base .entry)) (now (overlay .entry)) «module» test width (now (into .entry))) ⌝ }
+{
+    let laid = pair_entries::layout_pair(base, overlay, module, test, Wires(width));
+    if laid.answer.refusal.number != 0 {
+        let meant = laid.meant;
+        return pair_refused(laid.answer.refusal, meant);
+    }
+    code_of_bytes(c_forms::layout_bytes(laid.answer, &mut *into))
+}
+
+#[no_mangle]
+pub extern "C" fn tallowwing_test_time_pair(
+    base: &[u8],
+    overlay: &[u8],
+    module: u32,
+    test: u32,
+    width: u32,
+) -> u64
+    ensures { λ r. ⌜ r ≡ testTimePairCode (now (base .entry)) (now (overlay .entry)) «module» test width ⌝ }
+{
+    let time = pair_entries::test_time_pair(base, overlay, module, test, Wires(width));
+    let meant = time.meant;
+    pair_code_of(time.answer.refusal, meant, time.answer.cycles.0)
+}
+
+#[no_mangle]
+pub extern "C" fn tallowwing_module_time_pair(
+    base: &[u8],
+    overlay: &[u8],
+    module: u32,
+    width: u32,
+) -> u64
+    ensures { λ r. ⌜ r ≡ moduleTimePairCode (now (base .entry)) (now (overlay .entry)) «module» width ⌝ }
+{
+    let time = pair_entries::module_time_pair(base, overlay, module, Wires(width));
+    let meant = time.meant;
+    pair_code_of(time.answer.refusal, meant, time.answer.cycles.0)
+}
+
+#[no_mangle]
+pub extern "C" fn tallowwing_module_wires_pair(
+    base: &[u8],
+    overlay: &[u8],
+    module: u32,
+    width: u32,
+) -> u64
+    ensures { λ r. ⌜ r ≡ moduleWiresPairCode (now (base .entry)) (now (overlay .entry)) «module» width ⌝ }
+{
+    let best = pair_entries::module_time_pair(base, overlay, module, Wires(width));
+    let meant = best.meant;
+    pair_code_of(best.answer.refusal, meant, best.answer.wires.0 as u64)
+}
+
+#[no_mangle]
+pub extern "C" fn tallowwing_plan_pair(
+    base: &[u8],
+    overlay: &[u8],
+    wires: u32,
+    limit: u32,
+    into: &mut [u8],
+) -> u64
+    ensures { λ r. ⌜ (r ≡ planPairCode (now (base .entry)) (now (overlay .entry)) wires limit (now (into .entry)))
+        × (now (into .exit) ≡ planPairHeld (now (base .entry)) (now (overlay .entry)) wires limit (now (into .entry))) ⌝ }
+{
+    let planned = pair_entries::plan_pair(base, overlay, Wires(wires), limit);
+    if planned.answer.refusal.number != 0 {
+        let meant = planned.meant;
+        return pair_refused(planned.answer.refusal, meant);
+    }
+    code_of_bytes(c_forms::plan_bytes(planned.answer.plan, &mut *into))
 }

@@ -47,7 +47,7 @@ unfolding rule
 rule-left true fs gs u h = cc
 rule-left false fs gs u h = clash cc
 
-number-due : (low m : ℕ) (fs gs : List (List ℕ)) → blockNumber low fs ≡ got m gs → moduleDue m fs ≡ got tt gs
+pub number-due : (low m : ℕ) (fs gs : List (List ℕ)) → blockNumber low fs ≡ got m gs → moduleDue m fs ≡ got tt gs
 unfolding blockNumber
 number-due low m fs gs h =
     let a = after-only h in
@@ -87,7 +87,8 @@ start-as low fs b last h r =
     ap closed (after-got _ _ _ _ l ∙ k .second ∙ ap (got (s .value)) (g .1)) ∙ ap says p
 
 -- a line that says what is read from it
-line-as : {A : Type 0} (p : Reader A) (ls : List Line) (l : Line) (rest : List Line) (v : A) → ls ≡ l ∷ rest → whole p (l .fields) ≡ says v → line p ls ≡ got v rest
+pub line-as : {A : Type 0} (p : Reader A) (ls : List Line) (l : Line) (rest : List Line) (v : A) → ls ≡ l ∷ rest
+    → whole p (l .fields) ≡ says v → line p ls ≡ got v rest
 unfolding line judged
 line-as p ls l rest v e h = ap (line p) e ∙ ap (judged (l .number) rest) h
 

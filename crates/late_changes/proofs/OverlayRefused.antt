@@ -67,13 +67,13 @@ module _ (R : ℕ → ℕ → Type 0) where
   alike-blocks o zero low = alike-give R []
   alike-blocks o (suc n) low = alike-bind R (alike-block o low) (λ b. alike-bind R (alike-end (alike-blocks o n (suc (b .number)))) (λ bs. alike-give R (b ∷ bs)))
 
-  alike-overlay : AlikeReader R overlay
+  pub alike-overlay : AlikeReader R overlay
   unfolding overlay behindName withBlocks places
   alike-overlay =
       alike-bind R (alike-line R overlayLine overlay-line-refuses)
       (λ name. alike-bind R (alike-line R optionsLine options-refuses) (λ o. alike-bind R (alike-bind R (alike-blocks o blocksMax 0) (λ bs. alike-give R _)) (λ p. alike-give R _)))
 
-overlay-refuses : (ls : List Line) (r : Refusal) → overlay ls ≡ no r → (3 ≤ r .number) × (r .number ≤ 6)
+pub overlay-refuses : (ls : List Line) (r : Refusal) → overlay ls ≡ no r → (3 ≤ r .number) × (r .number ≤ 6)
 overlay-refuses ls r h =
     let k = alike-refuses (λ n. Unit {0}) (alike-overlay (λ i j. Unit {0}) ls ls (same-self (λ n. Unit {0}) ls (λ n. tt))) r h in
     (k .least, k .most)
@@ -89,7 +89,7 @@ overlay-number t = go (leb (length t) textMax) (badByte 1 t) (overlay (linesFrom
     go true (OnLine n) g e = omega arith
     go false b g e = omega arith
 
-base-number : (t : List ℕ) → readSoc t .refusal .number ≤ 6
+pub base-number : (t : List ℕ) → readSoc t .refusal .number ≤ 6
 base-number t = go (accepts-or-refuses t)
   where
     go : ((s : Soc) × (readSoc t ≡ acceptedSoc s)) ⊎ ((r : Refusal) × (readSoc t ≡ refusedSoc r) × (1 ≤ r .number) × (r .number ≤ 6)) → readSoc t .refusal .number ≤ 6

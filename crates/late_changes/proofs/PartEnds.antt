@@ -17,6 +17,7 @@ use Rattle.text_lines.specs.Kinds.{moduleDue}
 use Rattle.module_part.specs.ModulePart.{lastEnd, begun, isOf, noPart, widened, withLine, partFrom, modulePart}
 use Rattle.module_part.specs.declared.Part.{Part}
 use Rattle.module_part.proofs.PartLaws.{last-inside, last-behind}
+use Rattle.late_changes.specs.Together.{Ends}
 
 -- the first field of a line begins behind its gaps
 first-byte : (l : List ℕ) → (fieldsOf l ≡ [] → ⊥) → gap (getD l (gaps l) 0) ≡ false
@@ -48,12 +49,6 @@ last-field (b ∷ l) k h = go (λ j e. last-field l j e) (gap b && eqb (lastEnd 
 some-field : (m : ℕ) (fs : List (List ℕ)) → begun (moduleDue m fs) ≡ true → fs ≡ [] → ⊥
 unfolding begun after bytesDue
 some-field m fs h e = false≢true (rw e at h)
-
--- a byte of a field at its beginning and at its end
-pub record Ends (t : List ℕ) (s : Part) : Type 0 where
-  pub order : s .from < s .to
-  pub first : gap (getD t (s .from) 0) ≡ false
-  pub last : gap (getD t (s .to - 1) 0) ≡ false
 
 abbrev EndsOrNone : List ℕ → Part → Type 0
 EndsOrNone t s = (s .to ≡ 0) ⊎ Ends t s

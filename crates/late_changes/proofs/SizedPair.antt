@@ -22,18 +22,20 @@ use Rattle.late_changes.specs.Blocks.{GoodPlaces}
 use Rattle.late_changes.proofs.Laid.{rule-of, laid-length, laid-at}
 use Rattle.late_changes.proofs.PairAnswers.{places-only}
 
--- each module of a text keeps the level rule behind some level
-rule-at : (power xy : Bool) (m last : ℕ) (ds : List Module) (i : ℕ) → goodModules power xy m last ds ≡ true → i < length ds
-    → (l : ℕ) × (levelRule (m + i) l (getD ds i noModule .level) ≡ true)
+-- each module of a text keeps the limits and rules behind some level
+pub good-at : (power xy : Bool) (m last : ℕ) (ds : List Module) (i : ℕ) → goodModules power xy m last ds ≡ true → i < length ds
+    → (l : ℕ) × (goodModule power xy (m + i) l (getD ds i noModule) ≡ true)
 unfolding goodModules
-rule-at power xy m last [] i g h = absurd (omega arith)
-rule-at power xy m last (d ∷ ds) zero g h =
+good-at power xy m last [] i g h = absurd (omega arith)
+good-at power xy m last (d ∷ ds) zero g h =
     let z : m + 0 ≡ m = omega arith in
-    (last, ap (λ n. levelRule n last (d .level)) z ∙ rule-of power xy m last d (and-both (goodModule power xy m last d) (goodModules power xy (suc m) (d .level) ds) g .0))
-rule-at power xy m last (d ∷ ds) (suc i) g h =
-    let r = rule-at power xy (suc m) (d .level) ds i (and-both (goodModule power xy m last d) (goodModules power xy (suc m) (d .level) ds) g .1) (omega arith) in
+    let a = and-both (goodModule power xy m last d) (goodModules power xy (suc m) (d .level) ds) g in
+    (last, ap (λ n. goodModule power xy n last d) z ∙ a .0)
+good-at power xy m last (d ∷ ds) (suc i) g h =
+    let a = and-both (goodModule power xy m last d) (goodModules power xy (suc m) (d .level) ds) g in
+    let r = good-at power xy (suc m) (d .level) ds i (a .1) (omega arith) in
     let z : m + suc i ≡ suc m + i = omega arith in
-    (r .0, ap (λ n. levelRule n (r .0) (getD ds i noModule .level)) z ∙ r .1)
+    (r .0, ap (λ n. goodModule power xy n (r .0) (getD ds i noModule)) z ∙ r .1)
 
 pub combined-sized : (s : Soc) (o : Overlay) → Sized s → goodSoc s ≡ true → fits s o ≡ true → GoodPlaces (o .power) (o .xy) (o .has) (o .modules) → Sized (combined s o)
 unfolding fits goodSoc combined
@@ -60,11 +62,13 @@ combined-sized s o z g f p =
         let q = places-only n 0 i (o .has) (o .modules) (s .modules) fit (omega (arith, h, p .modules-length)) (omega (arith, h, z .modules)) e in
         let k : i < n = omega (arith, q .0) in
         let t : i < length (take n (s .modules)) = front-has n (s .modules) i k (omega (arith, h, z .modules)) in
-        let r = rule-at (s .power) (s .xy) 0 0 (take n (s .modules)) i good t in
+        let r = good-at (s .power) (s .xy) 0 0 (take n (s .modules)) i good t in
         let u : getD (take n (s .modules)) i noModule ≡ getD (s .modules) i noModule = getD-take n (s .modules) i noModule k in
         let j : 0 + i ≡ i = omega arith in
         let v : levelRule i (r .0) (getD (o .modules) i noModule .level) ≡ true =
-        ap (levelRule i (r .0)) (q .1 ∙ ap (λ (d : Module). d .level) (sym u)) ∙ ap (λ m. levelRule m (r .0) (getD (take n (s .modules)) i noModule .level)) (sym j) ∙ r .1 in
+        ap (levelRule i (r .0)) (q .1 ∙ ap (λ (d : Module). d .level) (sym u))
+        ∙ ap (λ m. levelRule m (r .0) (getD (take n (s .modules)) i noModule .level)) (sym j)
+        ∙ rule-of (s .power) (s .xy) (0 + i) (r .0) (getD (take n (s .modules)) i noModule) (r .1) in
         p .each i e .sized (r .0) v
 
     placed : (i : ℕ) → i < modulesMax → (t : Bool) → getD (o .has) i false ≡ t → SizedModule (getD (laid (o .has) (o .modules) (s .modules)) i noModule)

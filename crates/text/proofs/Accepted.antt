@@ -281,7 +281,7 @@ no-more-only [] u rest h = (refl, cc)
 no-more-only (l ∷ ls) u rest h = clash cc
 
 module _ (name : Name) (n : ℕ) (o : Options) (ds : List Module) where
-  name-good : (fs : List (List ℕ)) → NameSays fs name → (fs ≡ nameFields (socOf name n o ds)) × (goodName (socOf name n o ds) ≡ true) × (length (name .bytes) ≡ nameMax)
+  pub name-good : (fs : List (List ℕ)) → NameSays fs name → (fs ≡ nameFields (socOf name n o ds)) × (goodName (socOf name n o ds) ≡ true) × (length (name .bytes) ≡ nameMax)
   unfolding nameFields goodName
   name-good fs p =
       let a = and-both (leb 1 (length (p .field))) (leb (length (p .field)) nameMax && nameBytes (p .field)) (p .named) in

@@ -244,12 +244,12 @@ total-once : (r s : Soc) → totalFields r ≡ totalFields s → r .«module_cou
 unfolding totalFields
 total-once r s h = decimal-once (r .«module_count») (s .«module_count») (field-once 1 h)
 
-options-once : (r s : Soc) → optionsFields r ≡ optionsFields s → (r .power ≡ s .power) × (r .xy ≡ s .xy)
+pub options-once : (r s : Soc) → optionsFields r ≡ optionsFields s → (r .power ≡ s .power) × (r .xy ≡ s .xy)
 unfolding optionsFields
 options-once r s h = (flag-once (r .power) (s .power) (field-once 2 h), flag-once (r .xy) (s .xy) (field-once 4 h))
 
 module _ (r s : Soc) (y : Sized r) (z : Sized s) (p : Spare r) (q : Spare s) where
-  name-once : nameFields r ≡ nameFields s → (r .«name_len» ≡ s .«name_len») × (r .name ≡ s .name)
+  pub name-once : nameFields r ≡ nameFields s → (r .«name_len» ≡ s .«name_len») × (r .name ≡ s .name)
   unfolding nameFields
   name-once h =
       let k : nameOf r ≡ nameOf s = field-once 1 h in

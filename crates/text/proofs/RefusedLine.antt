@@ -38,7 +38,7 @@ begun-some [] = omega arith
 begun-some (b ∷ bs) = some b bs (begun-some bs) (eqb b lf)
 
 -- a bad byte stands on a line of the text
-bad-within : (n : ℕ) (begun : Bool) (t : List ℕ) (k : ℕ) → badByte n t ≡ OnLine k → (n ≤ k) × (k < n + linesBehind begun t)
+pub bad-within : (n : ℕ) (begun : Bool) (t : List ℕ) (k : ℕ) → badByte n t ≡ OnLine k → (n ≤ k) × (k < n + linesBehind begun t)
 unfolding badByte linesBehind
 bad-within n begun [] k e = clash cc
 bad-within n begun (b ∷ bs) k e = go (allowed b bs) (eqb b lf) (λ n begun. bad-within n begun bs k) e
@@ -53,7 +53,7 @@ bad-within n begun (b ∷ bs) k e = go (allowed b bs) (eqb b lf) (λ n begun. ba
         (omega arith, omega (arith, some b bs (begun-some bs) u))
 
 -- there are no more lines than are counted
-lines-within : (begun : Bool) (t : List ℕ) → length (linesOf t) ≤ linesBehind begun t
+pub lines-within : (begun : Bool) (t : List ℕ) → length (linesOf t) ≤ linesBehind begun t
 unfolding linesOf linesBehind onLine
 lines-within begun [] = omega arith
 lines-within begun (b ∷ bs) = go (eqb b lf) (eqb b cr && lfNext bs) (λ begun. lines-within begun bs)
@@ -70,10 +70,10 @@ lines-within begun (b ∷ bs) = go (eqb b lf) (eqb b cr && lfNext bs) (λ begun.
     go false false f = front (linesOf bs) (f true)
 
 -- the numbers of lines, the first of which has number n
-abbrev Between : ℕ → ℕ → ℕ → ℕ → Type 0
+abbrev pub Between : ℕ → ℕ → ℕ → ℕ → Type 0
 Between low high i j = (low ≤ i) × (i ≤ high)
 
-numbered-within : (low high n : ℕ) (ls : List (List ℕ)) → low ≤ n → n + length ls ≤ high + 1
+pub numbered-within : (low high n : ℕ) (ls : List (List ℕ)) → low ≤ n → n + length ls ≤ high + 1
     → SameFields (Between low high) (numbered n ls) (numbered n ls)
 unfolding numbered withLine
 numbered-within low high n [] h k = none
@@ -85,9 +85,9 @@ numbered-within low high n (l ∷ ls) h k = go (fieldsOf l) (numbered-within low
     go (f ∷ fs) s = more (h, omega arith) refl s
 
 -- a number and a line that go together in text t
-record Lined (t : List ℕ) (r : Refusal) : Type 0 where
-  none : (r .number ≡ 1) ⊎ (r .number ≡ 6) → r .line ≡ 0
-  counted : 2 ≤ r .number → r .number ≤ 5 → (1 ≤ r .line) × (r .line ≤ lineCount t)
+pub record Lined (t : List ℕ) (r : Refusal) : Type 0 where
+  pub none : (r .number ≡ 1) ⊎ (r .number ≡ 6) → r .line ≡ 0
+  pub counted : 2 ≤ r .number → r .number ≤ 5 → (1 ≤ r .line) × (r .line ≤ lineCount t)
 
 module _ (t : List ℕ) where
   abbrev Within : ℕ → Type 0
@@ -137,7 +137,7 @@ module _ (t : List ℕ) where
   refused-line-counted = lined .counted
 
 -- a text has no more lines than bytes
-lines-most : (begun : Bool) (t : List ℕ) → linesBehind begun t ≤ length t + 1
+pub lines-most : (begun : Bool) (t : List ℕ) → linesBehind begun t ≤ length t + 1
 unfolding linesBehind
 lines-most true [] = omega arith
 lines-most false [] = omega arith

@@ -64,7 +64,7 @@ good-soc s h =
     record { name = a .0; some = leb-true 1 (s .«module_count») (b .0); spare = e .1; figures = soc-figures s h }
 
 -- the places that no line speaks of hold 0
-good-spare-in : (power xy : Bool) (m last : ℕ) (d : Module) → goodModule power xy m last d ≡ true → spareIn d ≡ true
+pub good-spare-in : (power xy : Bool) (m last : ℕ) (d : Module) → goodModule power xy m last d ≡ true → spareIn d ≡ true
 unfolding spareIn goodChains
 good-spare-in power xy m last d h =
     let g = good-module power xy m last d h in

@@ -40,14 +40,14 @@ unfolding goodPower
 power-described false t h = inr (not-given (t .power) (simp or-false at (good-test false t h .2)), refl)
 power-described true t h = inl (refl, power-says t h, refl)
 
-tests-described : (power : Bool) (m i : ℕ) (ts : List Test) → allOf (goodTest power) ts ≡ true → TestLines power m i ts (testLines power m i ts)
+pub tests-described : (power : Bool) (m i : ℕ) (ts : List Test) → allOf (goodTest power) ts ≡ true → TestLines power m i ts (testLines power m i ts)
 unfolding testLines allOf
 tests-described power m i [] h = TestLines.none
 tests-described power m i (t ∷ ts) h =
     let q = and-both (goodTest power t) (allOf (goodTest power) ts) h in
     TestLines.more (cond power (powerFields t) [], power-described power t (q .0), refl) (tests-described power m (suc i) ts (q .1))
 
-position-described : (xy : Bool) (m : ℕ) (d : Module) → goodPosition xy (d .x) (d .y) ≡ true → PositionPart xy m d (positionLines xy m d)
+pub position-described : (xy : Bool) (m : ℕ) (d : Module) → goodPosition xy (d .x) (d .y) ≡ true → PositionPart xy m d (positionLines xy m d)
 unfolding positionLines goodPosition
 position-described false m d h =
     let q = and-both _ _ (simp or-false at h) in
@@ -122,7 +122,7 @@ total-text : (s : Soc) → textLine (totalFields s) ≡ true
 unfolding textLine totalFields textField plainField more noGap printable blank allOf
 total-text s = simp decimal-text
 
-options-text : (s : Soc) → textLine (optionsFields s) ≡ true
+pub options-text : (s : Soc) → textLine (optionsFields s) ≡ true
 unfolding textLine optionsFields textField plainField more noGap printable blank allOf
 options-text s = simp flag-text
 
@@ -144,7 +144,7 @@ test-text false m i t = simp (decimal-text, flag-text)
 test-text true m i t = simp (decimal-text, flag-text, given-text)
 
 -- the lines one behind the other
-all-append : {A : Type 0} (p : A → Bool) (a b : List A) → allOf p a ≡ true → allOf p b ≡ true → allOf p (a ++ b) ≡ true
+pub all-append : {A : Type 0} (p : A → Bool) (a b : List A) → allOf p a ≡ true → allOf p b ≡ true → allOf p (a ++ b) ≡ true
 unfolding allOf
 all-append p [] b h k = k
 all-append p (x ∷ a) b h k = let q = and-both (p x) (allOf p a) h in simp (q .0, all-append p a b (q .1) k)
@@ -159,7 +159,7 @@ unfolding positionLines allOf
 position-lines-text false m d = refl
 position-lines-text true m d = simp (position-text m d)
 
-module-lines-text : (power xy : Bool) (m : ℕ) (d : Module) → allOf textLine (moduleLinesOf power xy m d) ≡ true
+pub module-lines-text : (power xy : Bool) (m : ℕ) (d : Module) → allOf textLine (moduleLinesOf power xy m d) ≡ true
 unfolding moduleLinesOf allOf
 module-lines-text power xy m d =
     let t : allOf textLine (testsFields m d ∷ testLines power m 1 (testsOf d)) ≡ true = simp (tests-text m d, test-lines-text power m 1 (testsOf d)) in

@@ -25,16 +25,16 @@ use Rattle.text_writer.proofs.FigureLaws.{flag-length}
 use Rattle.soc.proofs.GoodSocLaws.{TestFigures, test-figures, ModuleFigures, module-figures, SocFigures, soc-figures}
 
 -- each line with two bytes for its end
-unfoldable linesSize : List (List (List ℕ)) → ℕ
+unfoldable pub linesSize : List (List (List ℕ)) → ℕ
 linesSize [] = 0
 linesSize (l ∷ ls) = size l + 1 + linesSize ls
 
-lines-size-append : (xs ys : List (List (List ℕ))) → linesSize (xs ++ ys) ≡ linesSize xs + linesSize ys
+pub lines-size-append : (xs ys : List (List (List ℕ))) → linesSize (xs ++ ys) ≡ linesSize xs + linesSize ys
 unfolding linesSize
 lines-size-append [] ys = omega arith
 lines-size-append (l ∷ xs) ys = omega (arith, lines-size-append xs ys)
 
-written-size : (ls : List (List (List ℕ))) → length (writtenLines ls) ≤ linesSize ls
+pub written-size : (ls : List (List (List ℕ))) → length (writtenLines ls) ≤ linesSize ls
 unfolding linesSize writtenLines
 written-size [] = omega arith
 written-size (l ∷ ls) = rw length-append (omega (arith, joined-size l, written-size ls))
@@ -133,7 +133,7 @@ test-lines-size power m i (t ∷ ts) h k e =
     let a = and-both (goodTest power t) (allOf (goodTest power) ts) e in
     omega (arith, test-size power m i t h (omega arith) (test-figures power t (a .0)), test-lines-size power m (suc i) ts h (omega arith) (a .1))
 
-module-size : (power xy : Bool) (m : ℕ) (d : Module) → m < 100 → ModuleFigures power xy d → linesSize (moduleLinesOf power xy m d) ≤ 1024
+pub module-size : (power xy : Bool) (m : ℕ) (d : Module) → m < 100 → ModuleFigures power xy d → linesSize (moduleLinesOf power xy m d) ≤ 1024
 unfolding moduleLinesOf linesSize
 module-size power xy m d h f =
     let n = front-length (d .«test_count») (d .tests) in

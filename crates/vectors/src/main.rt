@@ -1,6 +1,8 @@
-// Runs the product on the texts in data/ and prints what it finds: texts read and written, layouts and times, plans, plan files (document
-// 01, "The SOC text", "The wrapper rule", "The plan", "The plan file"; document 02, item 1). The file args names the texts, and stdout is
-// what must be printed.
+// Runs the product on the texts in data/ and prints what it finds: texts read and written, layouts and times, plans, plan files, pairs
+// (document 01, "The SOC text", "The wrapper rule", "The plan", "The plan file"; document 02, items 1 and 3). The file args names the
+// texts, and stdout is what must be printed.
+use pairs::show_lines;
+use pairs::show_pair;
 use plan_files::show_changes;
 use plan_files::show_old;
 use plan_files::show_part;
@@ -14,6 +16,7 @@ use wrappers::show_layout;
 use wrappers::show_times;
 
 mod lent;
+mod pairs;
 mod plan_files;
 mod plans;
 mod print;
@@ -45,6 +48,24 @@ const THIRTEEN: usize = 10;
 const NONE: usize = 11;
 
 const REFUSED: usize = 12;
+
+const FORTY: usize = 18;
+
+const D695_OVERLAY: usize = 85;
+
+const SPACED: usize = 86;
+
+const MODULE_39: usize = 87;
+
+const BLOCKS_40: usize = 88;
+
+const FALLING: usize = 89;
+
+const BLOCK_40: usize = 90;
+
+const NO_BLOCK: usize = 91;
+
+const OTHER_LEVEL: usize = 92;
 
 // Beside the texts that the arguments name: the longest, one byte more, and that with a bad byte, which is refused for its length too.
 fn show_texts() {
@@ -113,9 +134,30 @@ fn show_plan_files() {
     show_changes();
 }
 
+// d695 with two cores changed; CRLF, tabs and blank lines inside a block, and no end of the last line; one block with the highest number,
+// and all blocks that there can be. Then refusals: of the base before the overlay's, of the overlay, 15, and what the planner refuses.
+fn show_pairs() {
+    show_pair(D695, D695_OVERLAY, 32, 3);
+    show_pair(T1, SPACED, 4, 2);
+    show_lines(T1, SPACED, 1);
+    show_lines(T1, SPACED, 2);
+    show_pair(FORTY, MODULE_39, 2, 1);
+    show_lines(FORTY, MODULE_39, 39);
+    show_pair(FORTY, BLOCKS_40, 2, 1);
+    show_pair(REFUSED, FALLING, 0, 0);
+    show_pair(T1, FALLING, 0, 0);
+    show_pair(T1, BLOCK_40, 0, 0);
+    show_pair(T1, NO_BLOCK, 0, 0);
+    show_pair(T1, OTHER_LEVEL, 0, 0);
+    show_pair(T1, SPACED, 0, 0);
+    show_lines(T1, FALLING, 1);
+    show_lines(T1, SPACED, 3);
+}
+
 fn main() {
     show_texts();
     show_wrappers();
     show_plans();
     show_plan_files();
+    show_pairs();
 }

@@ -55,6 +55,8 @@ pub const WRONG: usize = 24;
 
 pub const INTERNAL: usize = 25;
 
+pub const PAIR: usize = 26;
+
 // Stands for a figure that is not given, and is printed as the text has it: -1. All other figures are smaller.
 pub const NOT_GIVEN: u64 = 18446744073709551615;
 
@@ -119,7 +121,8 @@ pub(crate) fn print_line(line: usize, a: u64, b: u64, c: u64, d: u64) {
         | a file of # bytes: refused #, as by hand #\n\
         | byte # as # says another plan\n\
         | says something else than it holds\n\
-        |, internal chain in #\n";
+        |, internal chain in #\n\
+        |refused # line # text #, time #\n";
     print_part(lines, line, [a, b, c, d]);
 }
 

@@ -3,6 +3,15 @@
 /// The public d695, in the form of document 003.
 pub const D695: &str = include_str!("../../../examples/d695.soc");
 
+/// The example's overlay, which changes two of its cores.
+pub const D695_OVERLAY: &str = include_str!("../../../examples/d695.overlay");
+
+/// An overlay with every module of a made text.
+pub fn overlay_of(text: &str) -> String {
+    let lines: Vec<&str> = text.lines().collect();
+    format!("{}\n{}\n", lines[0].replace("SocName", "Overlay"), lines[2..].join("\n"))
+}
+
 /// What a module of a made text is like.
 pub struct Module {
     pub terminals: u32,

@@ -24,7 +24,21 @@ pub fn print() {
     row("planner, twelve equal modules, W 64, B 3", &planning(&inputs::twelve_equal(), 64, 3));
     row("planner, twelve modules whose time never falls, W 64, B 3", &planning(&inputs::twelve_that_never_fall(), 64, 3));
     row("planner, the largest SOC, twelve planned, W 64, B 3", &planning(&inputs::largest(), 64, 3));
+    overlays();
     growth();
+}
+
+/// Both sides are the library: the pair, and the combined text that is read and planned.
+fn overlays() {
+    println!("\n## Planning a pair\n\nBoth by the library, in one run: the base and an overlay, and the combined text in their place.\n");
+    println!("| Measured | pair | combined text | ratio |\n|---|---:|---:|---:|");
+    row("d695 with examples/d695.overlay, W 64, B 3", &planning_a_pair(inputs::D695, inputs::D695_OVERLAY, 64, 3));
+    row("twelve that never fall, an overlay of all of them", &never_falling_pair());
+}
+
+fn never_falling_pair() -> Pair {
+    let base = inputs::twelve_that_never_fall();
+    planning_a_pair(&base, &inputs::overlay_of(&base), 64, 3)
 }
 
 fn growth() {
@@ -110,6 +124,23 @@ fn planning(text: &str, wires: u32, limit: u32) -> Pair {
         },
         || {
             let _ = black_box(entries::plan(black_box(&record), wires, limit, &mut other));
+        },
+    )
+}
+
+fn planning_a_pair(base: &str, overlay: &str, wires: u32, limit: u32) -> Pair {
+    let (base, overlay) = (base.as_bytes(), overlay.as_bytes());
+    let mut combined = vec![0; library::TEXT_MAX];
+    let length = library::write_pair(base, overlay, &mut combined).figure().expect("the pair is good") as usize;
+    let combined = &combined[..length];
+    let (mut one, mut other, mut record) = (vec![0; library::PLAN_BYTES], vec![0; library::PLAN_BYTES], vec![0; library::SOC_BYTES]);
+    pair(
+        || {
+            black_box(library::plan_pair(black_box(base), black_box(overlay), wires, limit, &mut one));
+        },
+        || {
+            black_box(library::read_soc(black_box(combined), &mut record));
+            black_box(library::plan(black_box(&record), wires, limit, &mut other));
         },
     )
 }

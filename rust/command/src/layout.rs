@@ -3,21 +3,20 @@
 use std::path::Path;
 
 use tallowwing_library::views::{Chain, LayoutView};
-use tallowwing_library::{self as library, LAYOUT_BYTES};
+use tallowwing_library::LAYOUT_BYTES;
 
 use crate::failure::Failure;
 use crate::form::Form;
 use crate::output;
 use crate::report::{Group, Report, Row};
-use crate::soc_file::SocFile;
+use crate::source::Source;
 
 pub fn run(file: &Path, overlay: Option<&Path>, module: u32, test: u32, width: u32, form: Form) -> Result<(), Failure> {
-    let soc = SocFile::read_with(file, overlay)?;
-    let arguments = [("MODULE", module), ("TEST", test), ("WIDTH", width)];
+    let source = Source::read(file, overlay)?;
     let mut layout = [0; LAYOUT_BYTES];
-    soc.figure(library::layout(soc.record(), module, test, width, &mut layout), &arguments)?;
-    let cycles = soc.figure(library::test_time(soc.record(), module, test, width), &arguments)?;
-    let internal = soc.view().module(module).map_or(0, |module| module.chain_count());
+    source.layout(module, test, width, &mut layout)?;
+    let cycles = source.test_time(module, test, width)?;
+    let internal = source.soc()?.view().module(module).map_or(0, |module| module.chain_count());
     let mut report = report(LayoutView::new(&layout), width, internal, cycles);
     report.asked = vec![("module", module.into()), ("test", test.into()), ("width", width.into())];
     output::print(report.printed(form).as_bytes())

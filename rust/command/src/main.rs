@@ -21,6 +21,7 @@ mod report;
 mod show;
 mod soc;
 mod soc_file;
+mod source;
 mod spot;
 mod tell;
 mod time;

@@ -10,9 +10,9 @@ use crate::pair_file::PairFile;
 
 /// The combined description in its written form.
 pub fn run(base: &Path, overlay: &Path) -> Result<(), Failure> {
-    let soc = PairFile::read(base, overlay)?.soc()?;
+    let pair = PairFile::read(base, overlay)?;
     let mut text = vec![0; TEXT_MAX];
-    let length = soc.figure(library::write_soc(soc.record(), &mut text), &[])?;
+    let length = pair.figure(library::write_pair(pair.base(), pair.overlay(), &mut text), &[])?;
     output::print(&text[..length as usize])
 }
 

@@ -9,7 +9,7 @@ use crate::failure::{Failure, Place, Refusal};
 use crate::form::Form;
 use crate::output;
 use crate::report::{Group, Report, Row, Value};
-use crate::soc_file::SocFile;
+use crate::source::Source;
 
 pub struct PlanRecord {
     file: Box<Path>,
@@ -18,9 +18,9 @@ pub struct PlanRecord {
 
 impl PlanRecord {
     /// The first plan of least time.
-    pub fn planned(soc: &SocFile, file: &Path, wires: u32, limit: u32) -> Result<Self, Failure> {
+    pub fn planned(source: &Source, file: &Path, wires: u32, limit: u32) -> Result<Self, Failure> {
         let mut record = [0; PLAN_BYTES];
-        soc.figure(library::plan(soc.record(), wires, limit, &mut record), &[("W", wires), ("B", limit)])?;
+        source.plan(wires, limit, &mut record)?;
         Ok(PlanRecord { file: file.into(), record })
     }
 
@@ -93,8 +93,8 @@ mod tests {
     fn the_report_says_what_the_lines_say() {
         for (example, wires, limit) in [("t1", 4, 2), ("t1", 1, 1), ("d695", 32, 3), ("d695", 9, 2)] {
             let path = Path::new(env!("CARGO_MANIFEST_DIR")).join(format!("../../examples/{example}.soc"));
-            let Ok(soc) = SocFile::read(&path) else { panic!("{example} is good") };
-            let Ok(plan) = PlanRecord::planned(&soc, &path, wires, limit) else { panic!("{example} has a plan") };
+            let Ok(source) = Source::read(&path, None) else { panic!("{example} is good") };
+            let Ok(plan) = PlanRecord::planned(&source, &path, wires, limit) else { panic!("{example} has a plan") };
             let mut lines = vec![0; LISTING_MAX];
             let length = library::show(&plan.record, &mut lines).figure().expect("a good record") as usize;
             assert_eq!(plan.report(None).printed(Form::Lines).as_bytes(), &lines[..length]);

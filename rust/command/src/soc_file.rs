@@ -6,7 +6,6 @@ use tallowwing_library::views::SocView;
 use tallowwing_library::{self as library, Answer, SOC_BYTES, TEXT_MAX};
 
 use crate::failure::{Failure, Place, Refusal};
-use crate::pair_file::PairFile;
 use crate::{input, refusals};
 
 pub struct SocFile {
@@ -24,14 +23,6 @@ impl SocFile {
         match library::read_soc(&text, &mut record[..]) {
             Answer::Figure(_) => Ok(SocFile { path: path.to_path_buf(), record }),
             Answer::Refused { number, line } => Err(Refusal::of_text(path, &text, number, line).into()),
-        }
-    }
-
-    /// The text of a file alone, or the base of an overlay.
-    pub fn read_with(path: &Path, overlay: Option<&Path>) -> Result<Self, Failure> {
-        match overlay {
-            None => SocFile::read(path),
-            Some(overlay) => PairFile::read(path, overlay)?.soc(),
         }
     }
 
@@ -55,7 +46,7 @@ impl SocFile {
         }
     }
 
-    fn refusal(&self, number: u8, arguments: &[Argument]) -> Refusal {
+    pub fn refusal(&self, number: u8, arguments: &[Argument]) -> Refusal {
         if number == refusals::NOT_THERE {
             return self.not_there(arguments);
         }

@@ -2,19 +2,15 @@
 
 use std::path::Path;
 
-use tallowwing_library as library;
-
 use crate::failure::Failure;
 use crate::form::Form;
 use crate::output;
 use crate::report::Report;
-use crate::soc_file::SocFile;
+use crate::source::Source;
 
 pub fn run(file: &Path, overlay: Option<&Path>, module: u32, width: u32, form: Form) -> Result<(), Failure> {
-    let soc = SocFile::read_with(file, overlay)?;
-    let arguments = [("MODULE", module), ("WIDTH", width)];
-    let cycles = soc.figure(library::module_time(soc.record(), module, width), &arguments)?;
-    let wires = soc.figure(library::module_wires(soc.record(), module, width), &arguments)?;
+    let source = Source::read(file, overlay)?;
+    let (cycles, wires) = (source.module_time(module, width)?, source.module_wires(module, width)?);
     let report = Report {
         asked: vec![("module", module.into()), ("width", width.into())],
         head: vec![("cycles", cycles.into()), ("wires", wires.into())],

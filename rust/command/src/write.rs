@@ -5,9 +5,9 @@ use std::path::Path;
 use crate::failure::Failure;
 use crate::output;
 use crate::plan_record::PlanRecord;
-use crate::soc_file::SocFile;
+use crate::source::Source;
 
 pub fn run(file: &Path, overlay: Option<&Path>, wires: u32, limit: u32, out: &Path) -> Result<(), Failure> {
-    let soc = SocFile::read_with(file, overlay)?;
-    output::write_file(out, &PlanRecord::planned(&soc, file, wires, limit)?.file()?)
+    let source = Source::read(file, overlay)?;
+    output::write_file(out, &PlanRecord::planned(&source, file, wires, limit)?.file()?)
 }

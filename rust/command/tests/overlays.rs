@@ -51,6 +51,28 @@ fn a_refusal_of_a_pair_names_the_text_that_is_meant() {
     );
 }
 
+#[test]
+fn what_is_refused_of_an_accepted_pair_names_no_text() {
+    let folder = pair();
+    let with = |words: &[&str]| folder.run(&[words, &["--overlay", "late.overlay"]].concat());
+    assert_eq!(with(&["plan", "t1.soc", "0", "2"]).out, "refused 7 line 0\n");
+    assert_eq!(with(&["write", "t1.soc", "4", "4", "x.plan"]).out, "refused 8 line 0\n");
+    assert_eq!(with(&["time", "t1.soc", "1", "65"]).out, "refused 7 line 0\n");
+    let layout = with(&["layout", "t1.soc", "1", "2", "3"]);
+    assert_eq!(layout.out, "refused 13 line 0\n");
+    assert!(layout.err.contains("the tests of module 1 are 1 to 1"), "{}", layout.err);
+    let lines = folder.run(&["lines", "t1.soc", "late.overlay", "3"]);
+    assert!(lines.err.contains("the modules are 0 to 2"), "{}", lines.err);
+}
+
+#[test]
+fn the_plan_file_of_a_pair_is_that_of_the_combined_text() {
+    let folder = pair();
+    folder.run(&["write", "t1.soc", "4", "2", "pair.plan", "--overlay", "late.overlay"]).done("");
+    folder.run(&["write", "both.soc", "4", "2", "both.plan"]).done("");
+    assert_eq!(folder.run(&["show", "pair.plan"]).out, folder.run(&["show", "both.plan"]).out);
+}
+
 /// Lines of one module without chains and tests.
 fn block(module: usize, level: usize) -> String {
     format!("Module {module} Level {level} Inputs 0 Outputs 0 Bidirs 0 ScanChains 0 :\nModule {module} TotalTests 0\n")

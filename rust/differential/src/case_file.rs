@@ -16,6 +16,9 @@ pub fn written(case: &Case, remark: &str) -> String {
     }
     let [a, b, c] = case.numbers;
     let _ = writeln!(file, "entry {}\nnumbers {a} {b} {c}\nroom {}", case.entry.name(), case.room);
+    if case.overlay > 0 {
+        let _ = writeln!(file, "overlay {}", case.overlay);
+    }
     let mut rest = &case.input[..];
     while !rest.is_empty() {
         let length = write_part(rest, &mut file);
@@ -65,6 +68,7 @@ pub fn read(file: &str) -> Result<Case, String> {
             "entry" => Entry::named(rest).map(|named| entry = Some(named)),
             "numbers" => read_numbers(rest).map(|numbers| case.numbers = numbers),
             "room" => rest.parse().ok().map(|room| case.room = room),
+            "overlay" => rest.parse().ok().map(|overlay| case.overlay = overlay),
             "text" => read_text(rest).map(|bytes| case.input.extend(bytes)),
             "bytes" => read_hex(rest).map(|bytes| case.input.extend(bytes)),
             "repeat" => read_repeat(rest).map(|bytes| case.input.extend(bytes)),
@@ -125,7 +129,7 @@ mod tests {
         ];
         for entry in crate::case::ENTRIES {
             for input in inputs {
-                let case = Case { entry, numbers: [1, 0, u32::MAX], room: 300, input: input.to_vec() };
+                let case = Case { entry, numbers: [1, 0, u32::MAX], overlay: input.len() / 2, room: 300, input: input.to_vec() };
                 let file = written(&case, "why it is kept\nin two lines");
                 assert_eq!(read(&file), Ok(case), "{file}");
             }

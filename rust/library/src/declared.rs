@@ -11,6 +11,60 @@ extern "C" {
         record_len: usize,
     ) -> u64;
     pub fn tallowwing_module_lines(base: *const u8, base_len: usize, overlay: *const u8, overlay_len: usize, module: u32) -> u64;
+    pub fn tallowwing_write_pair(
+        base: *const u8,
+        base_len: usize,
+        overlay: *const u8,
+        overlay_len: usize,
+        text: *mut u8,
+        text_len: usize,
+    ) -> u64;
+    pub fn tallowwing_layout_pair(
+        base: *const u8,
+        base_len: usize,
+        overlay: *const u8,
+        overlay_len: usize,
+        module: u32,
+        test: u32,
+        width: u32,
+        layout: *mut u8,
+        layout_len: usize,
+    ) -> u64;
+    pub fn tallowwing_test_time_pair(
+        base: *const u8,
+        base_len: usize,
+        overlay: *const u8,
+        overlay_len: usize,
+        module: u32,
+        test: u32,
+        width: u32,
+    ) -> u64;
+    pub fn tallowwing_module_time_pair(
+        base: *const u8,
+        base_len: usize,
+        overlay: *const u8,
+        overlay_len: usize,
+        module: u32,
+        width: u32,
+    ) -> u64;
+    pub fn tallowwing_module_wires_pair(
+        base: *const u8,
+        base_len: usize,
+        overlay: *const u8,
+        overlay_len: usize,
+        module: u32,
+        width: u32,
+    ) -> u64;
+    pub fn tallowwing_plan_pair(
+        base: *const u8,
+        base_len: usize,
+        overlay: *const u8,
+        overlay_len: usize,
+        wires: u32,
+        limit: u32,
+        plan: *mut u8,
+        plan_len: usize,
+    ) -> u64;
     pub fn tallowwing_write_soc(record: *const u8, record_len: usize, text: *mut u8, text_len: usize) -> u64;
     pub fn tallowwing_layout(
         record: *const u8,

@@ -23,6 +23,43 @@ pub fn module_lines(base: &[u8], overlay: &[u8], module: u32) -> Answer {
     Answer::from_number(unsafe { tallowwing_module_lines(base.as_ptr(), base.len(), overlay.as_ptr(), overlay.len(), module) })
 }
 
+/// Writes the written form of a pair's combined description. A refusal of a pair is as `read_pair` has it, here and below; what is refused
+/// of an accepted pair is about neither text.
+pub fn write_pair(base: &[u8], overlay: &[u8], text: &mut [u8]) -> Answer {
+    let (b, o) = (base.as_ptr(), overlay.as_ptr());
+    Answer::from_number(unsafe { tallowwing_write_pair(b, base.len(), o, overlay.len(), text.as_mut_ptr(), text.len()) })
+}
+
+/// Lays out the wrapper of a module of a pair for one of its tests at a width.
+pub fn layout_pair(base: &[u8], overlay: &[u8], module: u32, test: u32, width: u32, layout: &mut [u8]) -> Answer {
+    let (b, o, into, room) = (base.as_ptr(), overlay.as_ptr(), layout.as_mut_ptr(), layout.len());
+    Answer::from_number(unsafe { tallowwing_layout_pair(b, base.len(), o, overlay.len(), module, test, width, into, room) })
+}
+
+/// The cycles of one test of a module of a pair at a width.
+pub fn test_time_pair(base: &[u8], overlay: &[u8], module: u32, test: u32, width: u32) -> Answer {
+    let (b, o) = (base.as_ptr(), overlay.as_ptr());
+    Answer::from_number(unsafe { tallowwing_test_time_pair(b, base.len(), o, overlay.len(), module, test, width) })
+}
+
+/// The time, in cycles, of a module of a pair on a bus of a width.
+pub fn module_time_pair(base: &[u8], overlay: &[u8], module: u32, width: u32) -> Answer {
+    let (b, o) = (base.as_ptr(), overlay.as_ptr());
+    Answer::from_number(unsafe { tallowwing_module_time_pair(b, base.len(), o, overlay.len(), module, width) })
+}
+
+/// The fewest wires that give the time of a module of a pair on a bus of a width.
+pub fn module_wires_pair(base: &[u8], overlay: &[u8], module: u32, width: u32) -> Answer {
+    let (b, o) = (base.as_ptr(), overlay.as_ptr());
+    Answer::from_number(unsafe { tallowwing_module_wires_pair(b, base.len(), o, overlay.len(), module, width) })
+}
+
+/// Finds the first plan of least time of a pair for W wires and limit B.
+pub fn plan_pair(base: &[u8], overlay: &[u8], wires: u32, limit: u32, plan: &mut [u8]) -> Answer {
+    let (b, o, into, room) = (base.as_ptr(), overlay.as_ptr(), plan.as_mut_ptr(), plan.len());
+    Answer::from_number(unsafe { tallowwing_plan_pair(b, base.len(), o, overlay.len(), wires, limit, into, room) })
+}
+
 /// Writes the written form of a SOC record.
 pub fn write_soc(record: &[u8], text: &mut [u8]) -> Answer {
     Answer::from_number(unsafe { tallowwing_write_soc(record.as_ptr(), record.len(), text.as_mut_ptr(), text.len()) })

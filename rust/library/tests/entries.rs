@@ -33,6 +33,46 @@ fn times_of_t1() {
     assert_eq!(module_wires(&record, 2, 4), Answer::Figure(3));
 }
 
+/// An overlay on t1 whose module 1 has a longer chain.
+const LATE: &[u8] =
+    b"Overlay t1\nOptions Power 0 XY 0\nModule 1 Level 1 Inputs 0 Outputs 0 Bidirs 0 ScanChains 1 : 20\nModule 1 TotalTests 1\n\
+    Module 1 Test 1 ScanUse 1 TamUse 1 Patterns 5\n";
+
+#[test]
+fn entries_on_a_pair_answer_as_on_its_record() {
+    let (mut both, mut text, mut again) = (vec![0; SOC_BYTES], vec![0; TEXT_MAX], vec![0; TEXT_MAX]);
+    assert_eq!(read_pair(T1, LATE, &mut both), Answer::Figure(SOC_BYTES as u64));
+    assert_eq!(write_pair(T1, LATE, &mut text), write_soc(&both, &mut again));
+    assert_eq!(text, again);
+    let (mut laid, mut due) = ([0; LAYOUT_BYTES], [0; LAYOUT_BYTES]);
+    assert_eq!(layout_pair(T1, LATE, 1, 1, 2, &mut laid), layout(&both, 1, 1, 2, &mut due));
+    assert_eq!(laid, due);
+    assert_eq!(test_time_pair(T1, LATE, 1, 1, 1), Answer::Figure(125));
+    assert_eq!(module_time_pair(T1, LATE, 1, 4), Answer::Figure(125));
+    assert_eq!(module_wires_pair(T1, LATE, 1, 4), Answer::Figure(1));
+    let (mut planned, mut alone) = ([0; PLAN_BYTES], [0; PLAN_BYTES]);
+    assert_eq!(plan_pair(T1, LATE, 4, 2, &mut planned), plan(&both, 4, 2, &mut alone));
+    assert_eq!((planned, PlanView::new(&planned).time()), (alone, 125));
+}
+
+#[test]
+fn a_refusal_of_a_pair_has_the_text_below_its_line() {
+    let of = |number: u8, line: u64, text: u64| Answer::Refused { number, line: 4 * line + text };
+    let mut lent = [7; PLAN_BYTES];
+    assert_eq!(plan_pair(LATE, LATE, 0, 0, &mut lent), of(3, 1, 1));
+    assert_eq!(plan_pair(T1, T1, 0, 0, &mut lent), of(3, 1, 2));
+    let other = [b"Overlay t2\n", &LATE[11..]].concat();
+    assert_eq!(plan_pair(T1, &other, 0, 0, &mut lent), of(15, 0, 2));
+    assert_eq!(plan_pair(T1, LATE, 0, 0, &mut lent), of(7, 0, 0));
+    assert_eq!(plan_pair(T1, LATE, 4, 2, &mut lent[..9]), of(11, 0, 0));
+    assert_eq!(write_pair(T1, &other, &mut lent), of(15, 0, 2));
+    assert_eq!(layout_pair(T1, LATE, 1, 2, 1, &mut lent), of(13, 0, 0));
+    assert_eq!(test_time_pair(&[], LATE, 1, 1, 1), of(6, 0, 1));
+    assert_eq!(module_time_pair(T1, &[], 1, 1), of(6, 0, 2));
+    assert_eq!(module_wires_pair(T1, LATE, 3, 1), of(13, 0, 0));
+    assert_eq!(lent, [7; PLAN_BYTES]);
+}
+
 #[test]
 fn plan_goes_to_the_file_and_back() {
     let (mut planned, mut file, mut again) = ([0; PLAN_BYTES], [0; PLAN_FILE_MAX], [0; PLAN_BYTES]);

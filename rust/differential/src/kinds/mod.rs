@@ -48,7 +48,7 @@ pub const KINDS: &[Kind] = &[
     Kind { name: "listing, good", share: 40, make: listings::listing_good, must_occur: &[0, 11] },
     Kind { name: "listing, faulty first line", share: 60, make: listings::listing_line, must_occur: &[0, 3, 4, 6] },
     Kind { name: "listing, other faults", share: 60, make: listings::listing_faults, must_occur: &[0, 1, 2, 3, 4, 5, 6, 7, 8, 9, 10] },
-    Kind { name: "pair, good", share: 80, make: pairs::pair_good, must_occur: &[0, 11, 13] },
+    Kind { name: "pair, good", share: 120, make: pairs::pair_good, must_occur: &[0, 7, 11, 13] },
     Kind { name: "pair, damaged", share: 150, make: pairs::pair_damaged, must_occur: &[0, 2, 3, 4, 5, 6, 13, 15] },
     Kind { name: "pair, numbers at their limits", share: 60, make: pairs::pair_limits, must_occur: &[0, 3, 4, 5, 6, 15] },
     Kind { name: "pair, of two texts", share: 60, make: pairs::pair_unfit, must_occur: &[0, 15] },
@@ -87,8 +87,8 @@ fn with_room(mut case: Case, random: &mut Random) -> Case {
 fn exact_room(case: &Case) -> usize {
     match case.entry {
         Entry::ReadSoc | Entry::ReadPair => SOC_BYTES,
-        Entry::Layout => LAYOUT_BYTES,
-        Entry::Plan | Entry::ReadPlan => PLAN_BYTES,
+        Entry::Layout | Entry::LayoutPair => LAYOUT_BYTES,
+        Entry::Plan | Entry::PlanPair | Entry::ReadPlan => PLAN_BYTES,
         _ => {
             let mut lent = vec![0; limits::TEXT_BYTES];
             case.ask_independent(&case.input, &mut lent).figure().map_or(PLAN_FILE_MAX, |length| length as usize)

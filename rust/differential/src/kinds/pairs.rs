@@ -1,12 +1,28 @@
-//! Cases of a SOC text and an overlay. The input holds the one behind the other, and the third number says where the overlay begins.
+//! Cases of a SOC text and an overlay. The input holds the one behind the other.
 
 use independent::soc::Soc;
 
+use super::plans::any_plan_numbers;
+use super::records::any_width;
 use crate::at_limits::limit_in_lines;
 use crate::case::{Case, Entry};
 use crate::damage_text::{damage_bytes, damage_lines};
 use crate::make_soc::{any_shape, field_lines, make_soc, styled, Shape};
 use crate::random::Random;
+
+/// The entries that a pair is put to, those that judge it alone more often.
+const ASKED: [Entry; 10] = [
+    Entry::ReadPair,
+    Entry::ReadPair,
+    Entry::ModuleLines,
+    Entry::ModuleLines,
+    Entry::WritePair,
+    Entry::LayoutPair,
+    Entry::TestTimePair,
+    Entry::ModuleTimePair,
+    Entry::ModuleWiresPair,
+    Entry::PlanPair,
+];
 
 type Lines = Vec<Vec<String>>;
 
@@ -36,10 +52,15 @@ fn changed(soc: &Soc, random: &mut Random) -> Soc {
 }
 
 fn case(soc: &Soc, base: Vec<u8>, overlay: Vec<u8>, random: &mut Random) -> Case {
-    let entry = *random.pick(&[Entry::ReadPair, Entry::ModuleLines]);
+    let entry = *random.pick(&ASKED);
     let module = random.within(0, soc.module_count);
-    let at = base.len() as u32;
-    Case::new(entry, [module, 0, at], [base, overlay].concat())
+    let numbers = match entry {
+        Entry::LayoutPair | Entry::TestTimePair => [module, random.within(0, 2), any_width(random)],
+        Entry::ModuleTimePair | Entry::ModuleWiresPair => [module, any_width(random), 0],
+        Entry::PlanPair => any_plan_numbers(random),
+        _ => [module, 0, 0],
+    };
+    Case { overlay: base.len(), ..Case::new(entry, numbers, [base, overlay].concat()) }
 }
 
 /// The lines of both texts, which fit.

@@ -1,0 +1,182 @@
+-- Laws of the entries on a pair: one that is refused is refused before the entry looks at anything else, with its line and the text that
+-- is meant; of one that is accepted each entry answers what it answers of the combined description, which is never 14. Assumes nothing.
+use Prim.Native.Nat.{ℕ, _+_, _≤_}
+use native.Mathlib.Omega.{arith}
+use mathlib.Core.Path.{_≡_}
+use mathlib.Core.List.{List}
+use mathlib.Core.Logic.{_⊎_, inl, inr}
+use lib.ListN.{length}
+use Rattle.soc.specs.Limits.{textMax}
+use Rattle.text_writer.specs.WrittenSoc.{writeLeaves}
+use Rattle.text_writer.proofs.SocWriterLaws.{write-fits}
+use Rattle.wrapper.specs.Maxima.{testTimeMax, moduleTimeMax}
+use Rattle.wrapper.specs.WrapperAnswers.{widthMax}
+use Rattle.wrapper.proofs.WrapperAnswerLaws.{layout-told, test-time-told, module-time-told}
+use Rattle.plan.proofs.PlannerLaws.{answer-told}
+use Rattle.pair.specs.Pair.{readPair}
+use Rattle.late_changes.proofs.PairOnly.{pair-good}
+use Rattle.late_changes.proofs.PairRefused.{pair-told}
+use Rattle.pair_entries.specs.LaidPair.{emptyLayout, refusedLayout, layoutOf, layoutPair}
+use Rattle.pair_entries.specs.PlannedPair.{refusedPlan, planOf, planPair}
+use Rattle.pair_entries.specs.TimedPair.{refusedTestTime, testTimeOf, testTimePair, refusedModuleTime, moduleTimeOf, moduleTimePair}
+use Rattle.pair_entries.specs.WrittenPair.{refusedWrite, writeOf, writePair, writePairLeaves}
+use Rattle.pair_entries.proofs.EntryLaws.{of-refused, of-accepted, of-either}
+use Rattle.pair_entries.proofs.GoodAnswers as good
+
+-- a pair that is refused
+module _ (base overlay : List ℕ) (h : readPair base overlay .refusal .number ≡ 0 → ⊥) where
+  pub write-refused : (buf : List ℕ) →
+      let p = readPair base overlay in
+      (writePair base overlay buf ≡ refusedWrite (p .refusal) (p .meant)) × (writePairLeaves base overlay buf ≡ buf)
+  unfolding writePair writePairLeaves
+  write-refused buf =
+      let p = readPair base overlay in
+      (of-refused p refusedWrite (writeOf buf) h, of-refused p (λ r m. buf) (λ s. writeLeaves s buf) h)
+
+  pub layout-refused : (m i w : ℕ) → let p = readPair base overlay in layoutPair base overlay m i w ≡ refusedLayout (p .refusal) (p .meant)
+  unfolding layoutPair
+  layout-refused m i w = of-refused (readPair base overlay) refusedLayout (layoutOf m i w) h
+
+  pub test-time-refused : (m i w : ℕ)
+      → let p = readPair base overlay in testTimePair base overlay m i w ≡ refusedTestTime (p .refusal) (p .meant)
+  unfolding testTimePair
+  test-time-refused m i w = of-refused (readPair base overlay) refusedTestTime (testTimeOf m i w) h
+
+  pub module-time-refused : (m w : ℕ)
+      → let p = readPair base overlay in moduleTimePair base overlay m w ≡ refusedModuleTime (p .refusal) (p .meant)
+  unfolding moduleTimePair
+  module-time-refused m w = of-refused (readPair base overlay) refusedModuleTime (moduleTimeOf m w) h
+
+  pub plan-refused : (W B : ℕ) → let p = readPair base overlay in planPair base overlay W B ≡ refusedPlan (p .refusal) (p .meant)
+  unfolding planPair
+  plan-refused W B = of-refused (readPair base overlay) refusedPlan (planOf W B) h
+
+-- a pair that is accepted
+module _ (base overlay : List ℕ) (h : readPair base overlay .refusal .number ≡ 0) where
+  pub write-accepted : (buf : List ℕ) →
+      let s = readPair base overlay .soc in
+      (writePair base overlay buf ≡ writeOf buf s) × (writePairLeaves base overlay buf ≡ writeLeaves s buf)
+  unfolding writePair writePairLeaves
+  write-accepted buf =
+      let p = readPair base overlay in
+      (of-accepted p refusedWrite (writeOf buf) h, of-accepted p (λ r m. buf) (λ s. writeLeaves s buf) h)
+
+  pub layout-accepted : (m i w : ℕ) → layoutPair base overlay m i w ≡ layoutOf m i w (readPair base overlay .soc)
+  unfolding layoutPair
+  layout-accepted m i w = of-accepted (readPair base overlay) refusedLayout (layoutOf m i w) h
+
+  pub test-time-accepted : (m i w : ℕ) → testTimePair base overlay m i w ≡ testTimeOf m i w (readPair base overlay .soc)
+  unfolding testTimePair
+  test-time-accepted m i w = of-accepted (readPair base overlay) refusedTestTime (testTimeOf m i w) h
+
+  pub module-time-accepted : (m w : ℕ) → moduleTimePair base overlay m w ≡ moduleTimeOf m w (readPair base overlay .soc)
+  unfolding moduleTimePair
+  module-time-accepted m w = of-accepted (readPair base overlay) refusedModuleTime (moduleTimeOf m w) h
+
+  pub plan-accepted : (W B : ℕ) → planPair base overlay W B ≡ planOf W B (readPair base overlay .soc)
+  unfolding planPair
+  plan-accepted W B = of-accepted (readPair base overlay) refusedPlan (planOf W B) h
+
+-- 14 is never answered: the combined description is good
+module _ (base overlay : List ℕ) where
+  refused-not-14 : readPair base overlay .refusal .number ≡ 14 → ⊥
+  refused-not-14 e = go (pair-told base overlay .0)
+    where
+      go : (readPair base overlay .refusal .number ≤ 6) ⊎ (readPair base overlay .refusal .number ≡ 15) → ⊥
+      go (inl k) = omega arith
+      go (inr k) = omega arith
+
+  pub write-pair-not-14 : (buf : List ℕ) → writePair base overlay buf .answer .refusal .number ≡ 14 → ⊥
+  unfolding writePair
+  write-pair-not-14 buf =
+      of-either (readPair base overlay) refusedWrite (writeOf buf) (λ a. a .answer .refusal .number ≡ 14 → ⊥)
+      (λ h. refused-not-14)
+      (λ h. good.write-not-14 (readPair base overlay .soc) (pair-good base overlay h) buf)
+
+  pub layout-pair-not-14 : (m i w : ℕ) → layoutPair base overlay m i w .answer .refusal .number ≡ 14 → ⊥
+  unfolding layoutPair emptyLayout
+  layout-pair-not-14 m i w =
+      of-either (readPair base overlay) refusedLayout (layoutOf m i w) (λ a. a .answer .refusal .number ≡ 14 → ⊥)
+      (λ h. refused-not-14)
+      (λ h. good.layout-not-14 (readPair base overlay .soc) (pair-good base overlay h) m w i)
+
+  pub test-time-pair-not-14 : (m i w : ℕ) → testTimePair base overlay m i w .answer .refusal .number ≡ 14 → ⊥
+  unfolding testTimePair
+  test-time-pair-not-14 m i w =
+      of-either (readPair base overlay) refusedTestTime (testTimeOf m i w) (λ a. a .answer .refusal .number ≡ 14 → ⊥)
+      (λ h. refused-not-14)
+      (λ h. good.test-time-not-14 (readPair base overlay .soc) (pair-good base overlay h) m w i)
+
+  pub module-time-pair-not-14 : (m w : ℕ) → moduleTimePair base overlay m w .answer .refusal .number ≡ 14 → ⊥
+  unfolding moduleTimePair
+  module-time-pair-not-14 m w =
+      of-either (readPair base overlay) refusedModuleTime (moduleTimeOf m w) (λ a. a .answer .refusal .number ≡ 14 → ⊥)
+      (λ h. refused-not-14)
+      (λ h. good.module-time-not-14 (readPair base overlay .soc) (pair-good base overlay h) m w)
+
+  pub plan-pair-not-14 : (W B : ℕ) → planPair base overlay W B .answer .refusal .number ≡ 14 → ⊥
+  unfolding planPair
+  plan-pair-not-14 W B =
+      of-either (readPair base overlay) refusedPlan (planOf W B) (λ a. a .answer .refusal .number ≡ 14 → ⊥)
+      (λ h. refused-not-14)
+      (λ h. good.plan-not-14 (readPair base overlay .soc) (pair-good base overlay h) W B)
+
+  -- a number is at most 15, a line at most as many as a text may have, and a figure keeps its maximum
+  pub told-number : readPair base overlay .refusal .number ≤ 15
+  told-number = go (pair-told base overlay .0)
+    where
+      go : (readPair base overlay .refusal .number ≤ 6) ⊎ (readPair base overlay .refusal .number ≡ 15)
+          → readPair base overlay .refusal .number ≤ 15
+      go (inl k) = omega arith
+      go (inr k) = omega arith
+
+  pub write-pair-told : (buf : List ℕ) →
+      let a = writePair base overlay buf .answer in
+      (a .refusal .number ≤ 15) × (a .refusal .line ≤ textMax + 1) × (a .len ≤ length buf)
+  unfolding writePair
+  write-pair-told buf =
+      of-either (readPair base overlay) refusedWrite (writeOf buf)
+      (λ a. (a .answer .refusal .number ≤ 15) × (a .answer .refusal .line ≤ textMax + 1) × (a .answer .len ≤ length buf))
+      (λ h. (told-number, pair-told base overlay .1, omega arith))
+      (λ h. let f = write-fits (readPair base overlay .soc) buf in (omega (arith, f .number), omega (arith, f .line), f .len))
+
+  pub layout-pair-told : (m i w : ℕ) →
+      let a = layoutPair base overlay m i w .answer in
+      (a .refusal .number ≤ 15) × (a .refusal .line ≤ textMax + 1)
+  unfolding layoutPair emptyLayout
+  layout-pair-told m i w =
+      of-either (readPair base overlay) refusedLayout (layoutOf m i w)
+      (λ a. (a .answer .refusal .number ≤ 15) × (a .answer .refusal .line ≤ textMax + 1))
+      (λ h. (told-number, pair-told base overlay .1))
+      (λ h. let l = layout-told (readPair base overlay .soc) m i w in (omega (arith, l .0), omega (arith, l .1)))
+
+  pub test-time-pair-told : (m i w : ℕ) →
+      let a = testTimePair base overlay m i w .answer in
+      (a .refusal .number ≤ 15) × (a .refusal .line ≤ textMax + 1) × (a .cycles .0 ≤ testTimeMax)
+  unfolding testTimePair
+  test-time-pair-told m i w =
+      of-either (readPair base overlay) refusedTestTime (testTimeOf m i w)
+      (λ a. (a .answer .refusal .number ≤ 15) × (a .answer .refusal .line ≤ textMax + 1) × (a .answer .cycles .0 ≤ testTimeMax))
+      (λ h. (told-number, pair-told base overlay .1, omega arith))
+      (λ h. let l = test-time-told (readPair base overlay .soc) m i w in (omega (arith, l .0), omega (arith, l .1), l .2))
+
+  pub module-time-pair-told : (m w : ℕ) →
+      let a = moduleTimePair base overlay m w .answer in
+      (a .refusal .number ≤ 15) × (a .refusal .line ≤ textMax + 1) × (a .cycles .0 ≤ moduleTimeMax) × (a .wires .0 ≤ widthMax)
+  unfolding moduleTimePair
+  module-time-pair-told m w =
+      of-either (readPair base overlay) refusedModuleTime (moduleTimeOf m w)
+      (λ a. (a .answer .refusal .number ≤ 15) × (a .answer .refusal .line ≤ textMax + 1) × (a .answer .cycles .0 ≤ moduleTimeMax)
+      × (a .answer .wires .0 ≤ widthMax))
+      (λ h. (told-number, pair-told base overlay .1, omega arith, omega arith))
+      (λ h. let l = module-time-told (readPair base overlay .soc) m w in (omega (arith, l .0), omega (arith, l .1), l .2, l .3))
+
+  pub plan-pair-told : (W B : ℕ) →
+      let a = planPair base overlay W B .answer in
+      (a .refusal .number ≤ 15) × (a .refusal .line ≤ textMax + 1)
+  unfolding planPair
+  plan-pair-told W B =
+      of-either (readPair base overlay) refusedPlan (planOf W B)
+      (λ a. (a .answer .refusal .number ≤ 15) × (a .answer .refusal .line ≤ textMax + 1))
+      (λ h. (told-number, pair-told base overlay .1))
+      (λ h. let l = answer-told (readPair base overlay .soc) W B in (omega (arith, l .0), omega (arith, l .1)))

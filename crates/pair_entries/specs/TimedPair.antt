@@ -1,0 +1,34 @@
+-- Times of a pair (document 02, item 3): "Plan, layout and writing work on the pair." What the entry itself refuses is about neither text.
+use Prim.Native.Nat.{ℕ}
+use mathlib.Core.List.{List}
+use Rattle.units.specs.declared.Refusal.{Refusal}
+use Rattle.soc.specs.declared.record.Soc.{Soc}
+use Rattle.wrapper.specs.WrapperAnswers.{wires, cycles, testTimeAnswer, moduleTimeAnswer}
+use Rattle.wrapper.specs.declared.asked.ModuleTime.{ModuleTime}
+use Rattle.wrapper.specs.declared.asked.TestTime.{TestTime}
+use Rattle.pair.specs.Pair.{readPair}
+use Rattle.pair.specs.declared.read.Meant.{Meant}
+use Rattle.pair.specs.declared.read.Meant.the-variants as meant
+use Rattle.pair_entries.specs.OfPair.{ofPair}
+use Rattle.pair_entries.specs.declared.timed.PairModuleTime.{PairModuleTime}
+use Rattle.pair_entries.specs.declared.timed.PairTestTime.{PairTestTime}
+
+abbrev pub refusedTestTime : Refusal → Meant → PairTestTime
+refusedTestTime r m = record { meant = m; answer = record { refusal = r; cycles = cycles 0 } }
+
+-- the time of test i of module m of the combined description at width w
+abbrev pub testTimeOf : ℕ → ℕ → ℕ → Soc → PairTestTime
+testTimeOf m i w s = record { meant = meant.Neither; answer = testTimeAnswer s m i w }
+
+unfoldable pub testTimePair : List ℕ → List ℕ → ℕ → ℕ → ℕ → PairTestTime
+testTimePair base overlay m i w = ofPair (readPair base overlay) refusedTestTime (testTimeOf m i w)
+
+abbrev pub refusedModuleTime : Refusal → Meant → PairModuleTime
+refusedModuleTime r m = record { meant = m; answer = record { refusal = r; cycles = cycles 0; wires = wires 0 } }
+
+-- the time and the wires of module m of the combined description on a bus of width w
+abbrev pub moduleTimeOf : ℕ → ℕ → Soc → PairModuleTime
+moduleTimeOf m w s = record { meant = meant.Neither; answer = moduleTimeAnswer s m w }
+
+unfoldable pub moduleTimePair : List ℕ → List ℕ → ℕ → ℕ → PairModuleTime
+moduleTimePair base overlay m w = ofPair (readPair base overlay) refusedModuleTime (moduleTimeOf m w)

@@ -1,0 +1,71 @@
+//! What a plan, a layout or a time is asked of: a SOC text alone, or one with an overlay on it.
+
+use std::path::Path;
+
+use tallowwing_library as library;
+
+use crate::failure::Failure;
+use crate::pair_file::PairFile;
+use crate::soc_file::SocFile;
+
+pub enum Source {
+    Text(SocFile),
+    Pair(PairFile),
+}
+
+impl Source {
+    pub fn read(path: &Path, overlay: Option<&Path>) -> Result<Self, Failure> {
+        Ok(match overlay {
+            None => Source::Text(SocFile::read(path)?),
+            Some(overlay) => Source::Pair(PairFile::read(path, overlay)?),
+        })
+    }
+
+    /// The record: of a pair that of the combined description.
+    pub fn soc(self) -> Result<SocFile, Failure> {
+        match self {
+            Source::Text(soc) => Ok(soc),
+            Source::Pair(pair) => pair.soc(),
+        }
+    }
+
+    pub fn plan(&self, wires: u32, limit: u32, plan: &mut [u8]) -> Result<u64, Failure> {
+        let asked = [("W", wires), ("B", limit)];
+        match self {
+            Source::Text(soc) => soc.figure(library::plan(soc.record(), wires, limit, plan), &asked),
+            Source::Pair(pair) => pair.figure(library::plan_pair(pair.base(), pair.overlay(), wires, limit, plan), &asked),
+        }
+    }
+
+    pub fn layout(&self, module: u32, test: u32, width: u32, layout: &mut [u8]) -> Result<u64, Failure> {
+        let asked = [("MODULE", module), ("TEST", test), ("WIDTH", width)];
+        match self {
+            Source::Text(soc) => soc.figure(library::layout(soc.record(), module, test, width, layout), &asked),
+            Source::Pair(pair) => pair.figure(library::layout_pair(pair.base(), pair.overlay(), module, test, width, layout), &asked),
+        }
+    }
+
+    pub fn test_time(&self, module: u32, test: u32, width: u32) -> Result<u64, Failure> {
+        let asked = [("MODULE", module), ("TEST", test), ("WIDTH", width)];
+        match self {
+            Source::Text(soc) => soc.figure(library::test_time(soc.record(), module, test, width), &asked),
+            Source::Pair(pair) => pair.figure(library::test_time_pair(pair.base(), pair.overlay(), module, test, width), &asked),
+        }
+    }
+
+    pub fn module_time(&self, module: u32, width: u32) -> Result<u64, Failure> {
+        let asked = [("MODULE", module), ("WIDTH", width)];
+        match self {
+            Source::Text(soc) => soc.figure(library::module_time(soc.record(), module, width), &asked),
+            Source::Pair(pair) => pair.figure(library::module_time_pair(pair.base(), pair.overlay(), module, width), &asked),
+        }
+    }
+
+    pub fn module_wires(&self, module: u32, width: u32) -> Result<u64, Failure> {
+        let asked = [("MODULE", module), ("WIDTH", width)];
+        match self {
+            Source::Text(soc) => soc.figure(library::module_wires(soc.record(), module, width), &asked),
+            Source::Pair(pair) => pair.figure(library::module_wires_pair(pair.base(), pair.overlay(), module, width), &asked),
+        }
+    }
+}
