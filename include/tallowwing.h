@@ -8,7 +8,7 @@
  *
  * An answer is one number:
  *
- *   answer % 256   0, or the number of the refusal (1 to 15)
+ *   answer % 256   0, or the number of the refusal (1 to 16)
  *   answer / 256   of a refusal its line, counted from 1, or 0 where it has none; else the figure that the function gives
  *
  * A refused call leaves every lent byte as it was. One that is not refused writes its result at the front of the bytes lent for it and
@@ -31,6 +31,7 @@
  *   13 there is no such module, or no such test in it
  *   14 the SOC record breaks a limit or rule of the text, or a spare place in it is not 0
  *   15 the overlay does not fit the base: another name or options, a module that is not there, or another level
+ *   16 the number of capture cycles is not from 1 to 4
  */
 #ifndef TALLOWWING_H
 #define TALLOWWING_H
@@ -92,35 +93,41 @@ uint64_t tallowwing_module_lines(const uint8_t *base, size_t base_len, const uin
 uint64_t tallowwing_write_pair(
     const uint8_t *base, size_t base_len, const uint8_t *overlay, size_t overlay_len, uint8_t *text, size_t text_len);
 uint64_t tallowwing_layout_pair(const uint8_t *base, size_t base_len, const uint8_t *overlay, size_t overlay_len, uint32_t module,
-                                uint32_t test, uint32_t width, uint8_t *layout, size_t layout_len);
+                                uint32_t test, uint32_t width, uint32_t capture, uint8_t *layout, size_t layout_len);
 uint64_t tallowwing_test_time_pair(const uint8_t *base, size_t base_len, const uint8_t *overlay, size_t overlay_len, uint32_t module,
-                                   uint32_t test, uint32_t width);
-uint64_t tallowwing_module_time_pair(
-    const uint8_t *base, size_t base_len, const uint8_t *overlay, size_t overlay_len, uint32_t module, uint32_t width);
-uint64_t tallowwing_module_wires_pair(
-    const uint8_t *base, size_t base_len, const uint8_t *overlay, size_t overlay_len, uint32_t module, uint32_t width);
+                                   uint32_t test, uint32_t width, uint32_t capture);
+uint64_t tallowwing_module_time_pair(const uint8_t *base, size_t base_len, const uint8_t *overlay, size_t overlay_len, uint32_t module,
+                                     uint32_t width, uint32_t capture);
+uint64_t tallowwing_module_wires_pair(const uint8_t *base, size_t base_len, const uint8_t *overlay, size_t overlay_len, uint32_t module,
+                                      uint32_t width, uint32_t capture);
 uint64_t tallowwing_plan_pair(const uint8_t *base, size_t base_len, const uint8_t *overlay, size_t overlay_len, uint32_t wires,
-                              uint32_t limit, uint8_t *plan, size_t plan_len);
+                              uint32_t limit, uint32_t capture, uint8_t *plan, size_t plan_len);
 
 /* Writes the written form of a SOC record. Refusals 14, 11. The figure is the number of bytes written. A record of another length than
  * 16,688 bytes, or with a flag that is neither 0 nor 1, is not good: 14, here and below. */
 uint64_t tallowwing_write_soc(const uint8_t *record, size_t record_len, uint8_t *text, size_t text_len);
 
-/* Lays out the wrapper of a module for one of its tests at a width. Refusals 14, 7, 13, 11. The figure is 1,280, the bytes written. */
-uint64_t tallowwing_layout(const uint8_t *record, size_t record_len, uint32_t module, uint32_t test, uint32_t width, uint8_t *layout,
-                           size_t layout_len);
+/* Below, capture is the number of clock cycles between load and unload, from 1 to 4: a test of p patterns takes
+ * (capture + max(si, so)) * p + min(si, so) cycles, where si and so are the longest scan-in and scan-out. */
 
-/* The cycles of one test of a module at a width. Refusals 14, 7, 13. */
-uint64_t tallowwing_test_time(const uint8_t *record, size_t record_len, uint32_t module, uint32_t test, uint32_t width);
+/* Lays out the wrapper of a module for one of its tests at a width. The layout is the same at each capture. Refusals 14, 7, 16, 13, 11.
+ * The figure is 1,280, the bytes written. */
+uint64_t tallowwing_layout(const uint8_t *record, size_t record_len, uint32_t module, uint32_t test, uint32_t width, uint32_t capture,
+                           uint8_t *layout, size_t layout_len);
 
-/* A module's time, in cycles, on a bus of a width. Refusals 14, 7, 13. */
-uint64_t tallowwing_module_time(const uint8_t *record, size_t record_len, uint32_t module, uint32_t width);
+/* The cycles of one test of a module at a width. Refusals 14, 7, 16, 13. */
+uint64_t tallowwing_test_time(
+    const uint8_t *record, size_t record_len, uint32_t module, uint32_t test, uint32_t width, uint32_t capture);
 
-/* A module's wires on a bus of a width: the fewest that give its time. Refusals 14, 7, 13. */
-uint64_t tallowwing_module_wires(const uint8_t *record, size_t record_len, uint32_t module, uint32_t width);
+/* A module's time, in cycles, on a bus of a width. Refusals 14, 7, 16, 13. */
+uint64_t tallowwing_module_time(const uint8_t *record, size_t record_len, uint32_t module, uint32_t width, uint32_t capture);
 
-/* Finds the first plan of least time for W wires and limit B. Refusals 14, 7, 8, 9, 10, 11. The figure is 396, the bytes written. */
-uint64_t tallowwing_plan(const uint8_t *record, size_t record_len, uint32_t wires, uint32_t limit, uint8_t *plan, size_t plan_len);
+/* A module's wires on a bus of a width: the fewest that give its time. Refusals 14, 7, 16, 13. */
+uint64_t tallowwing_module_wires(const uint8_t *record, size_t record_len, uint32_t module, uint32_t width, uint32_t capture);
+
+/* Finds the first plan of least time for W wires and limit B. Refusals 14, 7, 8, 16, 9, 10, 11. The figure is 396, the bytes written. */
+uint64_t tallowwing_plan(
+    const uint8_t *record, size_t record_len, uint32_t wires, uint32_t limit, uint32_t capture, uint8_t *plan, size_t plan_len);
 
 /* Writes the plan file of a plan record. Refusals 12, 11. The figure is the number of bytes written. A plan record of another length than
  * 396 bytes is not good: 12. */
@@ -134,8 +141,8 @@ uint64_t tallowwing_read_plan(const uint8_t *file, size_t file_len, uint8_t *pla
  * always enough. The figure is the number of bytes written. */
 uint64_t tallowwing_show(const uint8_t *plan, size_t plan_len, uint8_t *listing, size_t listing_len);
 
-/* Lists the plan for a line `Plan W B` and the SOC text behind it, or the line `refused N line L`. Refusal 11 alone; 2,048 bytes are always
- * enough. The figure is the number of bytes written. */
+/* Lists the plan for a line `Plan W B` and the SOC text behind it, or the line `refused N line L`. A third number on the line is the number
+ * of capture cycles, 1 if it is absent. Refusal 11 alone; 2,048 bytes are always enough. The figure is the number of bytes written. */
 uint64_t tallowwing_listing(const uint8_t *input, size_t input_len, uint8_t *listing, size_t listing_len);
 
 #ifdef __cplusplus

@@ -44,6 +44,9 @@ static const uint8_t old[64] = {
 /* Where module 2 begins with one bus: behind the 65 cycles of module 1. */
 static const uint8_t start[8] = {65};
 
+/* The plan's time with four capture cycles: (4 + 10) * 5 + 10. */
+static const uint8_t longer[8] = {80};
+
 static int failures;
 
 static void expect(const char *what, uint64_t answer, uint64_t number, uint64_t figure)
@@ -66,7 +69,7 @@ int main(void)
 {
     static uint8_t soc[TALLOWWING_SOC_BYTES], written[TALLOWWING_TEXT_MAX], layout[TALLOWWING_LAYOUT_BYTES];
     static uint8_t plan[TALLOWWING_PLAN_BYTES], again[TALLOWWING_PLAN_BYTES], file[TALLOWWING_PLAN_FILE_MAX];
-    static uint8_t input[9 + sizeof text], listed[TALLOWWING_LISTING_MAX];
+    static uint8_t input[11 + sizeof text], listed[TALLOWWING_LISTING_MAX];
     static uint8_t pair[TALLOWWING_SOC_BYTES];
     static const char other[] =
         "SocName t1\nTotalModules 1\nOptions Power 0 XY 0\n"
@@ -92,30 +95,37 @@ int main(void)
     expect("write a pair", tallowwing_write_pair(base, length, late, over, written, sizeof written), 0, length);
     expect_bytes("the pair's chain", written + (strstr(text, ": 10") - text), ": 20", 4);
     expect("write a pair, no room", tallowwing_write_pair(base, length, late, over, written, 7), 11, 0);
-    expect("layout of a pair", tallowwing_layout_pair(base, length, late, over, 1, 1, 2, layout, sizeof layout), 0, sizeof layout);
+    expect("layout of a pair", tallowwing_layout_pair(base, length, late, over, 1, 1, 2, 1, layout, sizeof layout), 0, sizeof layout);
     expect_bytes("the pair's flip-flops", layout, "\24\0\0\0\0", 5);
-    expect("layout of a pair, no test", tallowwing_layout_pair(base, length, late, over, 1, 2, 2, layout, sizeof layout), 13, 0);
-    expect("test time of a pair", tallowwing_test_time_pair(base, length, late, over, 1, 1, 1), 0, 125);
-    expect("module time of a pair", tallowwing_module_time_pair(base, length, late, over, 1, 4), 0, 125);
-    expect("module wires of a pair", tallowwing_module_wires_pair(base, length, late, over, 1, 4), 0, 1);
-    expect("module wires of a pair, base", tallowwing_module_wires_pair(base, 20, late, over, 1, 4), 3, 4 * 2 + 1);
-    expect("plan of a pair", tallowwing_plan_pair(base, length, late, over, 4, 2, plan, sizeof plan), 0, sizeof plan);
+    expect("layout of a pair, no test", tallowwing_layout_pair(base, length, late, over, 1, 2, 2, 1, layout, sizeof layout), 13, 0);
+    expect("test time of a pair", tallowwing_test_time_pair(base, length, late, over, 1, 1, 1, 1), 0, 125);
+    expect("module time of a pair", tallowwing_module_time_pair(base, length, late, over, 1, 4, 1), 0, 125);
+    expect("module wires of a pair", tallowwing_module_wires_pair(base, length, late, over, 1, 4, 1), 0, 1);
+    expect("module wires of a pair, base", tallowwing_module_wires_pair(base, 20, late, over, 1, 4, 1), 3, 4 * 2 + 1);
+    expect("plan of a pair", tallowwing_plan_pair(base, length, late, over, 4, 2, 1, plan, sizeof plan), 0, sizeof plan);
     expect("time of the pair's plan", plan[16], 125, 0);
-    expect("plan of a pair, overlay", tallowwing_plan_pair(base, length, base, length, 4, 2, plan, sizeof plan), 3, 4 * 1 + 2);
-    expect("plan of a pair, wires", tallowwing_plan_pair(base, length, late, over, 0, 2, plan, sizeof plan), 7, 0);
+    expect("plan of a pair, overlay", tallowwing_plan_pair(base, length, base, length, 4, 2, 1, plan, sizeof plan), 3, 4 * 1 + 2);
+    expect("plan of a pair, wires", tallowwing_plan_pair(base, length, late, over, 0, 2, 1, plan, sizeof plan), 7, 0);
     expect("write", tallowwing_write_soc(soc, sizeof soc, written, sizeof written), 0, length);
     expect_bytes("written", written, text, length);
-    expect("layout", tallowwing_layout(soc, sizeof soc, 2, 1, 3, layout, sizeof layout), 0, TALLOWWING_LAYOUT_BYTES);
+    expect("layout", tallowwing_layout(soc, sizeof soc, 2, 1, 3, 1, layout, sizeof layout), 0, TALLOWWING_LAYOUT_BYTES);
     expect_bytes("input cells", layout + 256, "\1\0\0\0\1\0\0\0\1\0\0\0\0", 13);
     expect_bytes("bidirectional cells", layout + 768, "\0\0\0\0", 4);
-    expect("layout of a chain", tallowwing_layout(soc, sizeof soc, 1, 1, 3, layout, sizeof layout), 0, TALLOWWING_LAYOUT_BYTES);
+    expect("layout of a chain", tallowwing_layout(soc, sizeof soc, 1, 1, 3, 1, layout, sizeof layout), 0, TALLOWWING_LAYOUT_BYTES);
     expect_bytes("wrapper chains", layout + 1024, "\1\0\0\0\0", 5);
-    expect("layout, no test", tallowwing_layout(soc, sizeof soc, 2, 2, 3, layout, sizeof layout), 13, 0);
-    expect("test time", tallowwing_test_time(soc, sizeof soc, 2, 1, 1), 0, 18);
-    expect("module time", tallowwing_module_time(soc, sizeof soc, 2, 4), 0, 9);
-    expect("module wires", tallowwing_module_wires(soc, sizeof soc, 2, 4), 0, 3);
-    expect("width", tallowwing_module_wires(soc, sizeof soc, 2, 65), 7, 0);
-    expect("plan", tallowwing_plan(soc, sizeof soc, 4, 2, plan, sizeof plan), 0, TALLOWWING_PLAN_BYTES);
+    expect("layout, no test", tallowwing_layout(soc, sizeof soc, 2, 2, 3, 1, layout, sizeof layout), 13, 0);
+    expect("test time", tallowwing_test_time(soc, sizeof soc, 2, 1, 1, 1), 0, 18);
+    expect("module time", tallowwing_module_time(soc, sizeof soc, 2, 4, 1), 0, 9);
+    expect("module wires", tallowwing_module_wires(soc, sizeof soc, 2, 4, 1), 0, 3);
+    expect("width", tallowwing_module_wires(soc, sizeof soc, 2, 65, 1), 7, 0);
+    expect("test time, two capture cycles", tallowwing_test_time(soc, sizeof soc, 2, 1, 1, 2), 0, 22);
+    expect("module time, four capture cycles", tallowwing_module_time(soc, sizeof soc, 2, 4, 4), 0, 21);
+    expect("five capture cycles", tallowwing_module_wires(soc, sizeof soc, 9, 4, 5), 16, 0);
+    expect("layout, no capture cycle", tallowwing_layout(soc, sizeof soc, 2, 1, 3, 0, layout, sizeof layout), 16, 0);
+    expect("plan, five capture cycles", tallowwing_plan(soc, sizeof soc, 4, 2, 5, plan, sizeof plan), 16, 0);
+    expect("plan, four capture cycles", tallowwing_plan(soc, sizeof soc, 4, 2, 4, plan, sizeof plan), 0, TALLOWWING_PLAN_BYTES);
+    expect_bytes("time with four capture cycles", plan + 16, longer, sizeof longer);
+    expect("plan", tallowwing_plan(soc, sizeof soc, 4, 2, 1, plan, sizeof plan), 0, TALLOWWING_PLAN_BYTES);
     expect("write a plan", tallowwing_write_plan(plan, sizeof plan, file, sizeof file), 0, 80);
     expect("read a plan", tallowwing_read_plan(file, 80, again, sizeof again), 0, TALLOWWING_PLAN_BYTES);
     expect_bytes("plan", again, plan, sizeof plan);
@@ -124,14 +134,18 @@ int main(void)
     expect("show a part", tallowwing_show(plan, sizeof plan - 1, listed, sizeof listed), 12, 0);
     expect("read a longer plan", tallowwing_read_plan(file, 81, again, sizeof again), 12, 0);
     expect("read a plan of 12-byte records", tallowwing_read_plan(old, sizeof old, again, sizeof again), 12, 0);
-    expect("plan on one bus", tallowwing_plan(soc, sizeof soc, 4, 1, again, sizeof again), 0, TALLOWWING_PLAN_BYTES);
+    expect("plan on one bus", tallowwing_plan(soc, sizeof soc, 4, 1, 1, again, sizeof again), 0, TALLOWWING_PLAN_BYTES);
     expect_bytes("start of the second module", again + 60 + 28 + 20, start, sizeof start);
     memcpy(input, "Plan 4 2\n", 9);
     memcpy(input + 9, text, length);
     expect("listing", tallowwing_listing(input, 9 + length, listed, sizeof listed), 0, sizeof listing - 1);
     expect_bytes("listing", listed, listing, sizeof listing - 1);
+    memcpy(input, "Plan 4 2 4\n", 11);
+    memcpy(input + 11, text, length);
+    expect("listing, four capture cycles", tallowwing_listing(input, 11 + length, listed, sizeof listed), 0, sizeof listing + 1);
+    expect_bytes("listing, four capture cycles", listed + 28, "80\n", 3);
     soc[36] = 2;
-    expect("bad flag", tallowwing_module_time(soc, sizeof soc, 2, 4), 14, 0);
+    expect("bad flag", tallowwing_module_time(soc, sizeof soc, 2, 4, 1), 14, 0);
 
     if (failures == 0)
         puts("interface: every function of the header, from C");

@@ -45,7 +45,7 @@ record Small (r : Refusal) : Type 0 where
   number : r .number < 256
   line : r .line < aboveMax
 
-told-small : (r : Refusal) → r .number ≤ 14 → r .line ≡ 0 → Small r
+told-small : (r : Refusal) → r .number ≤ 16 → r .line ≡ 0 → Small r
 told-small r h e = record { number = omega arith; line = omega arith }
 
 code-says : (r : Refusal) (v : ℕ) → Small r → v < aboveMax → Says (code r v) r v
@@ -75,7 +75,7 @@ module _ (buf : List ℕ) (short : length buf < aboveMax) where
           (above-number (r .number) (r .line) (s .number), rw e (above-figure (r .number) (r .line) (s .number) (s .line)))
 
   fits-says : (a : Written) → Fits buf a → Says (code (a .refusal) (a .len)) (a .refusal) (a .len)
-  fits-says a f = code-says (a .refusal) (a .len) (told-small (a .refusal) (f .number) (f .line)) (omega (arith, f .len))
+  fits-says a f = code-says (a .refusal) (a .len) (told-small (a .refusal) (omega (arith, f .number)) (f .line)) (omega (arith, f .len))
 
   -- reading and writing
   pub read-says : (text : List ℕ)
@@ -97,7 +97,7 @@ module _ (buf : List ℕ) (short : length buf < aboveMax) where
   read-plan-says f =
       let l = filelaws.read-told f in
       given-says (planfile.readAnswer f .refusal) (planBytes (planfile.readAnswer f .plan))
-      (told-small (planfile.readAnswer f .refusal) (l .0) (l .1))
+      (told-small (planfile.readAnswer f .refusal) (omega (arith, l .0)) (l .1))
 
   pub listing-says : (input : List ℕ) → let a = listingAnswer input buf in Says (listingCode input buf) (a .refusal) (a .len)
   listing-says input = fits-says (listingAnswer input buf) (listing-fits input buf)
@@ -106,39 +106,39 @@ module _ (buf : List ℕ) (short : length buf < aboveMax) where
   show-says b = fits-says (showAnswer (planIn b) buf) (show-fits (planIn b) buf)
 
   -- layouts and plans
-  pub layout-says : (b : List ℕ) (m i w : ℕ) →
-      let a = layoutAnswer (socIn b) m i w in
-      Says (layoutCode b m i w buf) (roomed (a .refusal) (layoutBytes a) buf) (length (layoutBytes a))
-  layout-says b m i w =
-      let l = layout-told (socIn b) m i w in
-      given-says (layoutAnswer (socIn b) m i w .refusal) (layoutBytes (layoutAnswer (socIn b) m i w))
-      (told-small (layoutAnswer (socIn b) m i w .refusal) (l .0) (l .1))
+  pub layout-says : (b : List ℕ) (m i w c : ℕ) →
+      let a = layoutAnswer (socIn b) m i w c in
+      Says (layoutCode b m i w c buf) (roomed (a .refusal) (layoutBytes a) buf) (length (layoutBytes a))
+  layout-says b m i w c =
+      let l = layout-told (socIn b) m i w c in
+      given-says (layoutAnswer (socIn b) m i w c .refusal) (layoutBytes (layoutAnswer (socIn b) m i w c))
+      (told-small (layoutAnswer (socIn b) m i w c .refusal) (l .0) (l .1))
 
-  pub plan-says : (b : List ℕ) (W B : ℕ) →
-      let a = planAnswer (socIn b) W B in
-      Says (planCode b W B buf) (roomed (a .refusal) (planBytes (a .plan)) buf) (length (planBytes (a .plan)))
-  plan-says b W B =
-      let l = answer-told (socIn b) W B in
-      given-says (planAnswer (socIn b) W B .refusal) (planBytes (planAnswer (socIn b) W B .plan))
-      (told-small (planAnswer (socIn b) W B .refusal) (l .0) (l .1))
+  pub plan-says : (b : List ℕ) (W B c : ℕ) →
+      let a = planAnswer (socIn b) W B c in
+      Says (planCode b W B c buf) (roomed (a .refusal) (planBytes (a .plan)) buf) (length (planBytes (a .plan)))
+  plan-says b W B c =
+      let l = answer-told (socIn b) W B c in
+      given-says (planAnswer (socIn b) W B c .refusal) (planBytes (planAnswer (socIn b) W B c .plan))
+      (told-small (planAnswer (socIn b) W B c .refusal) (l .0) (l .1))
 
 -- times and wires
 module _ (b : List ℕ) (m : ℕ) where
-  pub test-time-says : (i w : ℕ) → let a = testTimeAnswer (socIn b) m i w in Says (testTimeCode b m i w) (a .refusal) (a .cycles .0)
-  test-time-says i w =
-      let l = test-time-told (socIn b) m i w in
-      let a = testTimeAnswer (socIn b) m i w in
+  pub test-time-says : (i w c : ℕ) → let a = testTimeAnswer (socIn b) m i w c in Says (testTimeCode b m i w c) (a .refusal) (a .cycles .0)
+  test-time-says i w c =
+      let l = test-time-told (socIn b) m i w c in
+      let a = testTimeAnswer (socIn b) m i w c in
       code-says (a .refusal) (a .cycles .0) (told-small (a .refusal) (l .0) (l .1)) (omega (arith, l .2))
 
-  module _ (w : ℕ) where
-    pub module-time-says : let a = moduleTimeAnswer (socIn b) m w in Says (moduleTimeCode b m w) (a .refusal) (a .cycles .0)
+  module _ (w c : ℕ) where
+    pub module-time-says : let a = moduleTimeAnswer (socIn b) m w c in Says (moduleTimeCode b m w c) (a .refusal) (a .cycles .0)
     module-time-says =
-        let l = module-time-told (socIn b) m w in
-        let a = moduleTimeAnswer (socIn b) m w in
+        let l = module-time-told (socIn b) m w c in
+        let a = moduleTimeAnswer (socIn b) m w c in
         code-says (a .refusal) (a .cycles .0) (told-small (a .refusal) (l .0) (l .1)) (omega (arith, l .2))
 
-    pub module-wires-says : let a = moduleTimeAnswer (socIn b) m w in Says (moduleWiresCode b m w) (a .refusal) (a .wires .0)
+    pub module-wires-says : let a = moduleTimeAnswer (socIn b) m w c in Says (moduleWiresCode b m w c) (a .refusal) (a .wires .0)
     module-wires-says =
-        let l = module-time-told (socIn b) m w in
-        let a = moduleTimeAnswer (socIn b) m w in
+        let l = module-time-told (socIn b) m w c in
+        let a = moduleTimeAnswer (socIn b) m w c in
         code-says (a .refusal) (a .wires .0) (told-small (a .refusal) (l .0) (l .1)) (omega (arith, l .3))

@@ -31,7 +31,7 @@ use Rattle.c_interface.specs.Apart.{roomed, roomedMeant, PairSays}
 use Rattle.c_interface.proofs.ApartLaws.{above-number, above-figure}
 use Rattle.c_interface.proofs.CodeLaws.{meant-most}
 
-module _ (r : Refusal) (m : Meant) (number : r .number ≤ 15) (line : r .line ≤ textMax + 1) where
+module _ (r : Refusal) (m : Meant) (number : r .number ≤ 16) (line : r .line ≤ textMax + 1) where
   cut : 4 * (r .line % lineMax) + meantNumber m < aboveMax
   cut = omega (arith, meant-most m)
 
@@ -107,47 +107,47 @@ module _ (base overlay : List ℕ) where
         let l = write-pair-told base overlay buf in
         figure-says (a .answer .refusal) (a .meant) (l .0) (l .1) (a .answer .len) (omega (arith, l .2))
 
-    pub layout-pair-says : (m i w : ℕ) →
-        let a = layoutPair base overlay m i w in
+    pub layout-pair-says : (m i w c : ℕ) →
+        let a = layoutPair base overlay m i w c in
         let r = a .answer .refusal in
         let b = layoutBytes (a .answer) in
-        PairSays (layoutPairCode base overlay m i w buf) (roomed r b buf) (roomedMeant r (a .meant)) (length b)
-    layout-pair-says m i w =
-        let a = layoutPair base overlay m i w in
-        let l = layout-pair-told base overlay m i w in
+        PairSays (layoutPairCode base overlay m i w c buf) (roomed r b buf) (roomedMeant r (a .meant)) (length b)
+    layout-pair-says m i w c =
+        let a = layoutPair base overlay m i w c in
+        let l = layout-pair-told base overlay m i w c in
         given-says (a .answer .refusal) (a .meant) (l .0) (l .1) buf short (layoutBytes (a .answer))
 
-    pub plan-pair-says : (W B : ℕ) →
-        let a = planPair base overlay W B in
+    pub plan-pair-says : (W B c : ℕ) →
+        let a = planPair base overlay W B c in
         let r = a .answer .refusal in
         let b = planBytes (a .answer .plan) in
-        PairSays (planPairCode base overlay W B buf) (roomed r b buf) (roomedMeant r (a .meant)) (length b)
-    plan-pair-says W B =
-        let a = planPair base overlay W B in
-        let l = plan-pair-told base overlay W B in
+        PairSays (planPairCode base overlay W B c buf) (roomed r b buf) (roomedMeant r (a .meant)) (length b)
+    plan-pair-says W B c =
+        let a = planPair base overlay W B c in
+        let l = plan-pair-told base overlay W B c in
         given-says (a .answer .refusal) (a .meant) (l .0) (l .1) buf short (planBytes (a .answer .plan))
 
-  pub test-time-pair-says : (m i w : ℕ) →
-      let a = testTimePair base overlay m i w in
-      PairSays (testTimePairCode base overlay m i w) (a .answer .refusal) (a .meant) (a .answer .cycles .0)
-  test-time-pair-says m i w =
-      let a = testTimePair base overlay m i w in
-      let l = test-time-pair-told base overlay m i w in
+  pub test-time-pair-says : (m i w c : ℕ) →
+      let a = testTimePair base overlay m i w c in
+      PairSays (testTimePairCode base overlay m i w c) (a .answer .refusal) (a .meant) (a .answer .cycles .0)
+  test-time-pair-says m i w c =
+      let a = testTimePair base overlay m i w c in
+      let l = test-time-pair-told base overlay m i w c in
       figure-says (a .answer .refusal) (a .meant) (l .0) (l .1) (a .answer .cycles .0) (omega (arith, l .2))
 
-  module _ (m w : ℕ) where
+  module _ (m w c : ℕ) where
     pub module-time-pair-says :
-        let a = moduleTimePair base overlay m w in
-        PairSays (moduleTimePairCode base overlay m w) (a .answer .refusal) (a .meant) (a .answer .cycles .0)
+        let a = moduleTimePair base overlay m w c in
+        PairSays (moduleTimePairCode base overlay m w c) (a .answer .refusal) (a .meant) (a .answer .cycles .0)
     module-time-pair-says =
-        let a = moduleTimePair base overlay m w in
-        let l = module-time-pair-told base overlay m w in
+        let a = moduleTimePair base overlay m w c in
+        let l = module-time-pair-told base overlay m w c in
         figure-says (a .answer .refusal) (a .meant) (l .0) (l .1) (a .answer .cycles .0) (omega (arith, l .2))
 
     pub module-wires-pair-says :
-        let a = moduleTimePair base overlay m w in
-        PairSays (moduleWiresPairCode base overlay m w) (a .answer .refusal) (a .meant) (a .answer .wires .0)
+        let a = moduleTimePair base overlay m w c in
+        PairSays (moduleWiresPairCode base overlay m w c) (a .answer .refusal) (a .meant) (a .answer .wires .0)
     module-wires-pair-says =
-        let a = moduleTimePair base overlay m w in
-        let l = module-time-pair-told base overlay m w in
+        let a = moduleTimePair base overlay m w c in
+        let l = module-time-pair-told base overlay m w c in
         figure-says (a .answer .refusal) (a .meant) (l .0) (l .1) (a .answer .wires .0) (omega (arith, l .3))

@@ -64,26 +64,27 @@ writeCode b buf = code (soctext.writeAnswer (socIn b) buf .refusal) (soctext.wri
 abbrev pub writeHeld : List ℕ → List ℕ → List ℕ
 writeHeld b buf = soctext.writeLeaves (socIn b) buf
 
-abbrev pub layoutCode : List ℕ → ℕ → ℕ → ℕ → List ℕ → ℕ
-layoutCode b m i w buf = givenUnless (layoutAnswer (socIn b) m i w .refusal) (layoutBytes (layoutAnswer (socIn b) m i w)) buf
+-- "Every time, plan and bound reads with c"
+abbrev pub layoutCode : List ℕ → ℕ → ℕ → ℕ → ℕ → List ℕ → ℕ
+layoutCode b m i w c buf = givenUnless (layoutAnswer (socIn b) m i w c .refusal) (layoutBytes (layoutAnswer (socIn b) m i w c)) buf
 
-abbrev pub layoutHeld : List ℕ → ℕ → ℕ → ℕ → List ℕ → List ℕ
-layoutHeld b m i w buf = heldUnless (layoutAnswer (socIn b) m i w .refusal) (layoutBytes (layoutAnswer (socIn b) m i w)) buf
+abbrev pub layoutHeld : List ℕ → ℕ → ℕ → ℕ → ℕ → List ℕ → List ℕ
+layoutHeld b m i w c buf = heldUnless (layoutAnswer (socIn b) m i w c .refusal) (layoutBytes (layoutAnswer (socIn b) m i w c)) buf
 
-abbrev pub testTimeCode : List ℕ → ℕ → ℕ → ℕ → ℕ
-testTimeCode b m i w = code (testTimeAnswer (socIn b) m i w .refusal) (testTimeAnswer (socIn b) m i w .cycles .0)
+abbrev pub testTimeCode : List ℕ → ℕ → ℕ → ℕ → ℕ → ℕ
+testTimeCode b m i w c = code (testTimeAnswer (socIn b) m i w c .refusal) (testTimeAnswer (socIn b) m i w c .cycles .0)
 
-abbrev pub moduleTimeCode : List ℕ → ℕ → ℕ → ℕ
-moduleTimeCode b m w = code (moduleTimeAnswer (socIn b) m w .refusal) (moduleTimeAnswer (socIn b) m w .cycles .0)
+abbrev pub moduleTimeCode : List ℕ → ℕ → ℕ → ℕ → ℕ
+moduleTimeCode b m w c = code (moduleTimeAnswer (socIn b) m w c .refusal) (moduleTimeAnswer (socIn b) m w c .cycles .0)
 
-abbrev pub moduleWiresCode : List ℕ → ℕ → ℕ → ℕ
-moduleWiresCode b m w = code (moduleTimeAnswer (socIn b) m w .refusal) (moduleTimeAnswer (socIn b) m w .wires .0)
+abbrev pub moduleWiresCode : List ℕ → ℕ → ℕ → ℕ → ℕ
+moduleWiresCode b m w c = code (moduleTimeAnswer (socIn b) m w c .refusal) (moduleTimeAnswer (socIn b) m w c .wires .0)
 
-abbrev pub planCode : List ℕ → ℕ → ℕ → List ℕ → ℕ
-planCode b W B buf = givenUnless (planAnswer (socIn b) W B .refusal) (planBytes (planAnswer (socIn b) W B .plan)) buf
+abbrev pub planCode : List ℕ → ℕ → ℕ → ℕ → List ℕ → ℕ
+planCode b W B c buf = givenUnless (planAnswer (socIn b) W B c .refusal) (planBytes (planAnswer (socIn b) W B c .plan)) buf
 
-abbrev pub planHeld : List ℕ → ℕ → ℕ → List ℕ → List ℕ
-planHeld b W B buf = heldUnless (planAnswer (socIn b) W B .refusal) (planBytes (planAnswer (socIn b) W B .plan)) buf
+abbrev pub planHeld : List ℕ → ℕ → ℕ → ℕ → List ℕ → List ℕ
+planHeld b W B c buf = heldUnless (planAnswer (socIn b) W B c .refusal) (planBytes (planAnswer (socIn b) W B c .plan)) buf
 
 abbrev pub writePlanCode : List ℕ → List ℕ → ℕ
 writePlanCode b buf = code (planfile.writeAnswer (planIn b) buf .refusal) (planfile.writeAnswer (planIn b) buf .len)
@@ -153,37 +154,37 @@ writePairCode base overlay buf =
     let a = writePair base overlay buf in
     pairFigure (a .answer .refusal) (a .meant) (a .answer .len)
 
-abbrev pub layoutPairCode : List ℕ → List ℕ → ℕ → ℕ → ℕ → List ℕ → ℕ
-layoutPairCode base overlay m i w buf =
-    let a = layoutPair base overlay m i w in
+abbrev pub layoutPairCode : List ℕ → List ℕ → ℕ → ℕ → ℕ → ℕ → List ℕ → ℕ
+layoutPairCode base overlay m i w c buf =
+    let a = layoutPair base overlay m i w c in
     pairGiven (a .answer .refusal) (a .meant) (layoutBytes (a .answer)) buf
 
-abbrev pub layoutPairHeld : List ℕ → List ℕ → ℕ → ℕ → ℕ → List ℕ → List ℕ
-layoutPairHeld base overlay m i w buf =
-    let a = layoutPair base overlay m i w .answer in
+abbrev pub layoutPairHeld : List ℕ → List ℕ → ℕ → ℕ → ℕ → ℕ → List ℕ → List ℕ
+layoutPairHeld base overlay m i w c buf =
+    let a = layoutPair base overlay m i w c .answer in
     heldUnless (a .refusal) (layoutBytes a) buf
 
-abbrev pub testTimePairCode : List ℕ → List ℕ → ℕ → ℕ → ℕ → ℕ
-testTimePairCode base overlay m i w =
-    let a = testTimePair base overlay m i w in
+abbrev pub testTimePairCode : List ℕ → List ℕ → ℕ → ℕ → ℕ → ℕ → ℕ
+testTimePairCode base overlay m i w c =
+    let a = testTimePair base overlay m i w c in
     pairFigure (a .answer .refusal) (a .meant) (a .answer .cycles .0)
 
-abbrev pub moduleTimePairCode : List ℕ → List ℕ → ℕ → ℕ → ℕ
-moduleTimePairCode base overlay m w =
-    let a = moduleTimePair base overlay m w in
+abbrev pub moduleTimePairCode : List ℕ → List ℕ → ℕ → ℕ → ℕ → ℕ
+moduleTimePairCode base overlay m w c =
+    let a = moduleTimePair base overlay m w c in
     pairFigure (a .answer .refusal) (a .meant) (a .answer .cycles .0)
 
-abbrev pub moduleWiresPairCode : List ℕ → List ℕ → ℕ → ℕ → ℕ
-moduleWiresPairCode base overlay m w =
-    let a = moduleTimePair base overlay m w in
+abbrev pub moduleWiresPairCode : List ℕ → List ℕ → ℕ → ℕ → ℕ → ℕ
+moduleWiresPairCode base overlay m w c =
+    let a = moduleTimePair base overlay m w c in
     pairFigure (a .answer .refusal) (a .meant) (a .answer .wires .0)
 
-abbrev pub planPairCode : List ℕ → List ℕ → ℕ → ℕ → List ℕ → ℕ
-planPairCode base overlay W B buf =
-    let a = planPair base overlay W B in
+abbrev pub planPairCode : List ℕ → List ℕ → ℕ → ℕ → ℕ → List ℕ → ℕ
+planPairCode base overlay W B c buf =
+    let a = planPair base overlay W B c in
     pairGiven (a .answer .refusal) (a .meant) (planBytes (a .answer .plan)) buf
 
-abbrev pub planPairHeld : List ℕ → List ℕ → ℕ → ℕ → List ℕ → List ℕ
-planPairHeld base overlay W B buf =
-    let a = planPair base overlay W B .answer in
+abbrev pub planPairHeld : List ℕ → List ℕ → ℕ → ℕ → ℕ → List ℕ → List ℕ
+planPairHeld base overlay W B c buf =
+    let a = planPair base overlay W B c .answer in
     heldUnless (a .refusal) (planBytes (a .plan)) buf

@@ -1,6 +1,7 @@
 // Every entry of the library for callers in other languages, on numbers and bytes (include/tallowwing.h). An answer is one number: its lowest byte
 // is the refusal's number or 0, above it stands the refusal's line, or the figure that the function gives.
 use pair::Meant;
+use units::CaptureCycles;
 use units::Refusal;
 use units::Wires;
 ghost use mathlib.Core.Path.{_≡_};
@@ -61,12 +62,13 @@ pub extern "C" fn tallowwing_layout(
     module: u32,
     test: u32,
     width: u32,
+    capture: u32,
     into: &mut [u8],
 ) -> u64
-    ensures { λ r. ⌜ (r ≡ layoutCode (now (soc .entry)) «module» test width (now (into .entry))) × (now (into .exit) ≡ layoutHeld (now (soc .entry)) «module» test width (now (into .entry))) ⌝ }
+    ensures { λ r. ⌜ (r ≡ layoutCode (now (soc .entry)) «module» test width capture (now (into .entry))) × (now (into .exit) ≡ layoutHeld (now (soc .entry)) «module» test width capture (now (into .entry))) ⌝ }
 {
     let s = c_forms::soc_in(soc);
-    let laid = wrapper::layout(s, module, test, Wires(width));
+    let laid = wrapper::layout(s, module, test, Wires(width), CaptureCycles(capture));
     if laid.refusal.number != 0 {
         return code_of(laid.refusal, 0);
     }
@@ -74,38 +76,50 @@ pub extern "C" fn tallowwing_layout(
 }
 
 #[no_mangle]
-pub extern "C" fn tallowwing_test_time(soc: &[u8], module: u32, test: u32, width: u32) -> u64
-    ensures { λ r. ⌜ r ≡ testTimeCode (now (soc .entry)) «module» test width ⌝ }
+pub extern "C" fn tallowwing_test_time(
+    soc: &[u8],
+    module: u32,
+    test: u32,
+    width: u32,
+    capture: u32,
+) -> u64
+    ensures { λ r. ⌜ r ≡ testTimeCode (now (soc .entry)) «module» test width capture ⌝ }
 {
     let s = c_forms::soc_in(soc);
-    let time = wrapper::test_time(s, module, test, Wires(width));
+    let time = wrapper::test_time(s, module, test, Wires(width), CaptureCycles(capture));
     code_of(time.refusal, time.cycles.0)
 }
 
 #[no_mangle]
-pub extern "C" fn tallowwing_module_time(soc: &[u8], module: u32, width: u32) -> u64
-    ensures { λ r. ⌜ r ≡ moduleTimeCode (now (soc .entry)) «module» width ⌝ }
+pub extern "C" fn tallowwing_module_time(soc: &[u8], module: u32, width: u32, capture: u32) -> u64
+    ensures { λ r. ⌜ r ≡ moduleTimeCode (now (soc .entry)) «module» width capture ⌝ }
 {
     let s = c_forms::soc_in(soc);
-    let time = wrapper::module_time(s, module, Wires(width));
+    let time = wrapper::module_time(s, module, Wires(width), CaptureCycles(capture));
     code_of(time.refusal, time.cycles.0)
 }
 
 #[no_mangle]
-pub extern "C" fn tallowwing_module_wires(soc: &[u8], module: u32, width: u32) -> u64
-    ensures { λ r. ⌜ r ≡ moduleWiresCode (now (soc .entry)) «module» width ⌝ }
+pub extern "C" fn tallowwing_module_wires(soc: &[u8], module: u32, width: u32, capture: u32) -> u64
+    ensures { λ r. ⌜ r ≡ moduleWiresCode (now (soc .entry)) «module» width capture ⌝ }
 {
     let s = c_forms::soc_in(soc);
-    let best = wrapper::module_time(s, module, Wires(width));
+    let best = wrapper::module_time(s, module, Wires(width), CaptureCycles(capture));
     code_of(best.refusal, best.wires.0 as u64)
 }
 
 #[no_mangle]
-pub extern "C" fn tallowwing_plan(soc: &[u8], wires: u32, limit: u32, into: &mut [u8]) -> u64
-    ensures { λ r. ⌜ (r ≡ planCode (now (soc .entry)) wires limit (now (into .entry))) × (now (into .exit) ≡ planHeld (now (soc .entry)) wires limit (now (into .entry))) ⌝ }
+pub extern "C" fn tallowwing_plan(
+    soc: &[u8],
+    wires: u32,
+    limit: u32,
+    capture: u32,
+    into: &mut [u8],
+) -> u64
+    ensures { λ r. ⌜ (r ≡ planCode (now (soc .entry)) wires limit capture (now (into .entry))) × (now (into .exit) ≡ planHeld (now (soc .entry)) wires limit capture (now (into .entry))) ⌝ }
 {
     let s = c_forms::soc_in(soc);
-    let answer = plan::plan(s, Wires(wires), limit);
+    let answer = plan::plan(s, Wires(wires), limit, CaptureCycles(capture));
     if answer.refusal.number != 0 {
         return code_of(answer.refusal, 0);
     }
@@ -229,12 +243,20 @@ pub extern "C" fn tallowwing_layout_pair(
     module: u32,
     test: u32,
     width: u32,
+    capture: u32,
     into: &mut [u8],
 ) -> u64
-    ensures { λ r. ⌜ (r ≡ layoutPairCode (now (base .entry)) (now (overlay .entry)) «module» test width (now (into .entry)))
-        × (now (into .exit) ≡ layoutPairHeld (now (base .entry)) (now (overlay .entry)) «module» test width (now (into .entry))) ⌝ }
+    ensures { λ r. ⌜ (r ≡ layoutPairCode (now (base .entry)) (now (overlay .entry)) «module» test width capture (now (into .entry)))
+        × (now (into .exit) ≡ layoutPairHeld (now (base .entry)) (now (overlay .entry)) «module» test width capture (now (into .entry))) ⌝ }
 {
-    let laid = pair_entries::layout_pair(base, overlay, module, test, Wires(width));
+    let laid = pair_entries::layout_pair(
+        base,
+        overlay,
+        module,
+        test,
+        Wires(width),
+        CaptureCycles(capture),
+    );
     if laid.answer.refusal.number != 0 {
         let meant = laid.meant;
         return pair_refused(laid.answer.refusal, meant);
@@ -249,10 +271,18 @@ pub extern "C" fn tallowwing_test_time_pair(
     module: u32,
     test: u32,
     width: u32,
+    capture: u32,
 ) -> u64
-    ensures { λ r. ⌜ r ≡ testTimePairCode (now (base .entry)) (now (overlay .entry)) «module» test width ⌝ }
+    ensures { λ r. ⌜ r ≡ testTimePairCode (now (base .entry)) (now (overlay .entry)) «module» test width capture ⌝ }
 {
-    let time = pair_entries::test_time_pair(base, overlay, module, test, Wires(width));
+    let time = pair_entries::test_time_pair(
+        base,
+        overlay,
+        module,
+        test,
+        Wires(width),
+        CaptureCycles(capture),
+    );
     let meant = time.meant;
     pair_code_of(time.answer.refusal, meant, time.answer.cycles.0)
 }
@@ -263,10 +293,17 @@ pub extern "C" fn tallowwing_module_time_pair(
     overlay: &[u8],
     module: u32,
     width: u32,
+    capture: u32,
 ) -> u64
-    ensures { λ r. ⌜ r ≡ moduleTimePairCode (now (base .entry)) (now (overlay .entry)) «module» width ⌝ }
+    ensures { λ r. ⌜ r ≡ moduleTimePairCode (now (base .entry)) (now (overlay .entry)) «module» width capture ⌝ }
 {
-    let time = pair_entries::module_time_pair(base, overlay, module, Wires(width));
+    let time = pair_entries::module_time_pair(
+        base,
+        overlay,
+        module,
+        Wires(width),
+        CaptureCycles(capture),
+    );
     let meant = time.meant;
     pair_code_of(time.answer.refusal, meant, time.answer.cycles.0)
 }
@@ -277,10 +314,17 @@ pub extern "C" fn tallowwing_module_wires_pair(
     overlay: &[u8],
     module: u32,
     width: u32,
+    capture: u32,
 ) -> u64
-    ensures { λ r. ⌜ r ≡ moduleWiresPairCode (now (base .entry)) (now (overlay .entry)) «module» width ⌝ }
+    ensures { λ r. ⌜ r ≡ moduleWiresPairCode (now (base .entry)) (now (overlay .entry)) «module» width capture ⌝ }
 {
-    let best = pair_entries::module_time_pair(base, overlay, module, Wires(width));
+    let best = pair_entries::module_time_pair(
+        base,
+        overlay,
+        module,
+        Wires(width),
+        CaptureCycles(capture),
+    );
     let meant = best.meant;
     pair_code_of(best.answer.refusal, meant, best.answer.wires.0 as u64)
 }
@@ -291,12 +335,19 @@ pub extern "C" fn tallowwing_plan_pair(
     overlay: &[u8],
     wires: u32,
     limit: u32,
+    capture: u32,
     into: &mut [u8],
 ) -> u64
-    ensures { λ r. ⌜ (r ≡ planPairCode (now (base .entry)) (now (overlay .entry)) wires limit (now (into .entry)))
-        × (now (into .exit) ≡ planPairHeld (now (base .entry)) (now (overlay .entry)) wires limit (now (into .entry))) ⌝ }
+    ensures { λ r. ⌜ (r ≡ planPairCode (now (base .entry)) (now (overlay .entry)) wires limit capture (now (into .entry)))
+        × (now (into .exit) ≡ planPairHeld (now (base .entry)) (now (overlay .entry)) wires limit capture (now (into .entry))) ⌝ }
 {
-    let planned = pair_entries::plan_pair(base, overlay, Wires(wires), limit);
+    let planned = pair_entries::plan_pair(
+        base,
+        overlay,
+        Wires(wires),
+        limit,
+        CaptureCycles(capture),
+    );
     if planned.answer.refusal.number != 0 {
         let meant = planned.meant;
         return pair_refused(planned.answer.refusal, meant);

@@ -1,5 +1,5 @@
--- The starred figures of document 01, and the starts of the same plans, hold: one table, one proof, by computation, of t1 from its very
--- text. Assumes nothing.
+-- The starred figures of document 01, the starts of the same plans and some figures with more capture cycles hold: one table, one proof, by
+-- computation, of t1 from its very text. Assumes nothing.
 use mathlib.Core.Path.{_≡_, refl, ap}
 use mathlib.Core.List.{_++_}
 use Rattle.fields.specs.Names.{nameBytes}
@@ -18,10 +18,12 @@ use Rattle.soc.specs.declared.record.Soc.{Soc}
 use Rattle.text_reader.specs.Reading.{readSoc}
 use Rattle.figures.specs.Records.{t1, twoCopies}
 use Rattle.figures.specs.Texts.{t1Text, twoCopiesText}
-use Rattle.figures.specs.Figures.{wrapperFigures, planFigures, startFigures, figures, computedOf, statedOf}
+use Rattle.figures.specs.Figures.{wrapperFigures, captureFigures, planFigures, startFigures, figures, computedOf, statedOf}
 
 -- of the records
-records-hold : let l = wrapperFigures ++ planFigures t1 twoCopies ++ startFigures t1 twoCopies in computedOf l ≡ statedOf l
+records-hold :
+    let l = wrapperFigures ++ captureFigures ++ planFigures t1 twoCopies ++ startFigures t1 twoCopies in
+    computedOf l ≡ statedOf l
 unfolding isPlanned plannedFrom padded allOf anyOf longest total better bestFrom goes placed withCells longestAfter numberedFrom insert ordered sumOver howMany usedChains thread threaded scanIn scanOut testCycles testTime sumTimes figure bestTo moduleBest sum busyFrom busies largest timeOf upward widthLists placements plansOn plans firstLeast firstOf bestOf cyclesOn busRecords moduleRecords planRecord timeIn wiresIn bestFor planAnswer computedOf statedOf goodPower goodPosition goodTest spareTest levelRule goodTerminals goodChains goodTests goodModule goodModules spareModule goodName goodSoc nameBytes
 records-hold = refl
 
@@ -29,5 +31,7 @@ records-hold = refl
 pub starred-hold : computedOf figures ≡ statedOf figures
 starred-hold = go (readSoc t1Text .soc) (readSoc twoCopiesText .soc) (ap (λ a. a .soc) t1-read) (ap (λ a. a .soc) copies-read)
   where
-    go : (s c : Soc) → s ≡ t1 → c ≡ twoCopies → let l = wrapperFigures ++ planFigures s c ++ startFigures s c in computedOf l ≡ statedOf l
+    go : (s c : Soc) → s ≡ t1 → c ≡ twoCopies →
+        let l = wrapperFigures ++ captureFigures ++ planFigures s c ++ startFigures s c in
+        computedOf l ≡ statedOf l
     go s c e f = rw (e, f) records-hold

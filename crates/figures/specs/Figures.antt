@@ -1,5 +1,5 @@
--- Document 01's starred figures ("Figures to hold against"), each beside the definition that it is a figure of, and the starts of the same
--- plans.
+-- Document 01's starred figures ("Figures to hold against"), each beside the definition that it is a figure of, with one capture cycle, and
+-- the starts of the same plans. And some of the wrapper's with more capture cycles (document 02, item 5).
 use Prim.Native.Nat.{ℕ}
 use mathlib.Core.Bool.{true}
 use mathlib.Core.List.{List, [], _∷_, _++_}
@@ -25,28 +25,33 @@ c is s = record { computed = c; stated = s }
 
 abbrev pub wrapperFigures : List Figure
 wrapperFigures =
-    (figure coreA 1 is 920)
-    ∷ (figure coreA 2 is 470)
-    ∷ (figure coreA 3 is 317)
-    ∷ (figure coreA 4 is 240)
-    ∷ (figure coreA 5 is 208)
+    (figure 1 coreA 1 is 920)
+    ∷ (figure 1 coreA 2 is 470)
+    ∷ (figure 1 coreA 3 is 317)
+    ∷ (figure 1 coreA 4 is 240)
+    ∷ (figure 1 coreA 5 is 208)
     ∷ (scanIn coreA true 4 is 20)
     ∷ (scanOut coreA true 4 is 21)
-    ∷ (moduleBest oneChain 1 .cycles is 65)
-    ∷ (moduleBest oneChain 1 .wires is 1)
-    ∷ (moduleBest oneChain 2 .cycles is 65)
-    ∷ (moduleBest oneChain 2 .wires is 1)
-    ∷ (figure terminals 1 is 18)
-    ∷ (figure terminals 2 is 13)
-    ∷ (figure terminals 3 is 9)
-    ∷ (figure terminals 4 is 9)
-    ∷ (moduleBest terminals 4 .wires is 3)
-    ∷ (moduleBest nothing 1 .cycles is 7)
+    ∷ (moduleBest 1 oneChain 1 .cycles is 65)
+    ∷ (moduleBest 1 oneChain 1 .wires is 1)
+    ∷ (moduleBest 1 oneChain 2 .cycles is 65)
+    ∷ (moduleBest 1 oneChain 2 .wires is 1)
+    ∷ (figure 1 terminals 1 is 18)
+    ∷ (figure 1 terminals 2 is 13)
+    ∷ (figure 1 terminals 3 is 9)
+    ∷ (figure 1 terminals 4 is 9)
+    ∷ (moduleBest 1 terminals 4 .wires is 3)
+    ∷ (moduleBest 1 nothing 1 .cycles is 7)
     ∷ []
+
+-- with c = 2 and 4: Core A at width 4, where max(si, so) is 21 and min(si, so) is 20, takes (c + 21) × 10 + 20, and no terminals and no
+-- chains c × 7
+abbrev pub captureFigures : List Figure
+captureFigures = (figure 2 coreA 4 is 250) ∷ (figure 4 coreA 4 is 270) ∷ (moduleBest 4 nothing 1 .cycles is 28) ∷ []
 
 -- what the planner answers for W wires and limit B
 abbrev pub planned : Soc → ℕ → ℕ → BusPlan
-planned s W B = planAnswer s W B .plan
+planned s W B = planAnswer s W B 1 .plan
 
 -- "Text t1 above: W 4, B 1: 74*; W 1, B 3: 83*; W 4, B 3: 65 with two buses*. Two copies of its module 1, W 2, B 2: 65, modules on buses 1 and 2*.":
 -- of a record and one with the copies
@@ -75,6 +80,7 @@ startFigures s c =
 abbrev pub figures : List Figure
 figures =
     wrapperFigures
+    ++ captureFigures
     ++ planFigures (readSoc t1Text .soc) (readSoc twoCopiesText .soc)
     ++ startFigures (readSoc t1Text .soc) (readSoc twoCopiesText .soc)
 

@@ -26,6 +26,7 @@ use Rattle.plan.specs.PlanAnswers.{planAnswer}
 use Rattle.plan.specs.declared.answer.PlanAnswer.{PlanAnswer}
 use Rattle.listing.specs.Asked.{planLineMax, Wanted, textBehind, asked, askedAnswer}
 use Rattle.listing.specs.Listing.{refusalFields, planLines, planPrinted, textPrinted, printed, listed, listingMax, listingAnswer, listingLeaves}
+use Rattle.listing.specs.Rest.{wanted}
 use Rattle.buffer.specs.declared.written.Written.{Written}
 use Rattle.listing.specs.declared.asked.Asked.the-variants.{No, For}
 use Rattle.listing.proofs.AskedLaws.{first-line, asked-long, asked-short}
@@ -36,12 +37,12 @@ pub put-as : {v w start buf : List ℕ} {r : ℕ} (n : ℕ) → v ≡ w → n �
 put-as n e h p = rw e (p .0, omega arith)
 
 -- what is printed for the planner's answer
-module _ (s : Soc) (W B : ℕ) (a : PlanAnswer) (e : a ≡ planAnswer s W B) where
-  pub plan-refused : (a .refusal .number ≡ 0 → ⊥) → planPrinted s (planAnswer s W B) ≡ refusalFields (a .refusal) ∷ []
+module _ (s : Soc) (W B c : ℕ) (a : PlanAnswer) (e : a ≡ planAnswer s W B c) where
+  pub plan-refused : (a .refusal .number ≡ 0 → ⊥) → planPrinted s (planAnswer s W B c) ≡ refusalFields (a .refusal) ∷ []
   unfolding planPrinted
   plan-refused h = ap (planPrinted s) (sym e) ∙ simp (ne-eqb (a .refusal .number) 0 h)
 
-  pub plan-found : a .refusal .number ≡ 0 → planPrinted s (planAnswer s W B) ≡ planLines s (a .plan)
+  pub plan-found : a .refusal .number ≡ 0 → planPrinted s (planAnswer s W B c) ≡ planLines s (a .plan)
   unfolding planPrinted
   plan-found h = ap (planPrinted s) (sym e) ∙ simp (eq-eqb (a .refusal .number) 0 h)
 
@@ -51,7 +52,8 @@ module _ (k : Wanted) (t : List ℕ) (a : SocRead) (e : a ≡ readSoc t) where
   unfolding textPrinted
   text-refused h = ap (textPrinted k) (sym e) ∙ simp (ne-eqb (a .refusal .number) 0 h)
 
-  pub text-read : a .refusal .number ≡ 0 → textPrinted k (readSoc t) ≡ planPrinted (a .soc) (planAnswer (a .soc) (k .wires) (k .limit))
+  pub text-read : a .refusal .number ≡ 0 → textPrinted k (readSoc t)
+      ≡ planPrinted (a .soc) (planAnswer (a .soc) (k .wires) (k .limit) (k .capture))
   unfolding textPrinted
   text-read h = ap (textPrinted k) (sym e) ∙ simp (eq-eqb (a .refusal .number) 0 h)
 
@@ -61,13 +63,14 @@ unfolding askedAnswer
 answer-no (refuses d) c e = let q : d ≡ c = cc in ap refuses q
 answer-no (says k) c e = clash cc
 
-pub answer-for : (w : Whole Wanted) (W B : ℕ) → For W B ≡ askedAnswer w → w ≡ says (record { wires = W; limit = B })
+pub answer-for : (w : Whole Wanted) (W B c : ℕ) → For W B c ≡ askedAnswer w → w ≡ says (wanted W B c)
 unfolding askedAnswer
-answer-for (refuses d) W B e = clash cc
-answer-for (says k) W B e =
+answer-for (refuses d) W B c e = clash cc
+answer-for (says k) W B c e =
     let p : k .wires ≡ W = cc in
     let q : k .limit ≡ B = cc in
-    rw (← p, ← q)
+    let r : k .capture ≡ c = cc in
+    rw (← p, ← q, ← r)
 
 -- what is printed for an input, by its first line
 module _ (input : List ℕ) where

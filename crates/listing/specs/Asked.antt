@@ -1,13 +1,13 @@
--- The first line of the printing program's input (document 01, "The printing program"): "a line `Plan W B` (at most 32 bytes with its end), then a
--- SOC text."
+-- The first line of the printing program's input (document 01, "The printing program"; document 02, item 5): "a line `Plan W B` (at most
+-- 32 bytes with its end), then a SOC text."
 use Prim.Native.Nat.{ℕ}
 use mathlib.Core.Bool.{cond}
-use mathlib.Core.List.{List}
+use mathlib.Core.List.{List, [], _∷_}
 use lib.ListN.{take, drop}
 use lib.Dec.{leb}
 use Rattle.fields.specs.Fields.{fieldsOf}
 use Rattle.fields.specs.Lines.{lineAt}
-use Rattle.fields.specs.Readers.{Reader, _>>=_, _>>_, give, word, between}
+use Rattle.fields.specs.Readers.{Reader, got, _>>=_, _>>_, give, word, between}
 use Rattle.text_lines.specs.Parts.{Whole, refuses, says, whole}
 use Rattle.listing.specs.declared.asked.Asked.{Asked}
 use Rattle.listing.specs.declared.asked.Asked.the-variants.{No, For}
@@ -24,13 +24,20 @@ askedMax = 4294967295
 pub record Wanted : Type 0 where
   pub wires : ℕ
   pub limit : ℕ
+  pub capture : ℕ
+
+-- c is "chosen for the whole SOC by an optional third number on the `Plan` line, 1 if absent"
+unfoldable pub captureNumber : Reader ℕ
+captureNumber [] = got 1 []
+captureNumber (f ∷ fs) = between 0 askedMax (f ∷ fs)
 
 -- "Its fields are parted and read left to right as in the text."
 unfoldable pub planNumbers : Reader Wanted
 planNumbers = do
   w ← between 0 askedMax
   b ← between 0 askedMax
-  give (record { wires = w; limit = b })
+  c ← captureNumber
+  give (record { wires = w; limit = b; capture = c })
 
 unfoldable pub planLine : Reader Wanted
 planLine = do
@@ -51,4 +58,4 @@ asked input = cond (leb (lineAt input 0 .next) planLineMax) (whole planLine (fie
 -- the same as an answer
 unfoldable pub askedAnswer : Whole Wanted → Asked
 askedAnswer (refuses c) = No c
-askedAnswer (says k) = For (k .wires) (k .limit)
+askedAnswer (says k) = For (k .wires) (k .limit) (k .capture)

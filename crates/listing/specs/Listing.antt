@@ -1,4 +1,4 @@
--- What the printing program prints for an input (document 01, "The printing program"; document 02, item 1).
+-- What the printing program prints for an input (document 01, "The printing program"; document 02, items 1 and 5).
 use Prim.Native.Nat.{ℕ, suc}
 use mathlib.Core.Bool.{cond}
 use mathlib.Core.List.{List, [], _∷_, _++_}
@@ -74,7 +74,10 @@ unfoldable pub planPrinted : Soc → PlanAnswer → List (List (List ℕ))
 planPrinted s a = cond (eqb (a .refusal .number) 0) (planLines s (a .plan)) (refusalFields (a .refusal) ∷ [])
 
 unfoldable pub textPrinted : Wanted → SocRead → List (List (List ℕ))
-textPrinted k a = cond (eqb (a .refusal .number) 0) (planPrinted (a .soc) (planAnswer (a .soc) (k .wires) (k .limit))) (refusalFields (a .refusal) ∷ [])
+textPrinted k a =
+    cond (eqb (a .refusal .number) 0)
+    (planPrinted (a .soc) (planAnswer (a .soc) (k .wires) (k .limit) (k .capture)))
+    (refusalFields (a .refusal) ∷ [])
 
 unfoldable pub printed : Whole Wanted → List ℕ → List (List (List ℕ))
 printed (refuses c) text = refusalFields (refused c 0) ∷ []

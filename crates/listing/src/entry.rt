@@ -7,6 +7,7 @@ use super::put_lines::put_shown;
 use buffer::Written;
 use plan_record::BusPlan;
 use soc::Soc;
+use units::CaptureCycles;
 use units::Refusal;
 use units::Wires;
 ghost use mathlib.Core.Path.{_≡_};
@@ -14,19 +15,19 @@ ghost use Prim.Native.Nat.{_≤_};
 ghost use lib.ListN.{length};
 ghost use Rattle.buffer.specs.Puts.{Put};
 ghost use Rattle.text_reader.specs.Reading.{readSoc};
-ghost use Rattle.fields.specs.WrittenLines.{writtenLines};
 ghost use Rattle.plan.specs.PlanAnswers.{planAnswer};
 ghost use Rattle.listing.specs.Listing.{planPrinted, textPrinted, listed, listingMax, listingAnswer, listingLeaves, showAnswer, showLeaves};
+ghost use Rattle.listing.specs.Rest.{wanted, Printed};
 
 // A buffer of this length is always enough.
 pub const LISTING_MAX: usize = 2048;
 
 // What is printed for a record.
-fn put_answer(buf: &mut [u8], s: Soc, wires: u32, limit: u32) -> usize
+fn put_answer(buf: &mut [u8], s: Soc, wires: u32, limit: u32, capture: u32) -> usize
     requires { ⌜ listingMax ≤ length (now buf) ⌝ }
-    ensures { λ r. ⌜ Put (writtenLines (planPrinted s (planAnswer s wires limit))) 0 (now (buf .entry)) (now (buf .exit)) r × (length (writtenLines (planPrinted s (planAnswer s wires limit))) ≤ listingMax) ⌝ }
+    ensures { λ r. ⌜ Printed (planPrinted s (planAnswer s wires limit capture)) (now (buf .entry)) (now (buf .exit)) r ⌝ }
 {
-    let answer = plan::plan(s, Wires(wires), limit);
+    let answer = plan::plan(s, Wires(wires), limit, CaptureCycles(capture));
     if answer.refusal.number != 0 {
         return put_refusal(&mut *buf, 0, answer.refusal);
     }
@@ -34,15 +35,15 @@ fn put_answer(buf: &mut [u8], s: Soc, wires: u32, limit: u32) -> usize
 }
 
 // What is printed for a SOC text, where the first line is good.
-fn put_text(buf: &mut [u8], text: &[u8], wires: u32, limit: u32) -> usize
+fn put_text(buf: &mut [u8], text: &[u8], wires: u32, limit: u32, capture: u32) -> usize
     requires { ⌜ listingMax ≤ length (now buf) ⌝ }
-    ensures { λ r. ⌜ Put (writtenLines (textPrinted (record { wires = wires; limit = limit }) (readSoc (now (text .entry))))) 0 (now (buf .entry)) (now (buf .exit)) r × (length (writtenLines (textPrinted (record { wires = wires; limit = limit }) (readSoc (now (text .entry))))) ≤ listingMax) ⌝ }
+    ensures { λ r. ⌜ Printed (textPrinted (wanted wires limit capture) (readSoc (now (text .entry)))) (now (buf .entry)) (now (buf .exit)) r ⌝ }
 {
     let read = text_reader::read_soc(text);
     if read.refusal.number != 0 {
         return put_refusal(&mut *buf, 0, read.refusal);
     }
-    put_answer(&mut *buf, read.soc, wires, limit)
+    put_answer(&mut *buf, read.soc, wires, limit, capture)
 }
 
 fn put_listed(buf: &mut [u8], input: &[u8]) -> usize
@@ -53,7 +54,13 @@ fn put_listed(buf: &mut [u8], input: &[u8]) -> usize
     let next = line.next;
     match asked_of(input, line) {
         Asked::No(c) => put_refusal(&mut *buf, 0, Refusal::at(c, 0)),
-        Asked::For(wires, limit) => put_text(&mut *buf, &input[next..], wires, limit),
+        Asked::For(wires, limit, capture) => put_text(
+            &mut *buf,
+            &input[next..],
+            wires,
+            limit,
+            capture,
+        ),
     }
 }
 

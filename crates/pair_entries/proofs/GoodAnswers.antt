@@ -16,7 +16,7 @@ use Rattle.text_writer.specs.WrittenSoc.{writtenSoc, writeAnswer}
 use Rattle.wrapper.specs.Chains.{threaded}
 use Rattle.wrapper.specs.Laid.{testAt}
 use Rattle.wrapper.specs.Times.{testTime, moduleBest}
-use Rattle.wrapper.specs.WrapperAnswers.{widthMax, cycles, moduleAt, askedModule, askedTest, layoutOf, noLayout, layoutAnswer}
+use Rattle.wrapper.specs.WrapperAnswers.{widthMax, captureMax, cycles, moduleAt, askedModule, askedTest, layoutOf, noLayout, layoutAnswer}
 use Rattle.wrapper.specs.WrapperAnswers.{noTestTime, testTimeAnswer, noModuleTime, moduleTimeOf, moduleTimeAnswer}
 use Rattle.wrapper.specs.declared.asked.TestTime.{TestTime}
 use Rattle.plan.specs.PlanAnswers.{limitMax, plannedMax, refusedPlan, recordOf, bestFor, planAnswer}
@@ -34,58 +34,62 @@ module _ (s : Soc) (good : goodSoc s ≡ true) where
       go true e = omega arith
       go false e = omega arith
 
-  module _ (m w : ℕ) where
-    pub layout-not-14 : (i : ℕ) → layoutAnswer s m i w .refusal .number ≡ 14 → ⊥
+  module _ (m w c : ℕ) where
+    pub layout-not-14 : (i : ℕ) → layoutAnswer s m i w c .refusal .number ≡ 14 → ⊥
     unfolding layoutAnswer askedModule askedTest noLayout layoutOf
     layout-not-14 i =
-        rw good (go (leb 1 w && leb w widthMax) (ltb m (s .«module_count»)) (leb 1 i && leb i (moduleAt s m .«test_count»)))
+        rw good (go (leb 1 w && leb w widthMax) (leb 1 c && leb c captureMax) (ltb m (s .«module_count»)) (leb 1 i && leb i (moduleAt s m .«test_count»)))
       where
-        go : (y z t : Bool) →
+        go : (y x z t : Bool) →
             let found = layoutOf (moduleAt s m) (threaded (moduleAt s m) (testAt (moduleAt s m) i .«scan_use») w) in
-            Not14 (cond y (cond z (cond t found (noLayout 13)) (noLayout 13)) (noLayout 7) .refusal .number)
-        go true true true e = omega arith
-        go true true false e = omega arith
-        go true false t e = omega arith
-        go false z t e = omega arith
+            Not14 (cond y (cond x (cond z (cond t found (noLayout 13)) (noLayout 13)) (noLayout 16)) (noLayout 7) .refusal .number)
+        go true true true true e = omega arith
+        go true true true false e = omega arith
+        go true true false t e = omega arith
+        go true false z t e = omega arith
+        go false x z t e = omega arith
 
-    pub test-time-not-14 : (i : ℕ) → testTimeAnswer s m i w .refusal .number ≡ 14 → ⊥
+    pub test-time-not-14 : (i : ℕ) → testTimeAnswer s m i w c .refusal .number ≡ 14 → ⊥
     unfolding testTimeAnswer askedModule askedTest
     test-time-not-14 i =
-        rw good (go (leb 1 w && leb w widthMax) (ltb m (s .«module_count»)) (leb 1 i && leb i (moduleAt s m .«test_count»)))
+        rw good (go (leb 1 w && leb w widthMax) (leb 1 c && leb c captureMax) (ltb m (s .«module_count»)) (leb 1 i && leb i (moduleAt s m .«test_count»)))
       where
-        go : (y z t : Bool) →
-            let found : TestTime = record { refusal = accepted; cycles = cycles (testTime (moduleAt s m) w (testAt (moduleAt s m) i)) } in
-            Not14 (cond y (cond z (cond t found (noTestTime 13)) (noTestTime 13)) (noTestTime 7) .refusal .number)
+        go : (y x z t : Bool) →
+            let found : TestTime = record { refusal = accepted; cycles = cycles (testTime c (moduleAt s m) w (testAt (moduleAt s m) i)) } in
+            Not14 (cond y (cond x (cond z (cond t found (noTestTime 13)) (noTestTime 13)) (noTestTime 16)) (noTestTime 7) .refusal .number)
+        go true true true true e = omega arith
+        go true true true false e = omega arith
+        go true true false t e = omega arith
+        go true false z t e = omega arith
+        go false x z t e = omega arith
+
+    pub module-time-not-14 : moduleTimeAnswer s m w c .refusal .number ≡ 14 → ⊥
+    unfolding moduleTimeAnswer askedModule
+    module-time-not-14 = rw good (go (leb 1 w && leb w widthMax) (leb 1 c && leb c captureMax) (ltb m (s .«module_count»)))
+      where
+        go : (y x z : Bool) →
+            let found = moduleTimeOf (moduleBest c (moduleAt s m) w) in
+            Not14 (cond y (cond x (cond z found (noModuleTime 13)) (noModuleTime 16)) (noModuleTime 7) .refusal .number)
         go true true true e = omega arith
         go true true false e = omega arith
-        go true false t e = omega arith
-        go false z t e = omega arith
+        go true false z e = omega arith
+        go false x z e = omega arith
 
-    pub module-time-not-14 : moduleTimeAnswer s m w .refusal .number ≡ 14 → ⊥
-    unfolding moduleTimeAnswer askedModule
-    module-time-not-14 = rw good (go (leb 1 w && leb w widthMax) (ltb m (s .«module_count»)))
-      where
-        go : (y z : Bool) →
-            let found = moduleTimeOf (moduleBest (moduleAt s m) w) in
-            Not14 (cond y (cond z found (noModuleTime 13)) (noModuleTime 7) .refusal .number)
-        go true true e = omega arith
-        go true false e = omega arith
-        go false z e = omega arith
-
-  pub plan-not-14 : (W B : ℕ) → planAnswer s W B .refusal .number ≡ 14 → ⊥
+  pub plan-not-14 : (W B c : ℕ) → planAnswer s W B c .refusal .number ≡ 14 → ⊥
   unfolding planAnswer
-  plan-not-14 W B =
+  plan-not-14 W B c =
       rw good
-      (go (leb 1 W && leb W widthMax) (leb 1 B && leb B limitMax) (leb 1 (length (plannedOf s))) (leb (length (plannedOf s)) plannedMax))
+      (go (leb 1 W && leb W widthMax) (leb 1 B && leb B limitMax) (leb 1 c && leb c captureMax) (leb 1 (length (plannedOf s))) (leb (length (plannedOf s)) plannedMax))
     where
       found : PlanAnswer
-      found = record { refusal = accepted; plan = recordOf s W B (bestFor s W B) }
+      found = record { refusal = accepted; plan = recordOf c s W B (bestFor c s W B) }
 
-      go : (w x y z : Bool)
-          → Not14 (cond w (cond x (cond y (cond z found (refusedPlan 10)) (refusedPlan 9)) (refusedPlan 8))
+      go : (w x v y z : Bool)
+          → Not14 (cond w (cond x (cond v (cond y (cond z found (refusedPlan 10)) (refusedPlan 9)) (refusedPlan 16)) (refusedPlan 8))
           (refusedPlan 7) .refusal .number)
-      go true true true true e = omega arith
-      go true true true false e = omega arith
-      go true true false z e = omega arith
-      go true false y z e = omega arith
-      go false x y z e = omega arith
+      go true true true true true e = omega arith
+      go true true true true false e = omega arith
+      go true true true false z e = omega arith
+      go true true false y z e = omega arith
+      go true false v y z e = omega arith
+      go false x v y z e = omega arith

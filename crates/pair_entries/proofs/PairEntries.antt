@@ -33,23 +33,23 @@ module _ (base overlay : List ℕ) (h : readPair base overlay .refusal .number �
       let p = readPair base overlay in
       (of-refused p refusedWrite (writeOf buf) h, of-refused p (λ r m. buf) (λ s. writeLeaves s buf) h)
 
-  pub layout-refused : (m i w : ℕ) → let p = readPair base overlay in layoutPair base overlay m i w ≡ refusedLayout (p .refusal) (p .meant)
+  pub layout-refused : (m i w c : ℕ) → let p = readPair base overlay in layoutPair base overlay m i w c ≡ refusedLayout (p .refusal) (p .meant)
   unfolding layoutPair
-  layout-refused m i w = of-refused (readPair base overlay) refusedLayout (layoutOf m i w) h
+  layout-refused m i w c = of-refused (readPair base overlay) refusedLayout (layoutOf m i w c) h
 
-  pub test-time-refused : (m i w : ℕ)
-      → let p = readPair base overlay in testTimePair base overlay m i w ≡ refusedTestTime (p .refusal) (p .meant)
+  pub test-time-refused : (m i w c : ℕ)
+      → let p = readPair base overlay in testTimePair base overlay m i w c ≡ refusedTestTime (p .refusal) (p .meant)
   unfolding testTimePair
-  test-time-refused m i w = of-refused (readPair base overlay) refusedTestTime (testTimeOf m i w) h
+  test-time-refused m i w c = of-refused (readPair base overlay) refusedTestTime (testTimeOf m i w c) h
 
-  pub module-time-refused : (m w : ℕ)
-      → let p = readPair base overlay in moduleTimePair base overlay m w ≡ refusedModuleTime (p .refusal) (p .meant)
+  pub module-time-refused : (m w c : ℕ)
+      → let p = readPair base overlay in moduleTimePair base overlay m w c ≡ refusedModuleTime (p .refusal) (p .meant)
   unfolding moduleTimePair
-  module-time-refused m w = of-refused (readPair base overlay) refusedModuleTime (moduleTimeOf m w) h
+  module-time-refused m w c = of-refused (readPair base overlay) refusedModuleTime (moduleTimeOf m w c) h
 
-  pub plan-refused : (W B : ℕ) → let p = readPair base overlay in planPair base overlay W B ≡ refusedPlan (p .refusal) (p .meant)
+  pub plan-refused : (W B c : ℕ) → let p = readPair base overlay in planPair base overlay W B c ≡ refusedPlan (p .refusal) (p .meant)
   unfolding planPair
-  plan-refused W B = of-refused (readPair base overlay) refusedPlan (planOf W B) h
+  plan-refused W B c = of-refused (readPair base overlay) refusedPlan (planOf W B c) h
 
 -- a pair that is accepted
 module _ (base overlay : List ℕ) (h : readPair base overlay .refusal .number ≡ 0) where
@@ -61,21 +61,21 @@ module _ (base overlay : List ℕ) (h : readPair base overlay .refusal .number �
       let p = readPair base overlay in
       (of-accepted p refusedWrite (writeOf buf) h, of-accepted p (λ r m. buf) (λ s. writeLeaves s buf) h)
 
-  pub layout-accepted : (m i w : ℕ) → layoutPair base overlay m i w ≡ layoutOf m i w (readPair base overlay .soc)
+  pub layout-accepted : (m i w c : ℕ) → layoutPair base overlay m i w c ≡ layoutOf m i w c (readPair base overlay .soc)
   unfolding layoutPair
-  layout-accepted m i w = of-accepted (readPair base overlay) refusedLayout (layoutOf m i w) h
+  layout-accepted m i w c = of-accepted (readPair base overlay) refusedLayout (layoutOf m i w c) h
 
-  pub test-time-accepted : (m i w : ℕ) → testTimePair base overlay m i w ≡ testTimeOf m i w (readPair base overlay .soc)
+  pub test-time-accepted : (m i w c : ℕ) → testTimePair base overlay m i w c ≡ testTimeOf m i w c (readPair base overlay .soc)
   unfolding testTimePair
-  test-time-accepted m i w = of-accepted (readPair base overlay) refusedTestTime (testTimeOf m i w) h
+  test-time-accepted m i w c = of-accepted (readPair base overlay) refusedTestTime (testTimeOf m i w c) h
 
-  pub module-time-accepted : (m w : ℕ) → moduleTimePair base overlay m w ≡ moduleTimeOf m w (readPair base overlay .soc)
+  pub module-time-accepted : (m w c : ℕ) → moduleTimePair base overlay m w c ≡ moduleTimeOf m w c (readPair base overlay .soc)
   unfolding moduleTimePair
-  module-time-accepted m w = of-accepted (readPair base overlay) refusedModuleTime (moduleTimeOf m w) h
+  module-time-accepted m w c = of-accepted (readPair base overlay) refusedModuleTime (moduleTimeOf m w c) h
 
-  pub plan-accepted : (W B : ℕ) → planPair base overlay W B ≡ planOf W B (readPair base overlay .soc)
+  pub plan-accepted : (W B c : ℕ) → planPair base overlay W B c ≡ planOf W B c (readPair base overlay .soc)
   unfolding planPair
-  plan-accepted W B = of-accepted (readPair base overlay) refusedPlan (planOf W B) h
+  plan-accepted W B c = of-accepted (readPair base overlay) refusedPlan (planOf W B c) h
 
 -- 14 is never answered: the combined description is good
 module _ (base overlay : List ℕ) where
@@ -93,90 +93,90 @@ module _ (base overlay : List ℕ) where
       (λ h. refused-not-14)
       (λ h. good.write-not-14 (readPair base overlay .soc) (pair-good base overlay h) buf)
 
-  pub layout-pair-not-14 : (m i w : ℕ) → layoutPair base overlay m i w .answer .refusal .number ≡ 14 → ⊥
+  pub layout-pair-not-14 : (m i w c : ℕ) → layoutPair base overlay m i w c .answer .refusal .number ≡ 14 → ⊥
   unfolding layoutPair emptyLayout
-  layout-pair-not-14 m i w =
-      of-either (readPair base overlay) refusedLayout (layoutOf m i w) (λ a. a .answer .refusal .number ≡ 14 → ⊥)
+  layout-pair-not-14 m i w c =
+      of-either (readPair base overlay) refusedLayout (layoutOf m i w c) (λ a. a .answer .refusal .number ≡ 14 → ⊥)
       (λ h. refused-not-14)
-      (λ h. good.layout-not-14 (readPair base overlay .soc) (pair-good base overlay h) m w i)
+      (λ h. good.layout-not-14 (readPair base overlay .soc) (pair-good base overlay h) m w c i)
 
-  pub test-time-pair-not-14 : (m i w : ℕ) → testTimePair base overlay m i w .answer .refusal .number ≡ 14 → ⊥
+  pub test-time-pair-not-14 : (m i w c : ℕ) → testTimePair base overlay m i w c .answer .refusal .number ≡ 14 → ⊥
   unfolding testTimePair
-  test-time-pair-not-14 m i w =
-      of-either (readPair base overlay) refusedTestTime (testTimeOf m i w) (λ a. a .answer .refusal .number ≡ 14 → ⊥)
+  test-time-pair-not-14 m i w c =
+      of-either (readPair base overlay) refusedTestTime (testTimeOf m i w c) (λ a. a .answer .refusal .number ≡ 14 → ⊥)
       (λ h. refused-not-14)
-      (λ h. good.test-time-not-14 (readPair base overlay .soc) (pair-good base overlay h) m w i)
+      (λ h. good.test-time-not-14 (readPair base overlay .soc) (pair-good base overlay h) m w c i)
 
-  pub module-time-pair-not-14 : (m w : ℕ) → moduleTimePair base overlay m w .answer .refusal .number ≡ 14 → ⊥
+  pub module-time-pair-not-14 : (m w c : ℕ) → moduleTimePair base overlay m w c .answer .refusal .number ≡ 14 → ⊥
   unfolding moduleTimePair
-  module-time-pair-not-14 m w =
-      of-either (readPair base overlay) refusedModuleTime (moduleTimeOf m w) (λ a. a .answer .refusal .number ≡ 14 → ⊥)
+  module-time-pair-not-14 m w c =
+      of-either (readPair base overlay) refusedModuleTime (moduleTimeOf m w c) (λ a. a .answer .refusal .number ≡ 14 → ⊥)
       (λ h. refused-not-14)
-      (λ h. good.module-time-not-14 (readPair base overlay .soc) (pair-good base overlay h) m w)
+      (λ h. good.module-time-not-14 (readPair base overlay .soc) (pair-good base overlay h) m w c)
 
-  pub plan-pair-not-14 : (W B : ℕ) → planPair base overlay W B .answer .refusal .number ≡ 14 → ⊥
+  pub plan-pair-not-14 : (W B c : ℕ) → planPair base overlay W B c .answer .refusal .number ≡ 14 → ⊥
   unfolding planPair
-  plan-pair-not-14 W B =
-      of-either (readPair base overlay) refusedPlan (planOf W B) (λ a. a .answer .refusal .number ≡ 14 → ⊥)
+  plan-pair-not-14 W B c =
+      of-either (readPair base overlay) refusedPlan (planOf W B c) (λ a. a .answer .refusal .number ≡ 14 → ⊥)
       (λ h. refused-not-14)
-      (λ h. good.plan-not-14 (readPair base overlay .soc) (pair-good base overlay h) W B)
+      (λ h. good.plan-not-14 (readPair base overlay .soc) (pair-good base overlay h) W B c)
 
   -- a number is at most 15, a line at most as many as a text may have, and a figure keeps its maximum
-  pub told-number : readPair base overlay .refusal .number ≤ 15
+  pub told-number : readPair base overlay .refusal .number ≤ 16
   told-number = go (pair-told base overlay .0)
     where
       go : (readPair base overlay .refusal .number ≤ 6) ⊎ (readPair base overlay .refusal .number ≡ 15)
-          → readPair base overlay .refusal .number ≤ 15
+          → readPair base overlay .refusal .number ≤ 16
       go (inl k) = omega arith
       go (inr k) = omega arith
 
   pub write-pair-told : (buf : List ℕ) →
       let a = writePair base overlay buf .answer in
-      (a .refusal .number ≤ 15) × (a .refusal .line ≤ textMax + 1) × (a .len ≤ length buf)
+      (a .refusal .number ≤ 16) × (a .refusal .line ≤ textMax + 1) × (a .len ≤ length buf)
   unfolding writePair
   write-pair-told buf =
       of-either (readPair base overlay) refusedWrite (writeOf buf)
-      (λ a. (a .answer .refusal .number ≤ 15) × (a .answer .refusal .line ≤ textMax + 1) × (a .answer .len ≤ length buf))
+      (λ a. (a .answer .refusal .number ≤ 16) × (a .answer .refusal .line ≤ textMax + 1) × (a .answer .len ≤ length buf))
       (λ h. (told-number, pair-told base overlay .1, omega arith))
       (λ h. let f = write-fits (readPair base overlay .soc) buf in (omega (arith, f .number), omega (arith, f .line), f .len))
 
-  pub layout-pair-told : (m i w : ℕ) →
-      let a = layoutPair base overlay m i w .answer in
-      (a .refusal .number ≤ 15) × (a .refusal .line ≤ textMax + 1)
+  pub layout-pair-told : (m i w c : ℕ) →
+      let a = layoutPair base overlay m i w c .answer in
+      (a .refusal .number ≤ 16) × (a .refusal .line ≤ textMax + 1)
   unfolding layoutPair emptyLayout
-  layout-pair-told m i w =
-      of-either (readPair base overlay) refusedLayout (layoutOf m i w)
-      (λ a. (a .answer .refusal .number ≤ 15) × (a .answer .refusal .line ≤ textMax + 1))
+  layout-pair-told m i w c =
+      of-either (readPair base overlay) refusedLayout (layoutOf m i w c)
+      (λ a. (a .answer .refusal .number ≤ 16) × (a .answer .refusal .line ≤ textMax + 1))
       (λ h. (told-number, pair-told base overlay .1))
-      (λ h. let l = layout-told (readPair base overlay .soc) m i w in (omega (arith, l .0), omega (arith, l .1)))
+      (λ h. let l = layout-told (readPair base overlay .soc) m i w c in (omega (arith, l .0), omega (arith, l .1)))
 
-  pub test-time-pair-told : (m i w : ℕ) →
-      let a = testTimePair base overlay m i w .answer in
-      (a .refusal .number ≤ 15) × (a .refusal .line ≤ textMax + 1) × (a .cycles .0 ≤ testTimeMax)
+  pub test-time-pair-told : (m i w c : ℕ) →
+      let a = testTimePair base overlay m i w c .answer in
+      (a .refusal .number ≤ 16) × (a .refusal .line ≤ textMax + 1) × (a .cycles .0 ≤ testTimeMax)
   unfolding testTimePair
-  test-time-pair-told m i w =
-      of-either (readPair base overlay) refusedTestTime (testTimeOf m i w)
-      (λ a. (a .answer .refusal .number ≤ 15) × (a .answer .refusal .line ≤ textMax + 1) × (a .answer .cycles .0 ≤ testTimeMax))
+  test-time-pair-told m i w c =
+      of-either (readPair base overlay) refusedTestTime (testTimeOf m i w c)
+      (λ a. (a .answer .refusal .number ≤ 16) × (a .answer .refusal .line ≤ textMax + 1) × (a .answer .cycles .0 ≤ testTimeMax))
       (λ h. (told-number, pair-told base overlay .1, omega arith))
-      (λ h. let l = test-time-told (readPair base overlay .soc) m i w in (omega (arith, l .0), omega (arith, l .1), l .2))
+      (λ h. let l = test-time-told (readPair base overlay .soc) m i w c in (omega (arith, l .0), omega (arith, l .1), l .2))
 
-  pub module-time-pair-told : (m w : ℕ) →
-      let a = moduleTimePair base overlay m w .answer in
-      (a .refusal .number ≤ 15) × (a .refusal .line ≤ textMax + 1) × (a .cycles .0 ≤ moduleTimeMax) × (a .wires .0 ≤ widthMax)
+  pub module-time-pair-told : (m w c : ℕ) →
+      let a = moduleTimePair base overlay m w c .answer in
+      (a .refusal .number ≤ 16) × (a .refusal .line ≤ textMax + 1) × (a .cycles .0 ≤ moduleTimeMax) × (a .wires .0 ≤ widthMax)
   unfolding moduleTimePair
-  module-time-pair-told m w =
-      of-either (readPair base overlay) refusedModuleTime (moduleTimeOf m w)
-      (λ a. (a .answer .refusal .number ≤ 15) × (a .answer .refusal .line ≤ textMax + 1) × (a .answer .cycles .0 ≤ moduleTimeMax)
+  module-time-pair-told m w c =
+      of-either (readPair base overlay) refusedModuleTime (moduleTimeOf m w c)
+      (λ a. (a .answer .refusal .number ≤ 16) × (a .answer .refusal .line ≤ textMax + 1) × (a .answer .cycles .0 ≤ moduleTimeMax)
       × (a .answer .wires .0 ≤ widthMax))
       (λ h. (told-number, pair-told base overlay .1, omega arith, omega arith))
-      (λ h. let l = module-time-told (readPair base overlay .soc) m w in (omega (arith, l .0), omega (arith, l .1), l .2, l .3))
+      (λ h. let l = module-time-told (readPair base overlay .soc) m w c in (omega (arith, l .0), omega (arith, l .1), l .2, l .3))
 
-  pub plan-pair-told : (W B : ℕ) →
-      let a = planPair base overlay W B .answer in
-      (a .refusal .number ≤ 15) × (a .refusal .line ≤ textMax + 1)
+  pub plan-pair-told : (W B c : ℕ) →
+      let a = planPair base overlay W B c .answer in
+      (a .refusal .number ≤ 16) × (a .refusal .line ≤ textMax + 1)
   unfolding planPair
-  plan-pair-told W B =
-      of-either (readPair base overlay) refusedPlan (planOf W B)
-      (λ a. (a .answer .refusal .number ≤ 15) × (a .answer .refusal .line ≤ textMax + 1))
+  plan-pair-told W B c =
+      of-either (readPair base overlay) refusedPlan (planOf W B c)
+      (λ a. (a .answer .refusal .number ≤ 16) × (a .answer .refusal .line ≤ textMax + 1))
       (λ h. (told-number, pair-told base overlay .1))
-      (λ h. let l = answer-told (readPair base overlay .soc) W B in (omega (arith, l .0), omega (arith, l .1)))
+      (λ h. let l = answer-told (readPair base overlay .soc) W B c in (omega (arith, l .0), omega (arith, l .1)))

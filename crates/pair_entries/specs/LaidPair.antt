@@ -30,9 +30,9 @@ emptyLayout r =
 abbrev pub refusedLayout : Refusal → Meant → PairLayout
 refusedLayout r m = record { meant = m; answer = emptyLayout r }
 
--- the layout of test i of module m of the combined description at width w
-abbrev pub layoutOf : ℕ → ℕ → ℕ → Soc → PairLayout
-layoutOf m i w s = record { meant = meant.Neither; answer = layoutAnswer s m i w }
+-- the layout of test i of module m of the combined description at width w, with c capture cycles
+abbrev pub layoutOf : ℕ → ℕ → ℕ → ℕ → Soc → PairLayout
+layoutOf m i w c s = record { meant = meant.Neither; answer = layoutAnswer s m i w c }
 
-unfoldable pub layoutPair : List ℕ → List ℕ → ℕ → ℕ → ℕ → PairLayout
-layoutPair base overlay m i w = ofPair (readPair base overlay) refusedLayout (layoutOf m i w)
+unfoldable pub layoutPair : List ℕ → List ℕ → ℕ → ℕ → ℕ → ℕ → PairLayout
+layoutPair base overlay m i w c = ofPair (readPair base overlay) refusedLayout (layoutOf m i w c)

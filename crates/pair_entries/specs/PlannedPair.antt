@@ -15,9 +15,9 @@ use Rattle.pair_entries.specs.declared.planned.PairPlan.{PairPlan}
 abbrev pub refusedPlan : Refusal → Meant → PairPlan
 refusedPlan r m = record { meant = m; answer = record { refusal = r; plan = noPlan } }
 
--- the plan for the combined description with W wires and limit B
-abbrev pub planOf : ℕ → ℕ → Soc → PairPlan
-planOf W B s = record { meant = meant.Neither; answer = planAnswer s W B }
+-- the plan for the combined description with W wires, limit B and c capture cycles
+abbrev pub planOf : ℕ → ℕ → ℕ → Soc → PairPlan
+planOf W B c s = record { meant = meant.Neither; answer = planAnswer s W B c }
 
-unfoldable pub planPair : List ℕ → List ℕ → ℕ → ℕ → PairPlan
-planPair base overlay W B = ofPair (readPair base overlay) refusedPlan (planOf W B)
+unfoldable pub planPair : List ℕ → List ℕ → ℕ → ℕ → ℕ → PairPlan
+planPair base overlay W B c = ofPair (readPair base overlay) refusedPlan (planOf W B c)

@@ -16,19 +16,19 @@ use Rattle.pair_entries.specs.declared.timed.PairTestTime.{PairTestTime}
 abbrev pub refusedTestTime : Refusal → Meant → PairTestTime
 refusedTestTime r m = record { meant = m; answer = record { refusal = r; cycles = cycles 0 } }
 
--- the time of test i of module m of the combined description at width w
-abbrev pub testTimeOf : ℕ → ℕ → ℕ → Soc → PairTestTime
-testTimeOf m i w s = record { meant = meant.Neither; answer = testTimeAnswer s m i w }
+-- the time of test i of module m of the combined description at width w, with c capture cycles
+abbrev pub testTimeOf : ℕ → ℕ → ℕ → ℕ → Soc → PairTestTime
+testTimeOf m i w c s = record { meant = meant.Neither; answer = testTimeAnswer s m i w c }
 
-unfoldable pub testTimePair : List ℕ → List ℕ → ℕ → ℕ → ℕ → PairTestTime
-testTimePair base overlay m i w = ofPair (readPair base overlay) refusedTestTime (testTimeOf m i w)
+unfoldable pub testTimePair : List ℕ → List ℕ → ℕ → ℕ → ℕ → ℕ → PairTestTime
+testTimePair base overlay m i w c = ofPair (readPair base overlay) refusedTestTime (testTimeOf m i w c)
 
 abbrev pub refusedModuleTime : Refusal → Meant → PairModuleTime
 refusedModuleTime r m = record { meant = m; answer = record { refusal = r; cycles = cycles 0; wires = wires 0 } }
 
--- the time and the wires of module m of the combined description on a bus of width w
-abbrev pub moduleTimeOf : ℕ → ℕ → Soc → PairModuleTime
-moduleTimeOf m w s = record { meant = meant.Neither; answer = moduleTimeAnswer s m w }
+-- the time and the wires of module m of the combined description on a bus of width w, with c capture cycles
+abbrev pub moduleTimeOf : ℕ → ℕ → ℕ → Soc → PairModuleTime
+moduleTimeOf m w c s = record { meant = meant.Neither; answer = moduleTimeAnswer s m w c }
 
-unfoldable pub moduleTimePair : List ℕ → List ℕ → ℕ → ℕ → PairModuleTime
-moduleTimePair base overlay m w = ofPair (readPair base overlay) refusedModuleTime (moduleTimeOf m w)
+unfoldable pub moduleTimePair : List ℕ → List ℕ → ℕ → ℕ → ℕ → PairModuleTime
+moduleTimePair base overlay m w c = ofPair (readPair base overlay) refusedModuleTime (moduleTimeOf m w c)

@@ -2,6 +2,7 @@
 use pair::Meant;
 use pair::read_pair;
 use soc::CHAINS_MAX;
+use units::CaptureCycles;
 use units::FlipFlops;
 use units::Refusal;
 use units::Wires;
@@ -32,8 +33,15 @@ fn refused_layout(f: Refusal, meant: Meant) -> PairLayout
     }
 }
 
-pub fn layout_pair(base: &[u8], overlay: &[u8], module: u32, test: u32, width: Wires) -> PairLayout
-    ensures { λ r. ⌜ r ≡ layoutPair (now (base .entry)) (now (overlay .entry)) «module» test (width .0) ⌝ }
+pub fn layout_pair(
+    base: &[u8],
+    overlay: &[u8],
+    module: u32,
+    test: u32,
+    width: Wires,
+    capture: CaptureCycles,
+) -> PairLayout
+    ensures { λ r. ⌜ r ≡ layoutPair (now (base .entry)) (now (overlay .entry)) «module» test (width .0) (capture .0) ⌝ }
 {
     let pair = read_pair(base, overlay);
     if pair.refusal.number != 0 {
@@ -43,6 +51,6 @@ pub fn layout_pair(base: &[u8], overlay: &[u8], module: u32, test: u32, width: W
     let soc = pair.soc;
     PairLayout {
         meant: Meant::Neither,
-        answer: wrapper::layout(soc, module, test, width),
+        answer: wrapper::layout(soc, module, test, width, capture),
     }
 }

@@ -3,6 +3,7 @@ use pair::Meant;
 use pair::read_pair;
 use plan::PlanAnswer;
 use plan_record::no_plan;
+use units::CaptureCycles;
 use units::Refusal;
 use units::Wires;
 ghost use mathlib.Core.Path.{_≡_};
@@ -26,8 +27,14 @@ fn refused_plan(f: Refusal, meant: Meant) -> PairPlan
     }
 }
 
-pub fn plan_pair(base: &[u8], overlay: &[u8], wires: Wires, limit: u32) -> PairPlan
-    ensures { λ r. ⌜ r ≡ planPair (now (base .entry)) (now (overlay .entry)) (wires .0) limit ⌝ }
+pub fn plan_pair(
+    base: &[u8],
+    overlay: &[u8],
+    wires: Wires,
+    limit: u32,
+    capture: CaptureCycles,
+) -> PairPlan
+    ensures { λ r. ⌜ r ≡ planPair (now (base .entry)) (now (overlay .entry)) (wires .0) limit (capture .0) ⌝ }
 {
     let pair = read_pair(base, overlay);
     if pair.refusal.number != 0 {
@@ -37,6 +44,6 @@ pub fn plan_pair(base: &[u8], overlay: &[u8], wires: Wires, limit: u32) -> PairP
     let soc = pair.soc;
     PairPlan {
         meant: Meant::Neither,
-        answer: plan::plan(soc, wires, limit),
+        answer: plan::plan(soc, wires, limit, capture),
     }
 }

@@ -1,6 +1,7 @@
 // The time of a test, and of a module, of a pair.
 use pair::Meant;
 use pair::read_pair;
+use units::CaptureCycles;
 use units::Cycles;
 use units::Refusal;
 use units::Wires;
@@ -38,8 +39,9 @@ pub fn test_time_pair(
     module: u32,
     test: u32,
     width: Wires,
+    capture: CaptureCycles,
 ) -> PairTestTime
-    ensures { λ r. ⌜ r ≡ testTimePair (now (base .entry)) (now (overlay .entry)) «module» test (width .0) ⌝ }
+    ensures { λ r. ⌜ r ≡ testTimePair (now (base .entry)) (now (overlay .entry)) «module» test (width .0) (capture .0) ⌝ }
 {
     let pair = read_pair(base, overlay);
     if pair.refusal.number != 0 {
@@ -49,7 +51,7 @@ pub fn test_time_pair(
     let soc = pair.soc;
     PairTestTime {
         meant: Meant::Neither,
-        answer: wrapper::test_time(soc, module, test, width),
+        answer: wrapper::test_time(soc, module, test, width, capture),
     }
 }
 
@@ -67,8 +69,14 @@ fn refused_module_time(f: Refusal, meant: Meant) -> PairModuleTime
 }
 
 // A module's time on a bus of a width, and its wires.
-pub fn module_time_pair(base: &[u8], overlay: &[u8], module: u32, width: Wires) -> PairModuleTime
-    ensures { λ r. ⌜ r ≡ moduleTimePair (now (base .entry)) (now (overlay .entry)) «module» (width .0) ⌝ }
+pub fn module_time_pair(
+    base: &[u8],
+    overlay: &[u8],
+    module: u32,
+    width: Wires,
+    capture: CaptureCycles,
+) -> PairModuleTime
+    ensures { λ r. ⌜ r ≡ moduleTimePair (now (base .entry)) (now (overlay .entry)) «module» (width .0) (capture .0) ⌝ }
 {
     let pair = read_pair(base, overlay);
     if pair.refusal.number != 0 {
@@ -78,6 +86,6 @@ pub fn module_time_pair(base: &[u8], overlay: &[u8], module: u32, width: Wires) 
     let soc = pair.soc;
     PairModuleTime {
         meant: Meant::Neither,
-        answer: wrapper::module_time(soc, module, width),
+        answer: wrapper::module_time(soc, module, width, capture),
     }
 }

@@ -130,8 +130,9 @@ module _ {W B n : ℕ} {p : Plan} (r : IsPlan W B n p) where
     placed = λ i l. rw (padded-at searchModules 0 (p .buses) i) (r .low i l, r .high i l);
   }
 
-  module _ {s : Soc} {t : Tables} (a : TablesAre s W n t) where
-    buses-are : busesIs (tableTime (t .cycles)) (foundOf (tableTime (t .cycles)) p) n ≡ padded busPlaces noBus (busRecords (p .widths) (busies (timeIn s) (p .buses) 1 (p .widths)))
+  module _ {c : ℕ} {s : Soc} {t : Tables} (a : TablesAre c s W n t) where
+    buses-are : busesIs (tableTime (t .cycles)) (foundOf (tableTime (t .cycles)) p) n
+        ≡ padded busPlaces noBus (busRecords (p .widths) (busies (timeIn c s) (p .buses) 1 (p .widths)))
     unfolding busesIs
     buses-are =
         let e : take n (padded searchModules 0 (p .buses)) ≡ p .buses = rw (← r .placed) (padded-take searchModules 0 (p .buses)) in
@@ -141,7 +142,7 @@ module _ {W B n : ℕ} {p : Plan} (r : IsPlan W B n p) where
     starts-are : (time : ℕ → ℕ → ℕ) (i b : ℕ) → i < n →
         let w = getD (p .widths) (b - 1) 0 in
         1 ≤ w → w ≤ W
-        → busyFrom (tableTime (t .cycles)) 0 b w (take i (foundOf time p .buses)) ≡ busyFrom (timeIn s) 0 b w (take i (p .buses))
+        → busyFrom (tableTime (t .cycles)) 0 b w (take i (foundOf time p .buses)) ≡ busyFrom (timeIn c s) 0 b w (take i (p .buses))
     unfolding padded
     starts-are time i b h k l =
         let spare : List ℕ = replicate (searchModules - length (p .buses)) 0 in
@@ -151,7 +152,7 @@ module _ {W B n : ℕ} {p : Plan} (r : IsPlan W B n p) where
     modules-from : (time : ℕ → ℕ → ℕ) (i : ℕ) (bs : List ℕ) → i + length bs ≤ n
         → ((j : ℕ) → j < length bs → (1 ≤ getD bs j 0) × (getD bs j 0 ≤ length (p .widths)))
         → placedFrom (plannedIs (plannedOf s)) t (foundOf time p) i bs
-        ≡ moduleRecords (plannedOf s) (timeIn s) (wiresIn s) (p .widths) (p .buses) i bs
+        ≡ moduleRecords (plannedOf s) (timeIn c s) (wiresIn c s) (p .widths) (p .buses) i bs
     unfolding placedFrom moduleRecords
     modules-from time i [] h q = refl
     modules-from time i (b ∷ bs) h q =
@@ -170,7 +171,7 @@ module _ {W B n : ℕ} {p : Plan} (r : IsPlan W B n p) where
 
     modules-are : (time : ℕ → ℕ → ℕ) → n ≡ length (plannedOf s)
         → modulesIs (plannedIs (plannedOf s)) t (foundOf time p)
-        ≡ padded modulePlaces noPlaced (moduleRecords (plannedOf s) (timeIn s) (wiresIn s) (p .widths) (p .buses) 0 (p .buses))
+        ≡ padded modulePlaces noPlaced (moduleRecords (plannedOf s) (timeIn c s) (wiresIn c s) (p .widths) (p .buses) 0 (p .buses))
     unfolding modulesIs
     modules-are time count =
         let e : take (length (plannedOf s)) (padded searchModules 0 (p .buses)) ≡ p .buses = rw (← count, ← r .placed) (padded-take searchModules 0 (p .buses)) in
@@ -186,18 +187,18 @@ table-fewer a h = record {
 }
 
 -- the plan that the search finds over the tables of the planned modules
-module _ {s : Soc} {W B : ℕ} {t : Tables} {p : Planned} {f : Found}
-    (a : TablesAre s W (length (plannedOf s)) t) (numbers : p ≡ plannedIs (plannedOf s))
+module _ {c : ℕ} {s : Soc} {W B : ℕ} {t : Tables} {p : Planned} {f : Found}
+    (a : TablesAre c s W (length (plannedOf s)) t) (numbers : p ≡ plannedIs (plannedOf s))
     (found : f ≡ foundOf (tableTime (t .cycles)) (bestPlan (tableTime (t .cycles)) W B (p .count)))
     (some : 1 ≤ W) (narrow : W ≤ widthMax) (limit : 1 ≤ B) (few : B ≤ limitMax) where
   count-is : p .count ≡ length (plannedOf s)
   count-is = ap (λ x. x .count) numbers
 
-  best-plan : IsPlan W B (length (plannedOf s)) (bestFor s W B)
+  best-plan : IsPlan W B (length (plannedOf s)) (bestFor c s W B)
   unfolding bestFor
-  best-plan = best-first (timeOf (timeIn s)) W B (length (plannedOf s)) some limit .is-plan
+  best-plan = best-first (timeOf (timeIn c s)) W B (length (plannedOf s)) some limit .is-plan
 
-  found-best : f ≡ foundOf (tableTime (t .cycles)) (bestFor s W B)
+  found-best : f ≡ foundOf (tableTime (t .cycles)) (bestFor c s W B)
   unfolding bestFor
   found-best = found ∙ rw (count-is, best-same (a .cycles-are) B)
 
@@ -207,7 +208,7 @@ module _ {s : Soc} {W B : ℕ} {t : Tables} {p : Planned} {f : Found}
   pub record-is : {buses : List Bus} {modules : List PlacedModule} → buses ≡ busesIs (tableTime (t .cycles)) f (p .count) → modules ≡ modulesIs p t f
       → _≡_ {A = BusPlan}
       (record { wires = wires W; limit = B; «bus_count» = f .count; buses = buses; «module_count» = p .count; modules = modules; time = f .time })
-      (recordOf s W B (bestFor s W B))
+      (recordOf c s W B (bestFor c s W B))
   unfolding planRecord
   record-is u v =
       let ms = modules-are best-plan a (tableTime (t .cycles)) refl in

@@ -3,3 +3,4 @@ pub mod EntryLaws
 pub mod PlannerLaws
 pub mod PlanDemand
 pub mod MoreWires
+pub mod CaptureLaws

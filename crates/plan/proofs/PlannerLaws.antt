@@ -19,7 +19,7 @@ use Rattle.soc.proofs.GoodSocLaws.{soc-figures}
 use Rattle.soc.specs.declared.record.Module.{Module}
 use Rattle.soc.specs.declared.record.Soc.{Soc}
 use Rattle.wrapper.specs.Maxima.{moduleTimeMax}
-use Rattle.wrapper.specs.WrapperAnswers.{widthMax}
+use Rattle.wrapper.specs.WrapperAnswers.{widthMax, captureMax}
 use Rattle.wrapper.proofs.BestLaws.{time-wires}
 use Rattle.wrapper.proofs.PromisedTimes.{time-most, time-some}
 use Rattle.plan_record.specs.Good.{ascendingFrom, goodPlan}
@@ -62,17 +62,18 @@ planned-planned s i h =
     rw (getD-take (s .«module_count») (s .modules) x noModule (planned-number s i h .0)) at (rw z at (planned-at 0 (modulesOf s) i h .planned))
 
 -- "cycles 1 to the module maximum"
-pub time-within : (s : Soc) → goodSoc s ≡ true → (i : ℕ) → i < length (plannedOf s) → (w : ℕ) → 1 ≤ w → (1 ≤ timeIn s i w) × (timeIn s i w ≤ moduleTimeMax)
+pub time-within : (c : ℕ) → 1 ≤ c → c ≤ captureMax → (s : Soc) → goodSoc s ≡ true → (i : ℕ) → i < length (plannedOf s) → (w : ℕ) → 1 ≤ w
+    → (1 ≤ timeIn c s i w) × (timeIn c s i w ≤ moduleTimeMax)
 unfolding timeIn
-time-within s good i h w k =
+time-within c first last s good i h w k =
     let x = getD (plannedOf s) i 0 in
     let n = planned-number s i h .0 in
-    (time-some s x good n w k (planned-planned s i h), time-most s x good n w k)
+    (time-some c first last s x good n w k (planned-planned s i h), time-most c first last s x good n w k)
 
 -- "wires 1 to the bus's width"
-pub wires-within : (s : Soc) (i w : ℕ) → 1 ≤ w → (1 ≤ wiresIn s i w) × (wiresIn s i w ≤ w)
+pub wires-within : (c : ℕ) (s : Soc) (i w : ℕ) → 1 ≤ w → (1 ≤ wiresIn c s i w) × (wiresIn c s i w ≤ w)
 unfolding wiresIn
-wires-within s i w k = time-wires (plannedModule s i) w k
+wires-within c s i w k = time-wires c (plannedModule s i) w k
 
 -- numbers of planned modules ascend
 ascending-planned : (low m : ℕ) (ds : List Module) → low ≤ m → m + length ds ≤ modulesMax → ascendingFrom low (plannedFrom m ds) ≡ true
@@ -90,91 +91,109 @@ pub planned-ascends : (s : Soc) → goodSoc s ≡ true → ascendingFrom 0 (plan
 planned-ascends s good = ascending-planned 0 0 (modulesOf s) (omega arith) (omega (arith, soc-figures s good .module-count, length-take (s .«module_count») (s .modules)))
 
 -- "The answer is the first plan of least time."
-pub best-for-first : (s : Soc) (W B : ℕ) → 1 ≤ W → 1 ≤ B → IsFirst (timeOf (timeIn s)) W B (length (plannedOf s)) (bestFor s W B)
+pub best-for-first : (c : ℕ) (s : Soc) (W B : ℕ) → 1 ≤ W → 1 ≤ B
+    → IsFirst (timeOf (timeIn c s)) W B (length (plannedOf s)) (bestFor c s W B)
 unfolding bestFor
-best-for-first s W B some limit = best-first (timeOf (timeIn s)) W B (length (plannedOf s)) some limit
+best-for-first c s W B some limit = best-first (timeOf (timeIn c s)) W B (length (plannedOf s)) some limit
 
 -- the planned modules of a good SOC make a record
-recordable : (s : Soc) → goodSoc s ≡ true → 1 ≤ length (plannedOf s) → length (plannedOf s) ≤ plannedMax → Recordable (plannedOf s) (timeIn s) (wiresIn s)
-recordable s good some most =
+recordable : (c : ℕ) → 1 ≤ c → c ≤ captureMax → (s : Soc) → goodSoc s ≡ true → 1 ≤ length (plannedOf s)
+    → length (plannedOf s) ≤ plannedMax → Recordable (plannedOf s) (timeIn c s) (wiresIn c s)
+recordable c first last s good some most =
     record {
       some = some;
       few = most;
       ascending = planned-ascends s good;
-      times = λ i w h k. time-within s good i h w k;
-      wires = λ i w k. wires-within s i w k;
+      times = λ i w h k. time-within c first last s good i h w k;
+      wires = λ i w k. wires-within c s i w k;
     }
 
 -- "A plan of the planner is always a good record"
-module _ (s : Soc) (W B : ℕ) (good : goodSoc s ≡ true) (low : 1 ≤ W) (narrow : W ≤ widthMax) (limit : 1 ≤ B) (few : B ≤ limitMax)
-    (some : 1 ≤ length (plannedOf s)) (most : length (plannedOf s) ≤ plannedMax) where
-  pub planner-good : goodPlan (recordOf s W B (bestFor s W B)) ≡ true
-  planner-good = record-good (plannedOf s) (timeIn s) (wiresIn s) W B (bestFor s W B) (best-for-first s W B low limit .is-plan) (recordable s good some most) low narrow limit few
+module _ (c : ℕ) (first : 1 ≤ c) (last : c ≤ captureMax) (s : Soc) (W B : ℕ) (good : goodSoc s ≡ true) (low : 1 ≤ W) (narrow : W ≤ widthMax)
+    (limit : 1 ≤ B) (few : B ≤ limitMax) (some : 1 ≤ length (plannedOf s)) (most : length (plannedOf s) ≤ plannedMax) where
+  pub planner-good : goodPlan (recordOf c s W B (bestFor c s W B)) ≡ true
+  planner-good = record-good (plannedOf s) (timeIn c s) (wiresIn c s) W B (bestFor c s W B) (best-for-first c s W B low limit .is-plan)
+      (recordable c first last s good some most) low narrow limit few
 
 -- what the planner answers where it refuses nothing: the limits hold, and the plan is the best one's record
-pub record Answered (s : Soc) (W B : ℕ) (a : PlanAnswer) : Type 0 where
+pub record Answered (s : Soc) (W B c : ℕ) (a : PlanAnswer) : Type 0 where
   pub good : goodSoc s ≡ true
   pub low : 1 ≤ W
   pub narrow : W ≤ widthMax
   pub limit : 1 ≤ B
   pub few : B ≤ limitMax
+  pub first : 1 ≤ c
+  pub last : c ≤ captureMax
   pub some : 1 ≤ length (plannedOf s)
   pub most : length (plannedOf s) ≤ plannedMax
-  pub is : a .plan ≡ recordOf s W B (bestFor s W B)
+  pub is : a .plan ≡ recordOf c s W B (bestFor c s W B)
 
-pub answered : (s : Soc) (W B : ℕ) → planAnswer s W B .refusal .number ≡ 0 → Answered s W B (planAnswer s W B)
+pub answered : (s : Soc) (W B c : ℕ) → planAnswer s W B c .refusal .number ≡ 0 → Answered s W B c (planAnswer s W B c)
 unfolding planAnswer
-answered s W B e =
-    go (goodSoc s) (leb 1 W && leb W widthMax) (leb 1 B && leb B limitMax) (leb 1 (length (plannedOf s))) (leb (length (plannedOf s)) plannedMax) refl refl refl refl refl e
+answered s W B c e =
+    go (goodSoc s) (leb 1 W && leb W widthMax) (leb 1 B && leb B limitMax) (leb 1 c && leb c captureMax) (leb 1 (length (plannedOf s)))
+    (leb (length (plannedOf s)) plannedMax) refl refl refl refl refl refl e
   where
     found : PlanAnswer
-    found = record { refusal = accepted; plan = recordOf s W B (bestFor s W B) }
+    found = record { refusal = accepted; plan = recordOf c s W B (bestFor c s W B) }
 
-    go : (v w x y z : Bool) → goodSoc s ≡ v → (leb 1 W && leb W widthMax) ≡ w → (leb 1 B && leb B limitMax) ≡ x → leb 1 (length (plannedOf s)) ≡ y → leb (length (plannedOf s)) plannedMax ≡ z →
-        let a = cond v (cond w (cond x (cond y (cond z found (refusedPlan 10)) (refusedPlan 9)) (refusedPlan 8)) (refusedPlan 7)) (refusedPlan 14) in
-        a .refusal .number ≡ 0 → Answered s W B a
-    go true true true true true a b c d e h =
+    go : (v w x u y z : Bool) → goodSoc s ≡ v → (leb 1 W && leb W widthMax) ≡ w → (leb 1 B && leb B limitMax) ≡ x
+        → (leb 1 c && leb c captureMax) ≡ u → leb 1 (length (plannedOf s)) ≡ y → leb (length (plannedOf s)) plannedMax ≡ z →
+        let planned = cond y (cond z found (refusedPlan 10)) (refusedPlan 9) in
+        let a = cond v (cond w (cond x (cond u planned (refusedPlan 16)) (refusedPlan 8)) (refusedPlan 7)) (refusedPlan 14) in
+        a .refusal .number ≡ 0 → Answered s W B c a
+    go true true true true true true a b l k d e h =
         let w = and-both (leb 1 W) (leb W widthMax) b in
-        let l = and-both (leb 1 B) (leb B limitMax) c in
+        let l = and-both (leb 1 B) (leb B limitMax) l in
+        let k = and-both (leb 1 c) (leb c captureMax) k in
         record {
           good = a;
           low = leb-true 1 W (w .0);
           narrow = leb-true W widthMax (w .1);
           limit = leb-true 1 B (l .0);
           few = leb-true B limitMax (l .1);
+          first = leb-true 1 c (k .0);
+          last = leb-true c captureMax (k .1);
           some = leb-true 1 _ d;
           most = leb-true _ plannedMax e;
           is = refl;
         }
-    go true true true true false a b c d e h = let no : ⊥ = omega arith in absurd no
-    go true true true false z a b c d e h = let no : ⊥ = omega arith in absurd no
-    go true true false y z a b c d e h = let no : ⊥ = omega arith in absurd no
-    go true false x y z a b c d e h = let no : ⊥ = omega arith in absurd no
-    go false w x y z a b c d e h = let no : ⊥ = omega arith in absurd no
+    go true true true true true false a b l k d e h = let no : ⊥ = omega arith in absurd no
+    go true true true true false z a b l k d e h = let no : ⊥ = omega arith in absurd no
+    go true true true false y z a b l k d e h = let no : ⊥ = omega arith in absurd no
+    go true true false u y z a b l k d e h = let no : ⊥ = omega arith in absurd no
+    go true false x u y z a b l k d e h = let no : ⊥ = omega arith in absurd no
+    go false w x u y z a b l k d e h = let no : ⊥ = omega arith in absurd no
 
 -- an answer that is not refused is a good plan of a good record
-module _ (s : Soc) (W B : ℕ) (a : PlanAnswer) (e : a ≡ planAnswer s W B) (h : a .refusal .number ≡ 0) where
+module _ (s : Soc) (W B c : ℕ) (a : PlanAnswer) (e : a ≡ planAnswer s W B c) (h : a .refusal .number ≡ 0) where
   pub planner-answers-good : goodPlan (a .plan) ≡ true
-  planner-answers-good = let r = answered s W B (rw e at h) in rw (e, r .is) (planner-good s W B (r .good) (r .low) (r .narrow) (r .limit) (r .few) (r .some) (r .most))
+  planner-answers-good =
+      let r = answered s W B c (rw e at h) in
+      rw (e, r .is)
+      (planner-good c (r .first) (r .last) s W B (r .good) (r .low) (r .narrow) (r .limit) (r .few) (r .some) (r .most))
 
   pub planner-accepts-good : goodSoc s ≡ true
-  planner-accepts-good = answered s W B (rw e at h) .good
+  planner-accepts-good = answered s W B c (rw e at h) .good
 
 -- a refusal has no line
-pub answer-told : (s : Soc) (W B : ℕ) → (planAnswer s W B .refusal .number ≤ 14) × (planAnswer s W B .refusal .line ≡ 0)
+pub answer-told : (s : Soc) (W B c : ℕ) → (planAnswer s W B c .refusal .number ≤ 16) × (planAnswer s W B c .refusal .line ≡ 0)
 unfolding planAnswer
-answer-told s W B =
-    go (goodSoc s) (leb 1 W && leb W widthMax) (leb 1 B && leb B limitMax) (leb 1 (length (plannedOf s))) (leb (length (plannedOf s)) plannedMax)
+answer-told s W B c =
+    go (goodSoc s) (leb 1 W && leb W widthMax) (leb 1 B && leb B limitMax) (leb 1 c && leb c captureMax) (leb 1 (length (plannedOf s)))
+    (leb (length (plannedOf s)) plannedMax)
   where
     found : PlanAnswer
-    found = record { refusal = accepted; plan = recordOf s W B (bestFor s W B) }
+    found = record { refusal = accepted; plan = recordOf c s W B (bestFor c s W B) }
 
-    go : (v w x y z : Bool) →
-        let a = cond v (cond w (cond x (cond y (cond z found (refusedPlan 10)) (refusedPlan 9)) (refusedPlan 8)) (refusedPlan 7)) (refusedPlan 14) in
-        (a .refusal .number ≤ 14) × (a .refusal .line ≡ 0)
-    go true true true true true = (omega arith, refl)
-    go true true true true false = (omega arith, refl)
-    go true true true false z = (omega arith, refl)
-    go true true false y z = (omega arith, refl)
-    go true false x y z = (omega arith, refl)
-    go false w x y z = (omega arith, refl)
+    go : (v w x u y z : Bool) →
+        let planned = cond y (cond z found (refusedPlan 10)) (refusedPlan 9) in
+        let a = cond v (cond w (cond x (cond u planned (refusedPlan 16)) (refusedPlan 8)) (refusedPlan 7)) (refusedPlan 14) in
+        (a .refusal .number ≤ 16) × (a .refusal .line ≡ 0)
+    go true true true true true true = (omega arith, refl)
+    go true true true true true false = (omega arith, refl)
+    go true true true true false z = (omega arith, refl)
+    go true true true false y z = (omega arith, refl)
+    go true true false u y z = (omega arith, refl)
+    go true false x u y z = (omega arith, refl)
+    go false w x u y z = (omega arith, refl)

@@ -13,7 +13,7 @@ use Rattle.soc.specs.Planned.{isPlanned, plannedFrom, plannedOf}
 use Rattle.soc.specs.Rules.{goodSoc}
 use Rattle.soc.specs.declared.record.Module.{Module}
 use Rattle.soc.specs.declared.record.Soc.{Soc}
-use Rattle.wrapper.specs.WrapperAnswers.{widthMax, moduleTimesAnswer}
+use Rattle.wrapper.specs.WrapperAnswers.{widthMax, captureMax, moduleTimesAnswer}
 use Rattle.wrapper.proofs.BestLaws.{time-falls}
 use Rattle.wrapper.proofs.PromisedTimes.{time-most, times-at, wires-at, times-past}
 use Rattle.plan_rules.specs.Plans.{Plan, IsPlan, busyFrom, busies, largest, timeOf}
@@ -56,21 +56,24 @@ planned-number s i h =
     (omega arith, omega arith)
 
 -- a planned module's time is at most the limit, and does not rise with the width
-pub time-limit : (s : Soc) (i w : ℕ) → goodSoc s ≡ true → i < length (plannedOf s) → 1 ≤ w → timeIn s i w ≤ moduleTimeMax
+pub time-limit : (c : ℕ) (s : Soc) (i w : ℕ) → 1 ≤ c → c ≤ captureMax → goodSoc s ≡ true → i < length (plannedOf s) → 1 ≤ w
+    → timeIn c s i w ≤ moduleTimeMax
 unfolding timeIn
-time-limit s i w good h k = time-most s (getD (plannedOf s) i 0) good (planned-number s i h .0) w k
+time-limit c s i w first last good h k = time-most c first last s (getD (plannedOf s) i 0) good (planned-number s i h .0) w k
 
-pub time-fall : (s : Soc) (i v w : ℕ) → 1 ≤ v → v ≤ w → timeIn s i w ≤ timeIn s i v
+pub time-fall : (c : ℕ) (s : Soc) (i v w : ℕ) → 1 ≤ v → v ≤ w → timeIn c s i w ≤ timeIn c s i v
 unfolding timeIn
-time-fall s i v w h k = time-falls (plannedModule s i) v w h k
+time-fall c s i v w h k = time-falls c (plannedModule s i) v w h k
 
 -- the tables hold the times of the planned modules: a table to search over
-module _ {s : Soc} {W n : ℕ} {t : Tables} (a : TablesAre s W n t) (good : goodSoc s ≡ true) (count : n ≡ length (plannedOf s)) where
+module _ {c : ℕ} {s : Soc} {W n : ℕ} {t : Tables} (a : TablesAre c s W n t) (first : 1 ≤ c) (last : c ≤ captureMax)
+    (good : goodSoc s ≡ true) (count : n ≡ length (plannedOf s)) where
   row-most : (i j : ℕ) → i < n → j < rowPlaces → getD (t .cycles) (i * rowPlaces + j) 0 ≤ moduleTimeMax
   row-most i j h k = ⊎-elim
       (λ l.
       let e : suc j - 1 ≡ j = omega arith in
-      rw (rw e at (a .cycles-are i (suc j) h (omega arith) (omega arith))) (time-limit s i (suc j) good (omega arith) (omega arith)))
+      rw (rw e at (a .cycles-are i (suc j) h (omega arith) (omega arith)))
+      (time-limit c s i (suc j) first last good (omega arith) (omega arith)))
       (λ l. rw (a .past i j h l k) (omega arith))
       (below-or j W)
 
@@ -85,7 +88,7 @@ module _ {s : Soc} {W n : ℕ} {t : Tables} (a : TablesAre s W n t) (good : good
   row-falls : (i v w : ℕ) → i < n → 1 ≤ v → v ≤ w → w ≤ rowPlaces → tableTime (t .cycles) i w ≤ tableTime (t .cycles) i v
   row-falls i v w h k o p = ⊎-elim
       (λ l. rw (a .past i (w - 1) h (omega arith) (omega arith)) (omega arith))
-      (λ l. rw (a .cycles-are i w h (omega arith) l, a .cycles-are i v h k (omega arith)) (time-fall s i v w k o))
+      (λ l. rw (a .cycles-are i w h (omega arith) l, a .cycles-are i v h k (omega arith)) (time-fall c s i v w k o))
       (below-or W w)
 
   pub table-is : length (t .cycles) ≡ tablePlaces → n ≤ plannedMax → IsTable (t .cycles) n
@@ -107,8 +110,9 @@ pub planned-searched : plannedMax ≤ searchModules
 planned-searched = omega arith
 
 -- no times stand in the tables yet, and what the wrapper layer answers for one planned module more does
-pub tables-none : (s : Soc) (W : ℕ) → TablesAre s W 0 (record { cycles = replicate tablePlaces 0; wires = replicate tablePlaces 0 })
-tables-none s W =
+pub tables-none : (c : ℕ) (s : Soc) (W : ℕ)
+    → TablesAre c s W 0 (record { cycles = replicate tablePlaces 0; wires = replicate tablePlaces 0 })
+tables-none c s W =
     record {
       cycles-are = λ i w h k l. absurd (omega arith);
       wires-are = λ i w h k l. absurd (omega arith);
@@ -116,32 +120,33 @@ tables-none s W =
       spare = λ j h. replicate-at tablePlaces 0 j;
     }
 
-module _ (s : Soc) (W k : ℕ) {t r : Tables} (good : goodSoc s ≡ true) (h : k < length (plannedOf s)) (low : 1 ≤ W) (high : W ≤ widthMax)
-    (b : TimesStand t k (moduleTimesAnswer s (getD (plannedOf s) k 0) W .times) r) where
+module _ (c : ℕ) (s : Soc) (W k : ℕ) {t r : Tables} (first : 1 ≤ c) (last : c ≤ captureMax) (good : goodSoc s ≡ true)
+    (h : k < length (plannedOf s)) (low : 1 ≤ W) (high : W ≤ widthMax)
+    (b : TimesStand t k (moduleTimesAnswer s (getD (plannedOf s) k 0) W c .times) r) where
   there : getD (plannedOf s) k 0 < s .«module_count»
   there = planned-number s k h .0
 
-  cycles-here : (w : ℕ) → 1 ≤ w → w ≤ W → getD (r .cycles) (k * rowPlaces + (w - 1)) 0 ≡ timeIn s k w
+  cycles-here : (w : ℕ) → 1 ≤ w → w ≤ W → getD (r .cycles) (k * rowPlaces + (w - 1)) 0 ≡ timeIn c s k w
   unfolding timeIn
   cycles-here w l m =
-      b .cycles-here (w - 1) (omega arith) ∙ ap (λ c. c .0) (times-at s (getD (plannedOf s) k 0) good there W low high w l m)
+      b .cycles-here (w - 1) (omega arith) ∙ ap (λ x. x .0) (times-at c first last s (getD (plannedOf s) k 0) good there W low high w l m)
 
-  wires-here : (w : ℕ) → 1 ≤ w → w ≤ W → getD (r .wires) (k * rowPlaces + (w - 1)) 0 ≡ wiresIn s k w
+  wires-here : (w : ℕ) → 1 ≤ w → w ≤ W → getD (r .wires) (k * rowPlaces + (w - 1)) 0 ≡ wiresIn c s k w
   unfolding wiresIn
   wires-here w l m =
-      b .wires-here (w - 1) (omega arith) ∙ ap (λ c. c .0) (wires-at s (getD (plannedOf s) k 0) good there W low high w l m)
+      b .wires-here (w - 1) (omega arith) ∙ ap (λ x. x .0) (wires-at c first last s (getD (plannedOf s) k 0) good there W low high w l m)
 
   past-here : (j : ℕ) → W ≤ j → j < rowPlaces → getD (r .cycles) (k * rowPlaces + j) 0 ≡ 0
-  past-here j l m = b .cycles-here j m ∙ ap (λ c. c .0) (times-past s (getD (plannedOf s) k 0) good there W low high j l)
+  past-here j l m = b .cycles-here j m ∙ ap (λ x. x .0) (times-past c first last s (getD (plannedOf s) k 0) good there W low high j l)
 
-  pub tables-more : TablesAre s W k t → TablesAre s W (k + 1) r
+  pub tables-more : TablesAre c s W k t → TablesAre c s W (k + 1) r
   tables-more a =
       record {
         cycles-are = λ i w l.
-            below-more (λ j. 1 ≤ w → w ≤ W → getD (r .cycles) (j * rowPlaces + (w - 1)) 0 ≡ timeIn s j w) k
+            below-more (λ j. 1 ≤ w → w ≤ W → getD (r .cycles) (j * rowPlaces + (w - 1)) 0 ≡ timeIn c s j w) k
             (λ j l m n. b .cycles-else (j * rowPlaces + (w - 1)) .0 (omega arith) ∙ a .cycles-are j w l m n) (cycles-here w) i l;
         wires-are = λ i w l.
-            below-more (λ j. 1 ≤ w → w ≤ W → getD (r .wires) (j * rowPlaces + (w - 1)) 0 ≡ wiresIn s j w) k
+            below-more (λ j. 1 ≤ w → w ≤ W → getD (r .wires) (j * rowPlaces + (w - 1)) 0 ≡ wiresIn c s j w) k
             (λ j l m n. b .wires-else (j * rowPlaces + (w - 1)) .0 (omega arith) ∙ a .wires-are j w l m n) (wires-here w) i l;
         past = λ i x l.
             below-more (λ j. W ≤ x → x < rowPlaces → getD (r .cycles) (j * rowPlaces + x) 0 ≡ 0) k

@@ -1,4 +1,5 @@
--- What the first planner answers (document 01, "The plan" and "Refusal numbers"): "Plan: 14, 7, 8, 9, 10."
+-- What the first planner answers (document 01, "The plan" and "Refusal numbers"; document 02, item 5): "Plan: 14, 7, 8, 9, 10.", where "c
+-- outside 1 to 4 is 16, after 8 for plans". "Every time, plan and bound reads with c", the capture cycles.
 use Prim.Native.Nat.{ℕ}
 use mathlib.Core.Bool.{cond, _&&_}
 use lib.ListN.{length, getD}
@@ -10,7 +11,7 @@ use Rattle.soc.specs.Planned.{plannedOf}
 use Rattle.soc.specs.declared.record.Module.{Module}
 use Rattle.soc.specs.declared.record.Soc.{Soc}
 use Rattle.wrapper.specs.Times.{moduleBest}
-use Rattle.wrapper.specs.WrapperAnswers.{widthMax}
+use Rattle.wrapper.specs.WrapperAnswers.{widthMax, captureMax}
 use Rattle.plan_rules.specs.Plans.{Plan}
 use Rattle.plan_rules.specs.Listed.{bestPlan}
 use Rattle.plan_record.specs.Record.{noPlan, planRecord}
@@ -30,31 +31,35 @@ abbrev pub plannedModule : Soc → ℕ → Module
 plannedModule s i = getD (s .modules) (getD (plannedOf s) i 0) noModule
 
 -- its time and its wires on a bus of width w, as the wrapper layer has them
-unfoldable pub timeIn : Soc → ℕ → ℕ → ℕ
-timeIn s i w = moduleBest (plannedModule s i) w .cycles
+unfoldable pub timeIn : ℕ → Soc → ℕ → ℕ → ℕ
+timeIn c s i w = moduleBest c (plannedModule s i) w .cycles
 
-unfoldable pub wiresIn : Soc → ℕ → ℕ → ℕ
-wiresIn s i w = moduleBest (plannedModule s i) w .wires
+unfoldable pub wiresIn : ℕ → Soc → ℕ → ℕ → ℕ
+wiresIn c s i w = moduleBest c (plannedModule s i) w .wires
 
 -- "The answer is the first plan of least time."
-unfoldable pub bestFor : Soc → ℕ → ℕ → Plan
-bestFor s W B = bestPlan (timeIn s) W B (length (plannedOf s))
+unfoldable pub bestFor : ℕ → Soc → ℕ → ℕ → Plan
+bestFor c s W B = bestPlan (timeIn c s) W B (length (plannedOf s))
 
 -- its record: the numbers of the planned modules, their times and their wires
-abbrev pub recordOf : Soc → ℕ → ℕ → Plan → BusPlan
-recordOf s W B p = planRecord (plannedOf s) (timeIn s) (wiresIn s) W B p
+abbrev pub recordOf : ℕ → Soc → ℕ → ℕ → Plan → BusPlan
+recordOf c s W B p = planRecord (plannedOf s) (timeIn c s) (wiresIn c s) W B p
 
 abbrev pub refusedPlan : ℕ → PlanAnswer
 refusedPlan n = record { refusal = refused n 0; plan = noPlan }
 
-unfoldable pub planAnswer : Soc → ℕ → ℕ → PlanAnswer
-planAnswer s W B =
+unfoldable pub planAnswer : Soc → ℕ → ℕ → ℕ → PlanAnswer
+planAnswer s W B c =
     cond (goodSoc s)
     (cond (leb 1 W && leb W widthMax)
     (cond (leb 1 B && leb B limitMax)
+    (cond (leb 1 c && leb c captureMax)
     (cond (leb 1 (length (plannedOf s)))
-    (cond (leb (length (plannedOf s)) plannedMax) (record { refusal = accepted; plan = recordOf s W B (bestFor s W B) }) (refusedPlan 10))
+    (cond (leb (length (plannedOf s)) plannedMax)
+    (record { refusal = accepted; plan = recordOf c s W B (bestFor c s W B) })
+    (refusedPlan 10))
     (refusedPlan 9))
+    (refusedPlan 16))
     (refusedPlan 8))
     (refusedPlan 7))
     (refusedPlan 14)

@@ -8,7 +8,7 @@ use Rattle.soc.specs.Rules.{goodSoc}
 use Rattle.soc.specs.Planned.{plannedOf, plannedIs}
 use Rattle.soc.specs.declared.planned.Planned.{Planned}
 use Rattle.soc.specs.declared.record.Soc.{Soc}
-use Rattle.wrapper.specs.WrapperAnswers.{wires, cycles, widthMax}
+use Rattle.wrapper.specs.WrapperAnswers.{wires, cycles, widthMax, captureMax}
 use Rattle.wrapper.specs.declared.times.Times.{Times}
 use Rattle.plan_search.specs.Search.{rowPlaces}
 use Rattle.plan.specs.PlanAnswers.{plannedMax, timeIn, wiresIn}
@@ -18,13 +18,16 @@ use Rattle.plan.specs.declared.tables.Tables.{Tables}
 abbrev pub tablePlaces : ℕ
 tablePlaces = plannedMax * rowPlaces
 
--- tables can be made: p has the planned modules of a good SOC, no more than the planner takes, and W is a width
-pub record Plannable (s : Soc) (p : Planned) (W : ℕ) : Type 0 where
+-- tables can be made: p has the planned modules of a good SOC, no more than the planner takes, W is a width, and c is a number of capture
+-- cycles
+pub record Plannable (c : ℕ) (s : Soc) (p : Planned) (W : ℕ) : Type 0 where
   pub good : goodSoc s ≡ true
   pub numbers : p ≡ plannedIs (plannedOf s)
   pub most : length (plannedOf s) ≤ plannedMax
   pub low : 1 ≤ W
   pub narrow : W ≤ widthMax
+  pub captures : 1 ≤ c
+  pub capturing : c ≤ captureMax
 
 -- the times of a module stand in the places of module k, and the places of the others are as they were
 pub record TimesStand (t : Tables) (k : ℕ) (times : Times) (r : Tables) : Type 0 where
@@ -36,8 +39,8 @@ pub record TimesStand (t : Tables) (k : ℕ) (times : Times) (r : Tables) : Type
       × (k * rowPlaces + rowPlaces ≤ j → getD (r .wires) j 0 ≡ getD (t .wires) j 0)
 
 -- the times and wires of the first n planned modules stand in their places, width by width up to W, and 0 in all others
-pub record TablesAre (s : Soc) (W n : ℕ) (t : Tables) : Type 0 where
-  pub cycles-are : (i w : ℕ) → i < n → 1 ≤ w → w ≤ W → getD (t .cycles) (i * rowPlaces + (w - 1)) 0 ≡ timeIn s i w
-  pub wires-are : (i w : ℕ) → i < n → 1 ≤ w → w ≤ W → getD (t .wires) (i * rowPlaces + (w - 1)) 0 ≡ wiresIn s i w
+pub record TablesAre (c : ℕ) (s : Soc) (W n : ℕ) (t : Tables) : Type 0 where
+  pub cycles-are : (i w : ℕ) → i < n → 1 ≤ w → w ≤ W → getD (t .cycles) (i * rowPlaces + (w - 1)) 0 ≡ timeIn c s i w
+  pub wires-are : (i w : ℕ) → i < n → 1 ≤ w → w ≤ W → getD (t .wires) (i * rowPlaces + (w - 1)) 0 ≡ wiresIn c s i w
   pub past : (i j : ℕ) → i < n → W ≤ j → j < rowPlaces → getD (t .cycles) (i * rowPlaces + j) 0 ≡ 0
   pub spare : (j : ℕ) → n * rowPlaces ≤ j → getD (t .cycles) j 0 ≡ 0

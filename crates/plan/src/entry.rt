@@ -1,5 +1,5 @@
-// The first planner (document 01, "The plan" and "Refusal numbers"): refusals 14, 7, 8, 9, 10 in that order; then the tables of times, the
-// search over them, and the record of what it finds.
+// The first planner (document 01, "The plan" and "Refusal numbers"; document 02, item 5): refusals 14, 7, 8, 16, 9, 10 in that order; then
+// the tables of times, the search over them, and the record of what it finds.
 use super::answer::PlanAnswer;
 use super::limits::LIMIT_MAX;
 use super::limits::PLANNED_MAX;
@@ -19,9 +19,11 @@ use plan_search::busy_of;
 use plan_search::search;
 use soc::Planned;
 use soc::Soc;
+use units::CaptureCycles;
 use units::Cycles;
 use units::Refusal;
 use units::Wires;
+use wrapper::CAPTURE_MAX;
 use wrapper::WIDTH_MAX;
 ghost use mathlib.Core.Path.{_≡_};
 ghost use Prim.Native.Nat.{_≤_};
@@ -86,11 +88,11 @@ fn modules_of(p: Planned, t: Tables, f: Found) -> [PlacedModule; MODULE_PLACES]
 }
 
 // The plan for W wires and limit B, where nothing is refused.
-fn found_plan(s: Soc, p: Planned, wires: Wires, limit: u32) -> BusPlan
-    requires { ⌜ Plannable s p (wires .0) × (1 ≤ limit) × (limit ≤ limitMax) ⌝ }
-    ensures { λ r. ⌜ r ≡ recordOf s (wires .0) limit (bestFor s (wires .0) limit) ⌝ }
+fn found_plan(s: Soc, p: Planned, wires: Wires, limit: u32, capture: CaptureCycles) -> BusPlan
+    requires { ⌜ Plannable (capture .0) s p (wires .0) × (1 ≤ limit) × (limit ≤ limitMax) ⌝ }
+    ensures { λ r. ⌜ r ≡ recordOf (capture .0) s (wires .0) limit (bestFor (capture .0) s (wires .0) limit) ⌝ }
 {
-    let t = tables_of(s, p, wires);
+    let t = tables_of(s, p, wires, capture);
     let cycles = t.cycles;
     let n = p.count;
     let b = limit as usize;
@@ -108,8 +110,8 @@ fn found_plan(s: Soc, p: Planned, wires: Wires, limit: u32) -> BusPlan
 }
 
 // The first plan of least time.
-pub fn plan(s: Soc, wires: Wires, limit: u32) -> PlanAnswer
-    ensures { λ r. ⌜ r ≡ planAnswer s (wires .0) limit ⌝ }
+pub fn plan(s: Soc, wires: Wires, limit: u32, capture: CaptureCycles) -> PlanAnswer
+    ensures { λ r. ⌜ r ≡ planAnswer s (wires .0) limit (capture .0) ⌝ }
 {
     if !soc::is_good(s) {
         return refused_plan(14);
@@ -126,6 +128,12 @@ pub fn plan(s: Soc, wires: Wires, limit: u32) -> PlanAnswer
     if limit > LIMIT_MAX {
         return refused_plan(8);
     }
+    if capture.0 < 1 {
+        return refused_plan(16);
+    }
+    if capture.0 > CAPTURE_MAX {
+        return refused_plan(16);
+    }
     let p = soc::planned_modules(s);
     if p.count < 1 {
         return refused_plan(9);
@@ -135,6 +143,6 @@ pub fn plan(s: Soc, wires: Wires, limit: u32) -> PlanAnswer
     }
     PlanAnswer {
         refusal: Refusal::none(),
-        plan: found_plan(s, p, wires, limit),
+        plan: found_plan(s, p, wires, limit, capture),
     }
 }

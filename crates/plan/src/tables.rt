@@ -3,6 +3,7 @@ use super::limits::TABLE_PLACES;
 use plan_search::ROW_PLACES;
 use soc::Planned;
 use soc::Soc;
+use units::CaptureCycles;
 use units::Wires;
 use wrapper::Times;
 ghost use Prim.Native.Nat.{_<_};
@@ -35,9 +36,9 @@ fn with_times(t: Tables, k: usize, times: Times) -> Tables
     Tables { cycles, wires }
 }
 
-pub(crate) fn tables_of(s: Soc, p: Planned, w: Wires) -> Tables
-    requires { ⌜ Plannable s p (w .0) ⌝ }
-    ensures { λ r. ⌜ TablesAre s (w .0) (length (plannedOf s)) r ⌝ }
+pub(crate) fn tables_of(s: Soc, p: Planned, w: Wires, capture: CaptureCycles) -> Tables
+    requires { ⌜ Plannable (capture .0) s p (w .0) ⌝ }
+    ensures { λ r. ⌜ TablesAre (capture .0) s (w .0) (length (plannedOf s)) r ⌝ }
 {
     let mut t = Tables {
         cycles: [0u64; TABLE_PLACES],
@@ -47,7 +48,7 @@ pub(crate) fn tables_of(s: Soc, p: Planned, w: Wires) -> Tables
     let mut k: usize = 0;
     while k < n {
         let number = p.numbers[k];
-        let read = wrapper::module_times(s, number as u32, w);
+        let read = wrapper::module_times(s, number as u32, w, capture);
         let times = read.times;
         t = with_times(t, k, times);
         k += 1;

@@ -1,14 +1,17 @@
 // Runs the product on the texts in data/ and prints what it finds: texts read and written, layouts and times, plans, plan files, pairs
-// (document 01, "The SOC text", "The wrapper rule", "The plan", "The plan file"; document 02, items 1 and 3). The file args names the
+// (document 01, "The SOC text", "The wrapper rule", "The plan", "The plan file"; document 02, items 1, 3 and 5). The file args names the
 // texts, and stdout is what must be printed.
 use pairs::show_lines;
 use pairs::show_pair;
 use plan_files::show_changes;
+use plan_files::show_longest;
 use plan_files::show_old;
 use plan_files::show_part;
 use plan_files::show_plan_file;
 use plans::show_plan;
 use plans::show_table_9;
+use print::CAPTURE;
+use print::print_line;
 use soc::TEXT_MAX;
 use texts::show_arguments;
 use texts::show_padded;
@@ -77,46 +80,46 @@ fn show_texts() {
 
 // Core A and Core 6 of p93791 of document 000, a core whose figure rises with the width, small cores, the largest core, no record.
 fn show_wrappers() {
-    show_times(CORE_A, 1, 0, 6);
-    show_layout(CORE_A, 1, 1, 4);
-    show_layout(CORE_A, 1, 2, 4);
-    show_layout(CORE_A, 1, 3, 4);
-    show_layout(CORE_A, 2, 1, 4);
-    show_layout(CORE_A, 1, 1, 65);
-    show_times(CORE_6, 1, 1, 66);
-    show_layout(CORE_6, 1, 1, 2);
-    show_layout(CORE_6, 1, 1, 10);
-    show_times(RISING, 1, 9, 15);
-    show_times(SMALL, 1, 1, 2);
-    show_times(SMALL, 2, 1, 4);
-    show_times(SMALL, 3, 1, 2);
-    show_times(SMALL, 4, 1, 2);
-    show_times(LARGEST, 0, 1, 3);
-    show_times(LARGEST, 0, 64, 64);
-    show_times(REFUSED, 0, 1, 1);
+    show_times(CORE_A, 1, 0, 6, 1);
+    show_layout(CORE_A, 1, 1, 4, 1);
+    show_layout(CORE_A, 1, 2, 4, 1);
+    show_layout(CORE_A, 1, 3, 4, 1);
+    show_layout(CORE_A, 2, 1, 4, 1);
+    show_layout(CORE_A, 1, 1, 65, 1);
+    show_times(CORE_6, 1, 1, 66, 1);
+    show_layout(CORE_6, 1, 1, 2, 1);
+    show_layout(CORE_6, 1, 1, 10, 1);
+    show_times(RISING, 1, 9, 15, 1);
+    show_times(SMALL, 1, 1, 2, 1);
+    show_times(SMALL, 2, 1, 4, 1);
+    show_times(SMALL, 3, 1, 2, 1);
+    show_times(SMALL, 4, 1, 2, 1);
+    show_times(LARGEST, 0, 1, 3, 1);
+    show_times(LARGEST, 0, 64, 64, 1);
+    show_times(REFUSED, 0, 1, 1, 1);
 }
 
 // d695 as in document 000, the limits of W and B, document 01's t1 and two copies of its module 1, as many planned modules as may be, too
 // many, none, and no record.
 fn show_plans() {
     show_table_9(D695);
-    show_plan(D695, 65, 3);
-    show_plan(D695, 0, 3);
-    show_plan(D695, 64, 4);
-    show_plan(D695, 64, 0);
-    show_plan(T1, 4, 1);
-    show_plan(T1, 1, 3);
-    show_plan(T1, 4, 3);
-    show_plan(T1, 4, 2);
-    show_plan(TWO_COPIES, 2, 2);
-    show_plan(TWELVE, 24, 3);
-    show_plan(THIRTEEN, 24, 3);
-    show_plan(NONE, 24, 3);
-    show_plan(REFUSED, 0, 0);
+    show_plan(D695, 65, 3, 1);
+    show_plan(D695, 0, 3, 1);
+    show_plan(D695, 64, 4, 1);
+    show_plan(D695, 64, 0, 1);
+    show_plan(T1, 4, 1, 1);
+    show_plan(T1, 1, 3, 1);
+    show_plan(T1, 4, 3, 1);
+    show_plan(T1, 4, 2, 1);
+    show_plan(TWO_COPIES, 2, 2, 1);
+    show_plan(TWELVE, 24, 3, 1);
+    show_plan(THIRTEEN, 24, 3, 1);
+    show_plan(NONE, 24, 3, 1);
+    show_plan(REFUSED, 0, 0, 1);
 }
 
 // Buffers that are too short, just long enough and longer; a bad record; two modules on one bus; the longest file; the file by hand, in
-// parts and with other bytes; one of the old form.
+// parts and with other bytes; one of the old form; one with as many cycles as there may be, and one with a cycle more.
 fn show_plan_files() {
     show_plan_file(T1, 4, 2, 2, 79);
     show_plan_file(T1, 4, 2, 2, 80);
@@ -131,6 +134,8 @@ fn show_plan_files() {
     show_part(0, 15);
     show_part(0, 0);
     show_old();
+    show_longest(0xe0);
+    show_longest(0xe1);
     show_changes();
 }
 
@@ -154,10 +159,29 @@ fn show_pairs() {
     show_lines(T1, SPACED, 3);
 }
 
+// With c capture cycles (document 02, item 5), of which 0 and 5 are 16: times, at a width that is 7 and of a module that is 13; the
+// largest core; a layout; plans, also with a limit that is 8 and of no planned module.
+fn show_captures(c: u32) {
+    print_line(CAPTURE, c as u64, 0, 0, 0);
+    show_times(CORE_A, 1, 4, 4, c);
+    show_times(CORE_A, 1, 65, 65, c);
+    show_times(CORE_A, 2, 4, 4, c);
+    show_times(LARGEST, 0, 1, 1, c);
+    show_layout(CORE_A, 1, 1, 4, c);
+    show_plan(T1, 4, 2, c);
+    show_plan(D695, 32, 3, c);
+    show_plan(D695, 32, 4, c);
+    show_plan(NONE, 24, 3, c);
+}
+
 fn main() {
     show_texts();
     show_wrappers();
     show_plans();
     show_plan_files();
     show_pairs();
+    show_captures(0);
+    show_captures(2);
+    show_captures(4);
+    show_captures(5);
 }

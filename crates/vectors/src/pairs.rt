@@ -6,6 +6,7 @@ use super::print::print_line;
 use super::print::read_text;
 use pair::Meant;
 use pair_entries::plan_pair;
+use units::CaptureCycles;
 use units::Wires;
 
 // The text that a refusal is about: 0 neither, 1 the base, 2 the overlay.
@@ -23,7 +24,7 @@ pub(crate) fn show_pair(i: usize, j: usize, w: u32, b: u32) {
     let n = read_text(i, &mut base);
     let mut overlay = io::large_buffer();
     let k = read_text(j, &mut overlay);
-    let planned = plan_pair(&base[..n], &overlay[..k], Wires(w), b);
+    let planned = plan_pair(&base[..n], &overlay[..k], Wires(w), b, CaptureCycles(1));
     let meant = planned.meant;
     print_line(
         PAIR,

@@ -1,5 +1,6 @@
 // Writes plan files and reads them back (document 01, "The plan file"; document 02, item 1), and tries a file written out by hand: in
-// parts, and with each byte changed in turn; and the same plan's file as it was before a module's start stood in it.
+// parts, and with each byte changed in turn; the same plan's file as it was before a module's start stood in it; and the file of a module
+// with as many cycles as there may be (document 02, item 5).
 use super::lent::BEFORE;
 use super::lent::at_most;
 use super::lent::kept_to;
@@ -11,6 +12,7 @@ use super::print::WRONG;
 use super::print::print_line;
 use super::print::soc_in;
 use plan_record::BusPlan;
+use units::CaptureCycles;
 use units::Wires;
 
 // The file of t1's plan for 4 wires and limit 2, by hand: module 1 on bus 1, module 2 on bus 2, the two buses, the trailer.
@@ -69,7 +71,7 @@ fn show_into(p: BusPlan, buf: &mut [u8], n: usize) {
 
 // The file of the plan of the text that is argument i, with n bytes lent. A limit that is not b makes the plan's record another.
 pub(crate) fn show_plan_file(i: usize, w: u32, b: u32, limit: u32, n: usize) {
-    let answer = plan::plan(soc_in(i), Wires(w), b);
+    let answer = plan::plan(soc_in(i), Wires(w), b, CaptureCycles(1));
     let mut p = answer.plan;
     p.limit = limit;
     print_line(PLAN_FILE, w as u64, limit as u64, 0, 0);
@@ -92,6 +94,17 @@ pub(crate) fn show_old() {
        \x03\0\0\0\x09\0\0\0\0\0\0\0\
        \0\0\x18\0\x04\x02\x02\x02\x41\0\0\0\0\0\0\0";
     show_file(old, 64);
+}
+
+// The file of one module that takes 37,383,663,779,808 cycles, with another lowest byte of them.
+pub(crate) fn show_longest(low: u8) {
+    let mut file = *b"\x01\x01\x01\0\xe0\xff\xff\x0f\0\x22\0\0\0\0\0\0\0\0\0\0\
+       \x01\0\0\0\xe0\xff\xff\x0f\0\x22\0\0\
+       \0\0\x14\0\x01\x01\x01\x01\xe0\xff\xff\x0f\0\x22\0\0";
+    file[4] = low;
+    file[24] = low;
+    file[40] = low;
+    show_file(&file, 48);
 }
 
 // The number of the refusal of the file by hand with another byte at a place; 1 where it has that byte.

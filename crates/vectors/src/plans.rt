@@ -1,4 +1,4 @@
-// Prints plans (document 01, "The plan"; document 02, item 1).
+// Prints plans (document 01, "The plan"; document 02, items 1 and 5).
 use super::print::BUS;
 use super::print::PLACED;
 use super::print::PLAN;
@@ -8,6 +8,7 @@ use super::print::soc_in;
 use plan_record::BUS_PLACES;
 use plan_record::BusPlan;
 use plan_record::MODULE_PLACES;
+use units::CaptureCycles;
 use units::Wires;
 
 fn print_buses(p: BusPlan) {
@@ -42,8 +43,8 @@ fn print_placed(p: BusPlan) {
 }
 
 // The plan of the text that is argument i.
-pub(crate) fn show_plan(i: usize, w: u32, b: u32) {
-    let answer = plan::plan(soc_in(i), Wires(w), b);
+pub(crate) fn show_plan(i: usize, w: u32, b: u32, capture: u32) {
+    let answer = plan::plan(soc_in(i), Wires(w), b, CaptureCycles(capture));
     let p = answer.plan;
     print_line(
         PLAN,
@@ -60,8 +61,8 @@ pub(crate) fn show_plan(i: usize, w: u32, b: u32) {
 pub(crate) fn show_table_9(i: usize) {
     let mut w: u32 = 16;
     while w < 65 {
-        show_plan(i, w, 2);
-        show_plan(i, w, 3);
+        show_plan(i, w, 2, 1);
+        show_plan(i, w, 3, 1);
         w += 4;
     }
 }

@@ -1,4 +1,4 @@
-// Prints layouts and times (document 01, "The wrapper rule"; document 02, item 2).
+// Prints layouts and times (document 01, "The wrapper rule"; document 02, items 2 and 5).
 use super::print::CHAINS;
 use super::print::INTERNAL;
 use super::print::LAYOUT;
@@ -8,6 +8,7 @@ use super::print::WIRES;
 use super::print::print_line;
 use super::print::soc_in;
 use soc::Soc;
+use units::CaptureCycles;
 use units::Wires;
 use wrapper::WrapperLayout;
 
@@ -29,8 +30,9 @@ fn print_layout(l: WrapperLayout) {
 }
 
 // The layout of a module of the text that is argument i.
-pub(crate) fn show_layout(i: usize, module: u32, test: u32, width: u32) {
-    let l = wrapper::layout(soc_in(i), module, test, Wires(width));
+pub(crate) fn show_layout(i: usize, module: u32, test: u32, width: u32, capture: u32) {
+    let c = CaptureCycles(capture);
+    let l = wrapper::layout(soc_in(i), module, test, Wires(width), c);
     print_line(
         LAYOUT,
         module as u64,
@@ -43,9 +45,9 @@ pub(crate) fn show_layout(i: usize, module: u32, test: u32, width: u32) {
     }
 }
 
-fn show_time(s: Soc, module: u32, width: u32) {
-    let t = wrapper::test_time(s, module, 1, Wires(width));
-    let m = wrapper::module_time(s, module, Wires(width));
+fn show_time(s: Soc, module: u32, width: u32, capture: u32) {
+    let t = wrapper::test_time(s, module, 1, Wires(width), CaptureCycles(capture));
+    let m = wrapper::module_time(s, module, Wires(width), CaptureCycles(capture));
     print_line(
         TIME,
         width as u64,
@@ -57,7 +59,7 @@ fn show_time(s: Soc, module: u32, width: u32) {
 }
 
 // The times of a module of the text that is argument i, at some widths.
-pub(crate) fn show_times(i: usize, module: u32, from: u32, to: u32) {
+pub(crate) fn show_times(i: usize, module: u32, from: u32, to: u32, capture: u32) {
     let s = soc_in(i);
     print_line(TIMES, module as u64, 0, 0, 0);
     let mut w = from;
@@ -65,7 +67,7 @@ pub(crate) fn show_times(i: usize, module: u32, from: u32, to: u32) {
         if to < w {
             return;
         }
-        show_time(s, module, w);
+        show_time(s, module, w, capture);
         w += 1;
     }
 }

@@ -1,12 +1,12 @@
 -- Laws of the least figure over the widths 1 to w (`bestTo`) and of a module's time and wires (`moduleBest`): the figure at its wires is
 -- its time, no width up to w gives less, every smaller width gives more, and the time does not rise with the width. Assumes nothing.
-use Prim.Native.Nat.{ℕ, zero, suc, _+_, _≤_, _<_, max}
+use Prim.Native.Nat.{ℕ, zero, suc, _+_, _*_, _≤_, _<_, max}
 use mathlib.Core.Path.{_≡_, refl}
 use mathlib.Core.Bool.{Bool, true, false, cond, _&&_, _||_}
 use mathlib.Core.List.{List, [], _∷_}
 use mathlib.Core.Logic.{⊎-elim}
 use native.Mathlib.Omega.{arith}
-use native.Mathlib.Nat.{add-mul, one-mul, eq-or-lt-of-le}
+use native.Mathlib.Nat.{one-mul, mul-le-mul-right, eq-or-lt-of-le}
 use lib.Dec.{leb, ltb}
 use lib.ListN.{length, getD, drop}
 use borrow.Author.Tests.{ltb-true, ltb-false, leb-true}
@@ -92,26 +92,26 @@ best-falls f v w h k =
     rw (← best-at f v h) (best-least f w n (bestTo f v .wires) (best-low f v h) b)
 
 -- "Its time on a bus of width w is the least figure over u = 1 to w, and its wires the smallest such u."
-module _ (d : Module) (w : ℕ) (h : 1 ≤ w) where
-  pub time-at : figure d (moduleBest d w .wires) ≡ moduleBest d w .cycles
+module _ (c : ℕ) (d : Module) (w : ℕ) (h : 1 ≤ w) where
+  pub time-at : figure c d (moduleBest c d w .wires) ≡ moduleBest c d w .cycles
   unfolding moduleBest
-  time-at = best-at (figure d) w h
+  time-at = best-at (figure c d) w h
 
-  pub time-wires : (1 ≤ moduleBest d w .wires) × (moduleBest d w .wires ≤ w)
+  pub time-wires : (1 ≤ moduleBest c d w .wires) × (moduleBest c d w .wires ≤ w)
   unfolding moduleBest
-  time-wires = (best-low (figure d) w h, best-high (figure d) w h)
+  time-wires = (best-low (figure c d) w h, best-high (figure c d) w h)
 
-  pub time-least : (u : ℕ) → 1 ≤ u → u ≤ w → moduleBest d w .cycles ≤ figure d u
+  pub time-least : (u : ℕ) → 1 ≤ u → u ≤ w → moduleBest c d w .cycles ≤ figure c d u
   unfolding moduleBest
-  time-least = best-least (figure d) w h
+  time-least = best-least (figure c d) w h
 
-  pub time-first : (u : ℕ) → 1 ≤ u → u < moduleBest d w .wires → moduleBest d w .cycles < figure d u
+  pub time-first : (u : ℕ) → 1 ≤ u → u < moduleBest c d w .wires → moduleBest c d w .cycles < figure c d u
   unfolding moduleBest
-  time-first = best-first (figure d) w h
+  time-first = best-first (figure c d) w h
 
-pub time-falls : (d : Module) (v w : ℕ) → 1 ≤ v → v ≤ w → moduleBest d w .cycles ≤ moduleBest d v .cycles
+pub time-falls : (c : ℕ) (d : Module) (v w : ℕ) → 1 ≤ v → v ≤ w → moduleBest c d w .cycles ≤ moduleBest c d v .cycles
 unfolding moduleBest
-time-falls d v w h k = best-falls (figure d) v w h k
+time-falls c d v w h k = best-falls (figure c d) v w h k
 
 and-left : (a b : Bool) → (a && b) ≡ true → a ≡ true
 and-left true b e = refl
@@ -122,35 +122,38 @@ and-right true b e = e
 and-right false b e = clash cc
 
 -- a test takes at least as many cycles as it has patterns
-cycles-patterns : (si so p : ℕ) → p ≤ testCycles si so p
+cycles-patterns : (c si so p : ℕ) → 1 ≤ c → p ≤ testCycles c si so p
 unfolding testCycles
-cycles-patterns si so p = omega (arith, add-mul 1 (max si so) p, one-mul p)
+cycles-patterns c si so p l = let one : 1 * p ≤ (c + max si so) * p = mul-le-mul-right p (omega arith) in omega (arith, one-mul p)
 
-pub time-patterns : (d : Module) (k : ℕ) (t : Test) → t .patterns ≤ testTime d k t
+pub time-patterns : (c : ℕ) → 1 ≤ c → (d : Module) (k : ℕ) (t : Test) → t .patterns ≤ testTime c d k t
 unfolding testTime
-time-patterns d k t = cycles-patterns (scanIn d (t .«scan_use») k) (scanOut d (t .«scan_use») k) (t .patterns)
+time-patterns c l d k t = cycles-patterns c (scanIn d (t .«scan_use») k) (scanOut d (t .«scan_use») k) (t .patterns) l
 
 -- a test on the TAM with at least one pattern makes the sum at least 1
-sum-least : (d : Module) (k : ℕ) (ts : List Test) → anyOf onTam ts ≡ true → ((i : ℕ) → i < length ts → 1 ≤ getD ts i noTest .patterns)
-    → 1 ≤ sumTimes d k ts
+sum-least : (c : ℕ) → 1 ≤ c → (d : Module) (k : ℕ) (ts : List Test) → anyOf onTam ts ≡ true
+    → ((i : ℕ) → i < length ts → 1 ≤ getD ts i noTest .patterns)
+    → 1 ≤ sumTimes c d k ts
 unfolding sumTimes anyOf
-sum-least d k [] e p = let z : _≡_ {A = ℕ} 0 1 = cc in omega arith
-sum-least d k (t ∷ ts) e p = go (t .«tam_use») e (λ a. sum-least d k ts a (λ i h. p (suc i) (omega arith)))
+sum-least c l d k [] e p = let z : _≡_ {A = ℕ} 0 1 = cc in omega arith
+sum-least c l d k (t ∷ ts) e p = go (t .«tam_use») e (λ a. sum-least c l d k ts a (λ i h. p (suc i) (omega arith)))
   where
-    go : (b : Bool) → (b || anyOf onTam ts) ≡ true → (anyOf onTam ts ≡ true → 1 ≤ sumTimes d k ts)
-        → 1 ≤ cond b (testTime d k t + sumTimes d k ts) (sumTimes d k ts)
-    go true e f = omega (arith, time-patterns d k t, p 0 (omega arith))
+    go : (b : Bool) → (b || anyOf onTam ts) ≡ true → (anyOf onTam ts ≡ true → 1 ≤ sumTimes c d k ts)
+        → 1 ≤ cond b (testTime c d k t + sumTimes c d k ts) (sumTimes c d k ts)
+    go true e f = omega (arith, time-patterns c l d k t, p 0 (omega arith))
     go false e f = f e
 
-pub figure-least : (d : Module) (k : ℕ) → isPlanned d ≡ true → ((i : ℕ) → i < length (testsOf d) → 1 ≤ getD (testsOf d) i noTest .patterns)
-    → 1 ≤ figure d k
+pub figure-least : (c : ℕ) → 1 ≤ c → (d : Module) (k : ℕ) → isPlanned d ≡ true
+    → ((i : ℕ) → i < length (testsOf d) → 1 ≤ getD (testsOf d) i noTest .patterns)
+    → 1 ≤ figure c d k
 unfolding figure isPlanned
-figure-least d k e p = sum-least d k (testsOf d) e p
+figure-least c l d k e p = sum-least c l d k (testsOf d) e p
 
 -- "a planned module at least 1"
-pub planned-least : (d : Module) (w : ℕ) → isPlanned d ≡ true → ((i : ℕ) → i < length (testsOf d) → 1 ≤ getD (testsOf d) i noTest .patterns)
-    → 1 ≤ w → 1 ≤ moduleBest d w .cycles
-planned-least d w e p h = rw (← time-at d w h) (figure-least d (moduleBest d w .wires) e p)
+pub planned-least : (c : ℕ) → 1 ≤ c → (d : Module) (w : ℕ) → isPlanned d ≡ true
+    → ((i : ℕ) → i < length (testsOf d) → 1 ≤ getD (testsOf d) i noTest .patterns)
+    → 1 ≤ w → 1 ≤ moduleBest c d w .cycles
+planned-least c l d w e p h = rw (← time-at c d w h) (figure-least c l d (moduleBest c d w .wires) e p)
 
 -- the tests of a good module have patterns
 good-least : (power : Bool) (ts : List Test) (i : ℕ) → allOf (goodTest power) ts ≡ true → i < length ts → 1 ≤ getD ts i noTest .patterns
@@ -169,19 +172,19 @@ good-patterns power d e i h =
     (and-right (leb (d .«test_count») testsMax) (filled (d .«test_count») (goodTest power) spareTest (d .tests)) e)) h
 
 -- a module that is not planned takes no cycles, on one wire
-sum-none : (d : Module) (k : ℕ) (ts : List Test) → anyOf onTam ts ≡ false → sumTimes d k ts ≡ 0
+sum-none : (c : ℕ) (d : Module) (k : ℕ) (ts : List Test) → anyOf onTam ts ≡ false → sumTimes c d k ts ≡ 0
 unfolding sumTimes anyOf
-sum-none d k [] e = refl
-sum-none d k (t ∷ ts) e = go (t .«tam_use») e (λ a. sum-none d k ts a)
+sum-none c d k [] e = refl
+sum-none c d k (t ∷ ts) e = go (t .«tam_use») e (λ a. sum-none c d k ts a)
   where
-    go : (b : Bool) → (b || anyOf onTam ts) ≡ false → (anyOf onTam ts ≡ false → sumTimes d k ts ≡ 0)
-        → cond b (testTime d k t + sumTimes d k ts) (sumTimes d k ts) ≡ 0
+    go : (b : Bool) → (b || anyOf onTam ts) ≡ false → (anyOf onTam ts ≡ false → sumTimes c d k ts ≡ 0)
+        → cond b (testTime c d k t + sumTimes c d k ts) (sumTimes c d k ts) ≡ 0
     go true e f = let z : _≡_ {A = ℕ} 0 1 = cc in omega arith
     go false e f = f e
 
-pub figure-none : (d : Module) (k : ℕ) → isPlanned d ≡ false → figure d k ≡ 0
+pub figure-none : (c : ℕ) (d : Module) (k : ℕ) → isPlanned d ≡ false → figure c d k ≡ 0
 unfolding figure isPlanned
-figure-none d k e = sum-none d k (testsOf d) e
+figure-none c d k e = sum-none c d k (testsOf d) e
 
 best-none : (f : ℕ → ℕ) (w : ℕ) → ((u : ℕ) → f u ≡ 0) → bestTo f w ≡ record { cycles = 0; wires = 1 }
 unfolding bestTo
@@ -189,6 +192,6 @@ best-none f zero e = simp (e 1)
 best-none f (suc zero) e = simp (e 1)
 best-none f (suc (suc w)) e = simp (e (suc (suc w)), best-none f (suc w) e)
 
-pub unplanned : (d : Module) (w : ℕ) → isPlanned d ≡ false → 1 ≤ w → moduleBest d w ≡ record { cycles = 0; wires = 1 }
+pub unplanned : (c : ℕ) (d : Module) (w : ℕ) → isPlanned d ≡ false → 1 ≤ w → moduleBest c d w ≡ record { cycles = 0; wires = 1 }
 unfolding moduleBest
-unplanned d w e h = best-none (figure d) w (λ u. figure-none d u e)
+unplanned c d w e h = best-none (figure c d) w (λ u. figure-none c d u e)

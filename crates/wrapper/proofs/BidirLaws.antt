@@ -32,8 +32,8 @@ module _ (d : Module) (scan : Bool) (k : ℕ) where
   scan-out-counted = longest-twice (d .bidirs) (d .outputs) (threaded d scan k .lengths)
 
 -- no time changes: of every module, test and width
-pub test-time-counted : (d : Module) (k : ℕ) (t : Test) →
+pub test-time-counted : (c : ℕ) (d : Module) (k : ℕ) (t : Test) →
     let l = threaded d (t .«scan_use») k .lengths in
-    testTime d k t ≡ testCycles (longestAfter (d .inputs + d .bidirs) l) (longestAfter (d .outputs + d .bidirs) l) (t .patterns)
+    testTime c d k t ≡ testCycles c (longestAfter (d .inputs + d .bidirs) l) (longestAfter (d .outputs + d .bidirs) l) (t .patterns)
 unfolding testTime
-test-time-counted d k t = rw (scan-in-counted d (t .«scan_use») k, scan-out-counted d (t .«scan_use») k)
+test-time-counted c d k t = rw (scan-in-counted d (t .«scan_use») k, scan-out-counted d (t .«scan_use») k)

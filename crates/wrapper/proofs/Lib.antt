@@ -1,6 +1,7 @@
 pub mod WrapperAnswerLaws
 pub mod BestLaws
 pub mod BidirLaws
+pub mod CaptureLaws
 pub mod CellLaws
 pub mod ChainLaws
 pub mod ChainOrder

@@ -21,33 +21,33 @@ use Rattle.soc.specs.declared.record.Soc.{Soc}
 use Rattle.units.proofs.PlaceLaws.{padded-at}
 use Rattle.wrapper.specs.Times.{Best, moduleBest}
 use Rattle.wrapper.specs.Maxima.{moduleTimeMax}
-use Rattle.wrapper.specs.WrapperAnswers.{widthMax, wires, cycles, moduleAt, askedModule, moduleTimeOf, moduleTimeAnswer}
+use Rattle.wrapper.specs.WrapperAnswers.{widthMax, captureMax, wires, cycles, moduleAt, askedModule, moduleTimeOf, moduleTimeAnswer}
 use Rattle.wrapper.specs.WrapperAnswers.{bestsFrom, cyclesIn, wiresIn, timesOf, moduleTimesAnswer}
 use Rattle.wrapper.proofs.BestLaws.{time-at, planned-least, good-patterns}
 use Rattle.wrapper.proofs.KeptLaws.{good-parts, good-kept}
 use Rattle.wrapper.proofs.TimeLaws.{module-most}
 
 -- a module's times and wires at the widths from u on
-module _ {A : Type 0} (f : Best → A) (z : A) (d : Module) where
-  bests-at : (n u j : ℕ) → j < n → getD (map f (bestsFrom d n u)) j z ≡ f (moduleBest d (u + j))
+module _ {A : Type 0} (f : Best → A) (z : A) (c : ℕ) (d : Module) where
+  bests-at : (n u j : ℕ) → j < n → getD (map f (bestsFrom c d n u)) j z ≡ f (moduleBest c d (u + j))
   unfolding bestsFrom
   bests-at zero u j h = absurd (omega arith)
   bests-at (suc n) u zero h = let e : u + 0 ≡ u = omega arith in rw e
   bests-at (suc n) u (suc j) h = let e : u + suc j ≡ suc u + j = omega arith in rw e (bests-at n (suc u) j (omega arith))
 
-  bests-past : (n u j : ℕ) → n ≤ j → getD (map f (bestsFrom d n u)) j z ≡ z
+  bests-past : (n u j : ℕ) → n ≤ j → getD (map f (bestsFrom c d n u)) j z ≡ z
   unfolding bestsFrom
   bests-past zero u j h = refl
   bests-past (suc n) u zero h = absurd (omega arith)
   bests-past (suc n) u (suc j) h = bests-past n (suc u) j (omega arith)
 
-  held-at : (W w : ℕ) → 1 ≤ w → w ≤ W → getD (padded widthMax z (map f (bestsFrom d W 1))) (w - 1) z ≡ f (moduleBest d w)
+  held-at : (W w : ℕ) → 1 ≤ w → w ≤ W → getD (padded widthMax z (map f (bestsFrom c d W 1))) (w - 1) z ≡ f (moduleBest c d w)
   held-at W w h k =
       let e : 1 + (w - 1) ≡ w = omega arith in
-      padded-at widthMax z (map f (bestsFrom d W 1)) (w - 1) ∙ bests-at W 1 (w - 1) (omega arith) ∙ rw e
+      padded-at widthMax z (map f (bestsFrom c d W 1)) (w - 1) ∙ bests-at W 1 (w - 1) (omega arith) ∙ rw e
 
-  held-past : (W j : ℕ) → W ≤ j → getD (padded widthMax z (map f (bestsFrom d W 1))) j z ≡ z
-  held-past W j h = padded-at widthMax z (map f (bestsFrom d W 1)) j ∙ bests-past W 1 j h
+  held-past : (W j : ℕ) → W ≤ j → getD (padded widthMax z (map f (bestsFrom c d W 1))) j z ≡ z
+  held-past W j h = padded-at widthMax z (map f (bestsFrom c d W 1)) j ∙ bests-past W 1 j h
 
 -- the tests of each module in use of a good record are good
 module-tests : (power xy : Bool) (m last : ℕ) (d : Module) → goodModule power xy m last d ≡ true → goodTests power d ≡ true
@@ -73,60 +73,62 @@ modules-tests power xy m last (d ∷ ds) h (suc i) =
     let rest = and-both (goodModule power xy m last d) (goodModules power xy (suc m) (d .level) ds) h .1 in
     modules-tests power xy (suc m) (d .level) ds rest i
 
--- of a module of a good SOC
-module _ (s : Soc) (m : ℕ) (good : goodSoc s ≡ true) (there : m < s .«module_count») where
+-- of a module of a good SOC, with c capture cycles
+module _ (c : ℕ) (first : 1 ≤ c) (last : c ≤ captureMax) (s : Soc) (m : ℕ) (good : goodSoc s ≡ true) (there : m < s .«module_count») where
   good-tests : goodTests (s .power) (moduleAt s m) ≡ true
   good-tests =
       rw (getD-take (s .«module_count») (s .modules) m noModule there)
       at (modules-tests (s .power) (s .xy) 0 0 (modulesOf s) (good-parts s good .1) m)
 
   -- its time is at most the module maximum, and at least 1 where it is planned
-  pub time-most : (w : ℕ) → 1 ≤ w → moduleBest (moduleAt s m) w .cycles ≤ moduleTimeMax
+  pub time-most : (w : ℕ) → 1 ≤ w → moduleBest c (moduleAt s m) w .cycles ≤ moduleTimeMax
   time-most w h =
-      rw (← time-at (moduleAt s m) w h) (module-most (moduleAt s m) (moduleBest (moduleAt s m) w .wires) (good-kept s m good there))
+      rw (← time-at c (moduleAt s m) w h)
+      (module-most c (moduleAt s m) (moduleBest c (moduleAt s m) w .wires) last (good-kept s m good there))
 
-  pub time-some : (w : ℕ) → 1 ≤ w → isPlanned (moduleAt s m) ≡ true → 1 ≤ moduleBest (moduleAt s m) w .cycles
-  time-some w h p = planned-least (moduleAt s m) w p (good-patterns (s .power) (moduleAt s m) good-tests) h
+  pub time-some : (w : ℕ) → 1 ≤ w → isPlanned (moduleAt s m) ≡ true → 1 ≤ moduleBest c (moduleAt s m) w .cycles
+  time-some w h p = planned-least c first (moduleAt s m) w p (good-patterns (s .power) (moduleAt s m) good-tests) h
 
   -- what is answered for widths up to W
   module _ (W : ℕ) (low : 1 ≤ W) (high : W ≤ widthMax) where
-    times-are : moduleTimesAnswer s m W ≡ record { refusal = accepted; times = timesOf (moduleAt s m) W }
+    times-are : moduleTimesAnswer s m W c ≡ record { refusal = accepted; times = timesOf c (moduleAt s m) W }
     unfolding moduleTimesAnswer askedModule
-    times-are = rw (good, le-leb 1 W low, le-leb W widthMax high, lt-ltb m (s .«module_count») there)
+    times-are =
+        rw (good, le-leb 1 W low, le-leb W widthMax high, le-leb 1 c first, le-leb c captureMax last, lt-ltb m (s .«module_count») there)
 
-    pub times-accepted : moduleTimesAnswer s m W .refusal ≡ accepted
+    pub times-accepted : moduleTimesAnswer s m W c .refusal ≡ accepted
     times-accepted = ap (λ a. a .refusal) times-are
 
     -- at each width up to W the least figure, and 0 past W
     pub times-at : (w : ℕ) → 1 ≤ w → w ≤ W
-        → getD (moduleTimesAnswer s m W .times .cycles) (w - 1) (cycles 0) ≡ cycles (moduleBest (moduleAt s m) w .cycles)
+        → getD (moduleTimesAnswer s m W c .times .cycles) (w - 1) (cycles 0) ≡ cycles (moduleBest c (moduleAt s m) w .cycles)
     unfolding timesOf
-    times-at w h k = rw times-are (held-at cyclesIn (cycles 0) (moduleAt s m) W w h k)
+    times-at w h k = rw times-are (held-at cyclesIn (cycles 0) c (moduleAt s m) W w h k)
 
     pub wires-at : (w : ℕ) → 1 ≤ w → w ≤ W
-        → getD (moduleTimesAnswer s m W .times .wires) (w - 1) (wires 0) ≡ wires (moduleBest (moduleAt s m) w .wires)
+        → getD (moduleTimesAnswer s m W c .times .wires) (w - 1) (wires 0) ≡ wires (moduleBest c (moduleAt s m) w .wires)
     unfolding timesOf
-    wires-at w h k = rw times-are (held-at wiresIn (wires 0) (moduleAt s m) W w h k)
+    wires-at w h k = rw times-are (held-at wiresIn (wires 0) c (moduleAt s m) W w h k)
 
-    pub times-past : (j : ℕ) → W ≤ j → getD (moduleTimesAnswer s m W .times .cycles) j (cycles 0) ≡ cycles 0
+    pub times-past : (j : ℕ) → W ≤ j → getD (moduleTimesAnswer s m W c .times .cycles) j (cycles 0) ≡ cycles 0
     unfolding timesOf
-    times-past j h = rw times-are (held-past cyclesIn (cycles 0) (moduleAt s m) W j h)
+    times-past j h = rw times-are (held-past cyclesIn (cycles 0) c (moduleAt s m) W j h)
 
-    pub wires-past : (j : ℕ) → W ≤ j → getD (moduleTimesAnswer s m W .times .wires) j (wires 0) ≡ wires 0
+    pub wires-past : (j : ℕ) → W ≤ j → getD (moduleTimesAnswer s m W c .times .wires) j (wires 0) ≡ wires 0
     unfolding timesOf
-    wires-past j h = rw times-are (held-past wiresIn (wires 0) (moduleAt s m) W j h)
+    wires-past j h = rw times-are (held-past wiresIn (wires 0) c (moduleAt s m) W j h)
 
     -- the same figures as those of one width alone
-    time-is : (w : ℕ) → 1 ≤ w → w ≤ W → moduleTimeAnswer s m w ≡ moduleTimeOf (moduleBest (moduleAt s m) w)
+    time-is : (w : ℕ) → 1 ≤ w → w ≤ W → moduleTimeAnswer s m w c ≡ moduleTimeOf (moduleBest c (moduleAt s m) w)
     unfolding moduleTimeAnswer askedModule
     time-is w h k =
         let n : w ≤ widthMax = omega arith in
-        rw (good, le-leb 1 w h, le-leb w widthMax n, lt-ltb m (s .«module_count») there)
+        rw (good, le-leb 1 w h, le-leb w widthMax n, le-leb 1 c first, le-leb c captureMax last, lt-ltb m (s .«module_count») there)
 
     pub times-same : (w : ℕ) → 1 ≤ w → w ≤ W
-        → getD (moduleTimesAnswer s m W .times .cycles) (w - 1) (cycles 0) ≡ moduleTimeAnswer s m w .cycles
+        → getD (moduleTimesAnswer s m W c .times .cycles) (w - 1) (cycles 0) ≡ moduleTimeAnswer s m w c .cycles
     times-same w h k = times-at w h k ∙ sym (ap (λ a. a .cycles) (time-is w h k))
 
     pub wires-same : (w : ℕ) → 1 ≤ w → w ≤ W
-        → getD (moduleTimesAnswer s m W .times .wires) (w - 1) (wires 0) ≡ moduleTimeAnswer s m w .wires
+        → getD (moduleTimesAnswer s m W c .times .wires) (w - 1) (wires 0) ≡ moduleTimeAnswer s m w c .wires
     wires-same w h k = wires-at w h k ∙ sym (ap (λ a. a .wires) (time-is w h k))

@@ -5,7 +5,7 @@ use mathlib.Core.Path.{_≡_, refl, sym, ap, _∙_}
 use mathlib.Core.Bool.{Bool, true, false, cond, _&&_, _||_, Bool·beq}
 use mathlib.Core.List.{List, [], _∷_, _++_, map, map-append, append-assoc}
 use native.Mathlib.Omega.{arith}
-use native.Mathlib.Nat.{mul-le-mul}
+use native.Mathlib.Nat.{add-mul, mul-le-mul}
 use native.Mathlib.Numerals.{add-one}
 use lib.Dec.{leb, ltb, eqb}
 use lib.ListN.{length, getD, drop, set, replicate, length-map, length-take, drop-of-length-le}
@@ -23,7 +23,7 @@ use Rattle.units.proofs.PlaceLaws.{padded-set}
 use Rattle.wrapper.specs.Chains.{usedChains}
 use Rattle.wrapper.specs.Times.{scanIn, scanOut, testCycles, testTime, sumTimes, figure, Best, bestTo, moduleBest}
 use Rattle.wrapper.specs.Maxima.{testTimeMax, moduleTimeMax}
-use Rattle.wrapper.specs.WrapperAnswers.{widthMax, askedModule, askedTest, bestsFrom}
+use Rattle.wrapper.specs.WrapperAnswers.{widthMax, captureMax, askedModule, askedTest, bestsFrom}
 use Rattle.wrapper.specs.Held.{chainLengths, noAsked, isAsked, foundModule, foundTest}
 use Rattle.wrapper.specs.Scans.{scanOf, scanWith, scanIf, scanNeeded, Short, Kept, plannedWith, plannedCycles, sumScans}
 use Rattle.wrapper.specs.declared.times.Scan.{Scan}
@@ -32,22 +32,26 @@ use Rattle.wrapper.specs.declared.asked.AskedTest.the-variants.{No, Is}
 use Rattle.wrapper.proofs.BidirLaws.{scan-in-counted, scan-out-counted}
 use Rattle.wrapper.proofs.KeptLaws.{good-kept, held-lengths, short-scan}
 
--- a test of at most 16,777,215 patterns, where no scan is longer than 278,526
-pub product-most : (s p : ℕ) → s ≤ 278526 → p ≤ 16777215 → (1 + s) * p ≤ 4672907362305
-product-most s p h m = mul-le-mul {n₁ = 1 + s} {n₂ = 278527} {m₂ = 16777215} (omega arith) m
+-- a test of at most 16,777,215 patterns with at most 4 capture cycles each, where no scan is longer than 278,526
+product-most : (c s p : ℕ) → c ≤ captureMax → s ≤ 278526 → p ≤ 16777215 → (c + s) * p ≤ 4672957693950
+product-most c s p l h m = mul-le-mul {n₁ = c + s} {n₂ = 278530} {m₂ = 16777215} (omega arith) m
 
-pub cycles-most : (si so p : ℕ) → si ≤ 278526 → so ≤ 278526 → p ≤ 16777215 → testCycles si so p ≤ testTimeMax
+pub parts-most : (c s p : ℕ) → c ≤ captureMax → s ≤ 278526 → p ≤ 16777215 → c * p + s * p ≤ 4672957693950
+parts-most c s p l h m = rw (← add-mul c s p) (product-most c s p l h m)
+
+cycles-most : (c si so p : ℕ) → c ≤ captureMax → si ≤ 278526 → so ≤ 278526 → p ≤ 16777215 → testCycles c si so p ≤ testTimeMax
 unfolding testCycles
-cycles-most si so p h k m = omega (arith, product-most (max si so) p (omega arith) m)
+cycles-most c si so p l h k m = omega (arith, product-most c (max si so) p l (omega arith) m)
 
-pub planned-most : (a b : Scan) (t : Test) → Short a → Short b → t .patterns ≤ 16777215 → plannedCycles a b t ≤ testTimeMax
+pub planned-most : (c : ℕ) (a b : Scan) (t : Test) → c ≤ captureMax → Short a → Short b → t .patterns ≤ 16777215
+    → plannedCycles c a b t ≤ testTimeMax
 unfolding plannedCycles
-planned-most a b t h k m = go (t .«tam_use») (t .«scan_use»)
+planned-most c a b t l h k m = go (t .«tam_use») (t .«scan_use»)
   where
     go : (x y : Bool)
-        → cond x (cond y (testCycles (a .si) (a .so) (t .patterns)) (testCycles (b .si) (b .so) (t .patterns))) 0 ≤ testTimeMax
-    go true true = cycles-most (a .si) (a .so) (t .patterns) (h .si) (h .so) m
-    go true false = cycles-most (b .si) (b .so) (t .patterns) (k .si) (k .so) m
+        → cond x (cond y (testCycles c (a .si) (a .so) (t .patterns)) (testCycles c (b .si) (b .so) (t .patterns))) 0 ≤ testTimeMax
+    go true true = cycles-most c (a .si) (a .so) (t .patterns) l (h .si) (h .so) m
+    go true false = cycles-most c (b .si) (b .so) (t .patterns) l (k .si) (k .so) m
     go false y = omega arith
 
 -- the scan lengths of a module's chains are those of the rule
@@ -57,32 +61,35 @@ unfolding scanOf
 scan-is d scan w = rw (held-lengths d scan w, scan-in-counted d scan w, scan-out-counted d scan w)
 
 -- a test's cycles by the scan lengths of its chains
-pub scan-time : (d : Module) (w : ℕ) (t : Test)
-    → testCycles (scanWith d (t .«scan_use») w .si) (scanWith d (t .«scan_use») w .so) (t .patterns) ≡ testTime d w t
+pub scan-time : (c : ℕ) (d : Module) (w : ℕ) (t : Test)
+    → testCycles c (scanWith d (t .«scan_use») w .si) (scanWith d (t .«scan_use») w .so) (t .patterns) ≡ testTime c d w t
 unfolding testTime
-scan-time d w t = ap (λ s. testCycles (s .si) (s .so) (t .patterns)) (scan-is d (t .«scan_use») w)
+scan-time c d w t = ap (λ s. testCycles c (s .si) (s .so) (t .patterns)) (scan-is d (t .«scan_use») w)
 
 -- the longest that a test can take, and a module
-pub test-most : (d : Module) (w : ℕ) (t : Test) → Kept d → t .patterns ≤ patternsMax → testTime d w t ≤ testTimeMax
-test-most d w t k h =
+pub test-most : (c : ℕ) (d : Module) (w : ℕ) (t : Test) → c ≤ captureMax → Kept d → t .patterns ≤ patternsMax
+    → testTime c d w t ≤ testTimeMax
+test-most c d w t l k h =
     let s = short-scan d (t .«scan_use») w k in
-    rw (← scan-time d w t)
-    (cycles-most (scanWith d (t .«scan_use») w .si) (scanWith d (t .«scan_use») w .so) (t .patterns) (s .si) (s .so) h)
+    rw (← scan-time c d w t)
+    (cycles-most c (scanWith d (t .«scan_use») w .si) (scanWith d (t .«scan_use») w .so) (t .patterns) l (s .si) (s .so) h)
 
-sum-most : (d : Module) (w : ℕ) (ts : List Test) → Kept d → ((i : ℕ) → i < length ts → getD ts i noTest .patterns ≤ patternsMax)
-    → sumTimes d w ts ≤ length ts * testTimeMax
+sum-most : (c : ℕ) (d : Module) (w : ℕ) (ts : List Test) → c ≤ captureMax → Kept d
+    → ((i : ℕ) → i < length ts → getD ts i noTest .patterns ≤ patternsMax)
+    → sumTimes c d w ts ≤ length ts * testTimeMax
 unfolding sumTimes
-sum-most d w [] k h = omega arith
-sum-most d w (t ∷ ts) k h = go (t .«tam_use») (sum-most d w ts k (λ i m. h (suc i) (omega arith))) (test-most d w t k (h 0 (omega arith)))
+sum-most c d w [] l k h = omega arith
+sum-most c d w (t ∷ ts) l k h =
+    go (t .«tam_use») (sum-most c d w ts l k (λ i m. h (suc i) (omega arith))) (test-most c d w t l k (h 0 (omega arith)))
   where
-    go : (x : Bool) → sumTimes d w ts ≤ length ts * testTimeMax → testTime d w t ≤ testTimeMax
-        → cond x (testTime d w t + sumTimes d w ts) (sumTimes d w ts) ≤ suc (length ts) * testTimeMax
+    go : (x : Bool) → sumTimes c d w ts ≤ length ts * testTimeMax → testTime c d w t ≤ testTimeMax
+        → cond x (testTime c d w t + sumTimes c d w ts) (sumTimes c d w ts) ≤ suc (length ts) * testTimeMax
     go true a b = omega arith
     go false a b = omega arith
 
-pub module-most : (d : Module) (w : ℕ) → Kept d → figure d w ≤ moduleTimeMax
+pub module-most : (c : ℕ) (d : Module) (w : ℕ) → c ≤ captureMax → Kept d → figure c d w ≤ moduleTimeMax
 unfolding figure
-module-most d w k = omega (arith, sum-most d w (testsOf d) k few, length-take (d .«test_count») (d .tests), k .tests)
+module-most c d w l k = omega (arith, sum-most c d w (testsOf d) l k few, length-take (d .«test_count») (d .tests), k .tests)
   where
     few : (i : ℕ) → i < length (testsOf d) → getD (testsOf d) i noTest .patterns ≤ patternsMax
     few i h =
@@ -90,27 +97,27 @@ module-most d w k = omega (arith, sum-most d w (testsOf d) k few, length-take (d
         rw (getD-take (d .«test_count») (d .tests) i noTest n) (k .patterns i)
 
 -- the sum over the tests with TamUse 1, by the scan lengths with chains and without
-sum-scans : (d : Module) (w : ℕ) (ts : List Test)
-    → sumScans (scanWith d true w) (scanWith d false w) ts ≡ sumTimes d w ts
+sum-scans : (c : ℕ) (d : Module) (w : ℕ) (ts : List Test)
+    → sumScans c (scanWith d true w) (scanWith d false w) ts ≡ sumTimes c d w ts
 unfolding sumScans sumTimes plannedCycles testTime
-sum-scans d w [] = refl
-sum-scans d w (t ∷ ts) = rw (sum-scans d w ts, scan-is d true w, scan-is d false w) (go (t .«tam_use») (t .«scan_use»))
+sum-scans c d w [] = refl
+sum-scans c d w (t ∷ ts) = rw (sum-scans c d w ts, scan-is d true w, scan-is d false w) (go (t .«tam_use») (t .«scan_use»))
   where
-    go : (x y : Bool) → cond x (cond y (testCycles (scanIn d true w) (scanOut d true w) (t .patterns))
-        (testCycles (scanIn d false w) (scanOut d false w) (t .patterns))) 0 + sumTimes d w ts
-        ≡ cond x (testCycles (scanIn d y w) (scanOut d y w) (t .patterns) + sumTimes d w ts) (sumTimes d w ts)
+    go : (x y : Bool) → cond x (cond y (testCycles c (scanIn d true w) (scanOut d true w) (t .patterns))
+        (testCycles c (scanIn d false w) (scanOut d false w) (t .patterns))) 0 + sumTimes c d w ts
+        ≡ cond x (testCycles c (scanIn d y w) (scanOut d y w) (t .patterns) + sumTimes c d w ts) (sumTimes c d w ts)
     go true true = refl
     go true false = refl
     go false y = omega arith
 
 -- a scan that no such test needs may be any
-same-cycles : (a b a′ b′ : Scan) (t : Test) → (plannedWith true t ≡ true → a ≡ a′) → (plannedWith false t ≡ true → b ≡ b′)
-    → plannedCycles a b t ≡ plannedCycles a′ b′ t
+same-cycles : (c : ℕ) (a b a′ b′ : Scan) (t : Test) → (plannedWith true t ≡ true → a ≡ a′) → (plannedWith false t ≡ true → b ≡ b′)
+    → plannedCycles c a b t ≡ plannedCycles c a′ b′ t
 unfolding plannedCycles
-same-cycles a b a′ b′ t e f = go (t .«tam_use») (t .«scan_use») e f
+same-cycles c a b a′ b′ t e f = go (t .«tam_use») (t .«scan_use») e f
   where
     cyclesOf : Scan → ℕ
-    cyclesOf s = testCycles (s .si) (s .so) (t .patterns)
+    cyclesOf s = testCycles c (s .si) (s .so) (t .patterns)
 
     go : (x y : Bool) → ((x && Bool·beq y true) ≡ true → a ≡ a′) → ((x && Bool·beq y false) ≡ true → b ≡ b′)
         → cond x (cond y (cyclesOf a) (cyclesOf b)) 0 ≡ cond x (cond y (cyclesOf a′) (cyclesOf b′)) 0
@@ -125,15 +132,15 @@ or-second : (a b : Bool) → b ≡ true → (a || b) ≡ true
 or-second true b e = refl
 or-second false b e = e
 
-same-sum : (a b a′ b′ : Scan) (ts : List Test) → (anyOf (plannedWith true) ts ≡ true → a ≡ a′)
-    → (anyOf (plannedWith false) ts ≡ true → b ≡ b′) → sumScans a b ts ≡ sumScans a′ b′ ts
+same-sum : (c : ℕ) (a b a′ b′ : Scan) (ts : List Test) → (anyOf (plannedWith true) ts ≡ true → a ≡ a′)
+    → (anyOf (plannedWith false) ts ≡ true → b ≡ b′) → sumScans c a b ts ≡ sumScans c a′ b′ ts
 unfolding sumScans anyOf
-same-sum a b a′ b′ [] e f = refl
-same-sum a b a′ b′ (t ∷ ts) e f =
+same-sum c a b a′ b′ [] e f = refl
+same-sum c a b a′ b′ (t ∷ ts) e f =
     rw (
-      same-cycles a b a′ b′ t (λ h. e (or-first (plannedWith true t) (anyOf (plannedWith true) ts) h))
+      same-cycles c a b a′ b′ t (λ h. e (or-first (plannedWith true t) (anyOf (plannedWith true) ts) h))
           (λ h. f (or-first (plannedWith false t) (anyOf (plannedWith false) ts) h)),
-      same-sum a b a′ b′ ts (λ h. e (or-second (plannedWith true t) (anyOf (plannedWith true) ts) h))
+      same-sum c a b a′ b′ ts (λ h. e (or-second (plannedWith true t) (anyOf (plannedWith true) ts) h))
           (λ h. f (or-second (plannedWith false t) (anyOf (plannedWith false) ts) h)),
     )
 
@@ -143,136 +150,144 @@ unfolding scanIf
 if-needed needed d scan w e = rw e
 
 -- a module's figure, where each scan is computed only if a test needs it
-pub figure-scans : (d : Module) (w : ℕ) → sumScans (scanNeeded d true w) (scanNeeded d false w) (testsOf d) ≡ figure d w
+pub figure-scans : (c : ℕ) (d : Module) (w : ℕ) → sumScans c (scanNeeded d true w) (scanNeeded d false w) (testsOf d) ≡ figure c d w
 unfolding figure
-figure-scans d w =
-    same-sum _ _ _ _ (testsOf d) (if-needed (anyOf (plannedWith true) (testsOf d)) d true w)
+figure-scans c d w =
+    same-sum c _ _ _ _ (testsOf d) (if-needed (anyOf (plannedWith true) (testsOf d)) d true w)
     (if-needed (anyOf (plannedWith false) (testsOf d)) d false w)
-    ∙ sum-scans d w (testsOf d)
+    ∙ sum-scans c d w (testsOf d)
 
 -- a loop over the tests
-pub sum-step : (a b : Scan) (ts : List Test) (i : ℕ) → i < length ts
-    → sumScans a b (drop i ts) ≡ plannedCycles a b (getD ts i noTest) + sumScans a b (drop (i + 1) ts)
+pub sum-step : (c : ℕ) (a b : Scan) (ts : List Test) (i : ℕ) → i < length ts
+    → sumScans c a b (drop i ts) ≡ plannedCycles c a b (getD ts i noTest) + sumScans c a b (drop (i + 1) ts)
 unfolding sumScans
-sum-step a b ts i h = rw (add-one, drop-cons ts i noTest h)
+sum-step c a b ts i h = rw (add-one, drop-cons ts i noTest h)
 
-pub sum-end : (a b : Scan) (ts : List Test) (i : ℕ) → length ts ≤ i → sumScans a b (drop i ts) ≡ 0
+pub sum-end : (c : ℕ) (a b : Scan) (ts : List Test) (i : ℕ) → length ts ≤ i → sumScans c a b (drop i ts) ≡ 0
 unfolding sumScans
-sum-end a b ts i h = rw (drop-of-length-le ts h)
+sum-end c a b ts i h = rw (drop-of-length-le ts h)
 
 -- the least figure at one width more
-pub best-one : (d : Module) → moduleBest d 1 ≡ record { cycles = figure d 1; wires = 1 }
+pub best-one : (c : ℕ) (d : Module) → moduleBest c d 1 ≡ record { cycles = figure c d 1; wires = 1 }
 unfolding moduleBest bestTo
-best-one d = refl
+best-one c d = refl
 
-best-next : (d : Module) (w : ℕ) → 0 < w
-    → moduleBest d (w + 1)
-    ≡ cond (ltb (figure d (w + 1)) (moduleBest d w .cycles)) (record { cycles = figure d (w + 1); wires = w + 1 }) (moduleBest d w)
+best-next : (c : ℕ) (d : Module) (w : ℕ) → 0 < w
+    → moduleBest c d (w + 1)
+    ≡ cond (ltb (figure c d (w + 1)) (moduleBest c d w .cycles)) (record { cycles = figure c d (w + 1); wires = w + 1 }) (moduleBest c d w)
 unfolding moduleBest bestTo
-best-next d zero h = let no : ⊥ = omega arith in absurd no
-best-next d (suc w) h = rw (add-one (suc w))
+best-next c d zero h = let no : ⊥ = omega arith in absurd no
+best-next c d (suc w) h = rw (add-one (suc w))
 
-pub best-less : (d : Module) (w : ℕ) → 0 < w → figure d (w + 1) < moduleBest d w .cycles
-    → moduleBest d (w + 1) ≡ record { cycles = figure d (w + 1); wires = w + 1 }
-best-less d w h k = best-next d w h ∙ rw (lt-ltb (figure d (w + 1)) (moduleBest d w .cycles) k)
+pub best-less : (c : ℕ) (d : Module) (w : ℕ) → 0 < w → figure c d (w + 1) < moduleBest c d w .cycles
+    → moduleBest c d (w + 1) ≡ record { cycles = figure c d (w + 1); wires = w + 1 }
+best-less c d w h k = best-next c d w h ∙ rw (lt-ltb (figure c d (w + 1)) (moduleBest c d w .cycles) k)
 
-pub best-stays : (d : Module) (w : ℕ) → 0 < w → moduleBest d w .cycles ≤ figure d (w + 1) → moduleBest d (w + 1) ≡ moduleBest d w
-best-stays d w h k = best-next d w h ∙ rw (le-ltb (figure d (w + 1)) (moduleBest d w .cycles) k)
+pub best-stays : (c : ℕ) (d : Module) (w : ℕ) → 0 < w → moduleBest c d w .cycles ≤ figure c d (w + 1)
+    → moduleBest c d (w + 1) ≡ moduleBest c d w
+best-stays c d w h k = best-next c d w h ∙ rw (le-ltb (figure c d (w + 1)) (moduleBest c d w .cycles) k)
 
 -- the times at the widths 1 to w
-bests-length : (d : Module) (w u : ℕ) → length (bestsFrom d w u) ≡ w
+bests-length : (c : ℕ) (d : Module) (w u : ℕ) → length (bestsFrom c d w u) ≡ w
 unfolding bestsFrom
-bests-length d zero u = refl
-bests-length d (suc w) u = ap suc (bests-length d w (suc u))
+bests-length c d zero u = refl
+bests-length c d (suc w) u = ap suc (bests-length c d w (suc u))
 
-bests-more : (d : Module) (w u : ℕ) → bestsFrom d (suc w) u ≡ bestsFrom d w u ++ moduleBest d (w + u) ∷ []
+bests-more : (c : ℕ) (d : Module) (w u : ℕ) → bestsFrom c d (suc w) u ≡ bestsFrom c d w u ++ moduleBest c d (w + u) ∷ []
 unfolding bestsFrom
-bests-more d zero u = let e : 0 + u ≡ u = omega arith in rw e
-bests-more d (suc w) u = let e : w + suc u ≡ suc w + u = omega arith in ap (λ l. moduleBest d u ∷ l) (bests-more d w (suc u) ∙ rw e)
+bests-more c d zero u = let e : 0 + u ≡ u = omega arith in rw e
+bests-more c d (suc w) u = let e : w + suc u ≡ suc w + u = omega arith in ap (λ l. moduleBest c d u ∷ l) (bests-more c d w (suc u) ∙ rw e)
 
-module _ {A : Type 0} (f : Best → A) (z : A) (d : Module) where
+module _ {A : Type 0} (f : Best → A) (z : A) (c : ℕ) (d : Module) where
   pub bests-set : (w : ℕ) → w < widthMax
-      → set (padded widthMax z (map f (bestsFrom d w 1))) w (f (moduleBest d (w + 1))) ≡ padded widthMax z (map f (bestsFrom d (w + 1) 1))
+      → set (padded widthMax z (map f (bestsFrom c d w 1))) w (f (moduleBest c d (w + 1)))
+      ≡ padded widthMax z (map f (bestsFrom c d (w + 1) 1))
   bests-set w h =
-      let n : length (map f (bestsFrom d w 1)) ≡ w = length-map (bestsFrom d w 1) f ∙ bests-length d w 1 in
-      let e : map f (bestsFrom d (w + 1) 1) ≡ map f (bestsFrom d w 1) ++ f (moduleBest d (w + 1)) ∷ [] =
-      rw (add-one w, bests-more d w 1, map-append) (rw (add-one w))
+      let n : length (map f (bestsFrom c d w 1)) ≡ w = length-map (bestsFrom c d w 1) f ∙ bests-length c d w 1 in
+      let e : map f (bestsFrom c d (w + 1) 1) ≡ map f (bestsFrom c d w 1) ++ f (moduleBest c d (w + 1)) ∷ [] =
+      rw (add-one w, bests-more c d w 1, map-append) (rw (add-one w))
       in
-      rw e (rw n at (padded-set widthMax z (f (moduleBest d (w + 1))) (map f (bestsFrom d w 1)) (rw n h)))
+      rw e (rw n at (padded-set widthMax z (f (moduleBest c d (w + 1))) (map f (bestsFrom c d w 1)) (rw n h)))
 
-  pub bests-first : set (replicate widthMax z) 0 (f (moduleBest d 1)) ≡ padded widthMax z (map f (bestsFrom d 1 1))
+  pub bests-first : set (replicate widthMax z) 0 (f (moduleBest c d 1)) ≡ padded widthMax z (map f (bestsFrom c d 1 1))
   unfolding bestsFrom padded
   bests-first = refl
 
   pub bests-last : (w : ℕ) → 0 < w → w ≤ widthMax → (y : A)
-      → getD (padded widthMax z (map f (bestsFrom d w 1))) (w - 1) y ≡ f (moduleBest d w)
+      → getD (padded widthMax z (map f (bestsFrom c d w 1))) (w - 1) y ≡ f (moduleBest c d w)
   unfolding padded
   bests-last zero h k y = let no : ⊥ = omega arith in absurd no
   bests-last (suc w) h k y =
-      let n : length (map f (bestsFrom d w 1)) ≡ w = length-map (bestsFrom d w 1) f ∙ bests-length d w 1 in
-      let e : map f (bestsFrom d (suc w) 1) ≡ map f (bestsFrom d w 1) ++ f (moduleBest d (suc w)) ∷ [] =
-      rw (bests-more d w 1, map-append) (rw (add-one w))
+      let n : length (map f (bestsFrom c d w 1)) ≡ w = length-map (bestsFrom c d w 1) f ∙ bests-length c d w 1 in
+      let e : map f (bestsFrom c d (suc w) 1) ≡ map f (bestsFrom c d w 1) ++ f (moduleBest c d (suc w)) ∷ [] =
+      rw (bests-more c d w 1, map-append) (rw (add-one w))
       in
       let m : suc w - 1 ≡ w = omega arith in
-      rw (m, e, append-assoc) (getD-at (map f (bestsFrom d w 1)) (f (moduleBest d (suc w))) _ y w n)
+      rw (m, e, append-assoc) (getD-at (map f (bestsFrom c d w 1)) (f (moduleBest c d (suc w))) _ y w n)
 
 -- the module that is asked for
-module _ {A : Type 0} (s : Soc) (m w : ℕ) (f : ℕ → A) (g : Module → A) where
-  module-asked : askedModule s m w f g ≡ cond (eqb (foundModule s m w .number) 0) (g (foundModule s m w .«module»))
-      (f (foundModule s m w .number))
+module _ {A : Type 0} (s : Soc) (m w c : ℕ) (f : ℕ → A) (g : Module → A) where
+  module-asked : askedModule s m w c f g ≡ cond (eqb (foundModule s m w c .number) 0) (g (foundModule s m w c .«module»))
+      (f (foundModule s m w c .number))
   unfolding askedModule foundModule
-  module-asked = go (goodSoc s) (leb 1 w && leb w widthMax) (ltb m (s .«module_count»))
+  module-asked = go (goodSoc s) (leb 1 w && leb w widthMax) (leb 1 c && leb c captureMax) (ltb m (s .«module_count»))
     where
-      go : (x y z : Bool) →
+      go : (x y v z : Bool) →
           let d = getD (s .modules) m noModule in
-          let a = cond x (cond y (cond z (isAsked d) (noAsked 13)) (noAsked 7)) (noAsked 14) in
-          cond x (cond y (cond z (g d) (f 13)) (f 7)) (f 14) ≡ cond (eqb (a .number) 0) (g (a .«module»)) (f (a .number))
-      go true true true = refl
-      go true true false = refl
-      go true false z = refl
-      go false y z = refl
+          let a = cond x (cond y (cond v (cond z (isAsked d) (noAsked 13)) (noAsked 16)) (noAsked 7)) (noAsked 14) in
+          cond x (cond y (cond v (cond z (g d) (f 13)) (f 16)) (f 7)) (f 14) ≡ cond (eqb (a .number) 0) (g (a .«module»)) (f (a .number))
+      go true true true true = refl
+      go true true true false = refl
+      go true true false z = refl
+      go true false v z = refl
+      go false y v z = refl
 
   -- as code holds it
-  module _ (r : AskedModule) (e : r ≡ foundModule s m w) where
-    pub module-refused : (r .number ≡ 0 → ⊥) → f (r .number) ≡ askedModule s m w f g
+  module _ (r : AskedModule) (e : r ≡ foundModule s m w c) where
+    pub module-refused : (r .number ≡ 0 → ⊥) → f (r .number) ≡ askedModule s m w c f g
     module-refused h =
-        let k : foundModule s m w .number ≡ 0 → ⊥ = rw e at h in
-        rw e (sym (module-asked ∙ rw (ne-eqb (foundModule s m w .number) 0 k)))
+        let k : foundModule s m w c .number ≡ 0 → ⊥ = rw e at h in
+        rw e (sym (module-asked ∙ rw (ne-eqb (foundModule s m w c .number) 0 k)))
 
-    pub module-found : r .number ≡ 0 → g (r .«module») ≡ askedModule s m w f g
+    pub module-found : r .number ≡ 0 → g (r .«module») ≡ askedModule s m w c f g
     module-found h =
-        let k : foundModule s m w .number ≡ 0 = rw e at h in
-        rw e (sym (module-asked ∙ rw (eq-eqb (foundModule s m w .number) 0 k)))
+        let k : foundModule s m w c .number ≡ 0 = rw e at h in
+        rw e (sym (module-asked ∙ rw (eq-eqb (foundModule s m w c .number) 0 k)))
 
--- a module that is found is within the limits, and so is the width
-pub record Found (d : Module) (w : ℕ) : Type 0 where
+-- a module that is found is within the limits, and so are the width and the capture cycles
+pub record Found (d : Module) (w c : ℕ) : Type 0 where
   pub kept : Kept d
   pub some : 0 < w
   pub most : w ≤ 64
+  pub capture : c ≤ captureMax
 
-found-all : (s : Soc) (m w : ℕ) → foundModule s m w .number ≡ 0 → Found (foundModule s m w .«module») w
+found-all : (s : Soc) (m w c : ℕ) → foundModule s m w c .number ≡ 0 → Found (foundModule s m w c .«module») w c
 unfolding foundModule askedModule
-found-all s m w e = go (goodSoc s) (leb 1 w && leb w widthMax) (ltb m (s .«module_count»)) refl refl refl e
+found-all s m w c e =
+    go (goodSoc s) (leb 1 w && leb w widthMax) (leb 1 c && leb c captureMax) (ltb m (s .«module_count»)) refl refl refl refl e
   where
     d : Module
     d = getD (s .modules) m noModule
 
-    go : (x y z : Bool) → goodSoc s ≡ x → (leb 1 w && leb w widthMax) ≡ y → ltb m (s .«module_count») ≡ z →
-        let a = cond x (cond y (cond z (isAsked d) (noAsked 13)) (noAsked 7)) (noAsked 14) in
-        a .number ≡ 0 → Found (a .«module») w
-    go true true true p q r h =
+    go : (x y v z : Bool) → goodSoc s ≡ x → (leb 1 w && leb w widthMax) ≡ y → (leb 1 c && leb c captureMax) ≡ v
+        → ltb m (s .«module_count») ≡ z →
+        let a = cond x (cond y (cond v (cond z (isAsked d) (noAsked 13)) (noAsked 16)) (noAsked 7)) (noAsked 14) in
+        a .number ≡ 0 → Found (a .«module») w c
+    go true true true true p q o r h =
         let b = and-both (leb 1 w) (leb w widthMax) q in
         record {
           kept = good-kept s m p (ltb-true m (s .«module_count») r);
           some = leb-true 1 w (b .0);
           most = leb-true w widthMax (b .1);
+          capture = leb-true c captureMax (and-both (leb 1 c) (leb c captureMax) o .1);
         }
-    go true true false p q r h = let no : ⊥ = omega arith in absurd no
-    go true false z p q r h = let no : ⊥ = omega arith in absurd no
-    go false y z p q r h = let no : ⊥ = omega arith in absurd no
+    go true true true false p q o r h = let no : ⊥ = omega arith in absurd no
+    go true true false z p q o r h = let no : ⊥ = omega arith in absurd no
+    go true false v z p q o r h = let no : ⊥ = omega arith in absurd no
+    go false y v z p q o r h = let no : ⊥ = omega arith in absurd no
 
-pub found-kept : (s : Soc) (m w : ℕ) (r : AskedModule) → r ≡ foundModule s m w → r .number ≡ 0 → Found (r .«module») w
-found-kept s m w r e h = rw e (found-all s m w (rw e at h))
+pub found-kept : (s : Soc) (m w c : ℕ) (r : AskedModule) → r ≡ foundModule s m w c → r .number ≡ 0 → Found (r .«module») w c
+found-kept s m w c r e h = rw e (found-all s m w c (rw e at h))
 
 -- the test that is asked for
 module _ {A : Type 0} (d : Module) (i : ℕ) (f : ℕ → A) (g : Test → A) where

@@ -21,7 +21,8 @@ use Rattle.wrapper.specs.Fit.{longest, total, withCells}
 use Rattle.wrapper.specs.Chains.{threaded}
 use Rattle.wrapper.specs.Maxima.{testTimeMax, moduleTimeMax}
 use Rattle.wrapper.specs.Times.{withBidirs, scanIn, scanOut, figure, testCycles, testTime, moduleBest}
-use Rattle.wrapper.specs.WrapperAnswers.{widthMax, cycles, moduleAt, askedModule, askedTest, layoutOf, noLayout, layoutAnswer}
+use Rattle.wrapper.specs.WrapperAnswers.{widthMax, captureMax, cycles, moduleAt, askedModule, askedTest}
+use Rattle.wrapper.specs.WrapperAnswers.{layoutOf, noLayout, layoutAnswer}
 use Rattle.wrapper.specs.WrapperAnswers.{noTestTime, testTimeAnswer, noModuleTime, moduleTimeOf, moduleTimeAnswer}
 use Rattle.wrapper.specs.Laid.{testAt, lengthsIn, scanIns, scanOuts}
 use Rattle.wrapper.specs.declared.laid.WrapperLayout.{WrapperLayout}
@@ -35,106 +36,113 @@ use Rattle.wrapper.proofs.LayoutLaws.{in-one-chain, in-no-chain, unused
 use Rattle.wrapper.proofs.LayoutLaws.{bidir-cells-sum, layout-scan-ins, layout-scan-outs, scan-in-is, scan-out-is}
 
 -- what was asked for is there
-record Asked (s : Soc) (m w : ℕ) : Type 0 where
-  good : goodSoc s ≡ true
-  low : 1 ≤ w
-  there : m < s .«module_count»
+pub record Asked (s : Soc) (m w : ℕ) : Type 0 where
+  pub good : goodSoc s ≡ true
+  pub low : 1 ≤ w
+  pub there : m < s .«module_count»
 
 asked-is : (s : Soc) (m w : ℕ) → goodSoc s ≡ true → (leb 1 w && leb w widthMax) ≡ true → ltb m (s .«module_count») ≡ true → Asked s m w
 asked-is s m w a b c =
     record { good = a; low = leb-true 1 w (and-both (leb 1 w) (leb w widthMax) b .0); there = ltb-true m (s .«module_count») c }
 
 -- the layout that is answered
-module _ (s : Soc) (m i w : ℕ) where
-  record LaidOut (a : WrapperLayout) : Type 0 where
-    asked : Asked s m w
-    is : a ≡ layoutOf (moduleAt s m) (threaded (moduleAt s m) (testAt (moduleAt s m) i .«scan_use») w)
+module _ (s : Soc) (m i w c : ℕ) where
+  pub record LaidOut (a : WrapperLayout) : Type 0 where
+    pub asked : Asked s m w
+    pub is : a ≡ layoutOf (moduleAt s m) (threaded (moduleAt s m) (testAt (moduleAt s m) i .«scan_use») w)
 
-  laid-out : layoutAnswer s m i w .refusal .number ≡ 0 → LaidOut (layoutAnswer s m i w)
+  pub laid-out : layoutAnswer s m i w c .refusal .number ≡ 0 → LaidOut (layoutAnswer s m i w c)
   unfolding layoutAnswer askedModule askedTest noLayout
   laid-out h =
-      go (goodSoc s) (leb 1 w && leb w widthMax) (ltb m (s .«module_count»)) (leb 1 i && leb i (moduleAt s m .«test_count»))
-      refl refl refl h
+      go (goodSoc s) (leb 1 w && leb w widthMax) (leb 1 c && leb c captureMax) (ltb m (s .«module_count»))
+      (leb 1 i && leb i (moduleAt s m .«test_count»))
+      refl refl refl refl h
     where
       found : WrapperLayout
       found = layoutOf (moduleAt s m) (threaded (moduleAt s m) (testAt (moduleAt s m) i .«scan_use») w)
 
-      go : (x y z t : Bool) → goodSoc s ≡ x → (leb 1 w && leb w widthMax) ≡ y → ltb m (s .«module_count») ≡ z →
-          let a = cond x (cond y (cond z (cond t found (noLayout 13)) (noLayout 13)) (noLayout 7)) (noLayout 14) in
+      go : (x y v z t : Bool) → goodSoc s ≡ x → (leb 1 w && leb w widthMax) ≡ y → (leb 1 c && leb c captureMax) ≡ v
+          → ltb m (s .«module_count») ≡ z →
+          let a = cond x (cond y (cond v (cond z (cond t found (noLayout 13)) (noLayout 13)) (noLayout 16)) (noLayout 7)) (noLayout 14) in
           a .refusal .number ≡ 0 → LaidOut a
-      go true true true true a b c h = record { asked = asked-is s m w a b c; is = refl }
-      go true true true false a b c h = let no : ⊥ = omega arith in absurd no
-      go true true false t a b c h = let no : ⊥ = omega arith in absurd no
-      go true false z t a b c h = let no : ⊥ = omega arith in absurd no
-      go false y z t a b c h = let no : ⊥ = omega arith in absurd no
+      go true true true true true a b e f h = record { asked = asked-is s m w a b f; is = refl }
+      go true true true true false a b e f h = let no : ⊥ = omega arith in absurd no
+      go true true true false t a b e f h = let no : ⊥ = omega arith in absurd no
+      go true true false z t a b e f h = let no : ⊥ = omega arith in absurd no
+      go true false v z t a b e f h = let no : ⊥ = omega arith in absurd no
+      go false y v z t a b e f h = let no : ⊥ = omega arith in absurd no
 
   -- and the time of that test
-  laid-time : layoutAnswer s m i w .refusal .number ≡ 0 → testTimeAnswer s m i w .cycles .0
-      ≡ testTime (moduleAt s m) w (testAt (moduleAt s m) i)
+  pub laid-time : layoutAnswer s m i w c .refusal .number ≡ 0 → testTimeAnswer s m i w c .cycles .0
+      ≡ testTime c (moduleAt s m) w (testAt (moduleAt s m) i)
   unfolding layoutAnswer testTimeAnswer askedModule askedTest noLayout
   laid-time h =
-      go (goodSoc s) (leb 1 w && leb w widthMax) (ltb m (s .«module_count»)) (leb 1 i && leb i (moduleAt s m .«test_count»)) h
+      go (goodSoc s) (leb 1 w && leb w widthMax) (leb 1 c && leb c captureMax) (ltb m (s .«module_count»))
+      (leb 1 i && leb i (moduleAt s m .«test_count»)) h
     where
       found : WrapperLayout
       found = layoutOf (moduleAt s m) (threaded (moduleAt s m) (testAt (moduleAt s m) i .«scan_use») w)
 
-      go : (x y z t : Bool) →
-          let a = cond x (cond y (cond z (cond t found (noLayout 13)) (noLayout 13)) (noLayout 7)) (noLayout 14) in
-          let takes : TestTime = record { refusal = accepted; cycles = cycles (testTime (moduleAt s m) w (testAt (moduleAt s m) i)) } in
-          let b = cond x (cond y (cond z (cond t takes (noTestTime 13)) (noTestTime 13)) (noTestTime 7)) (noTestTime 14) in
-          a .refusal .number ≡ 0 → b .cycles .0 ≡ testTime (moduleAt s m) w (testAt (moduleAt s m) i)
-      go true true true true h = refl
-      go true true true false h = let no : ⊥ = omega arith in absurd no
-      go true true false t h = let no : ⊥ = omega arith in absurd no
-      go true false z t h = let no : ⊥ = omega arith in absurd no
-      go false y z t h = let no : ⊥ = omega arith in absurd no
+      go : (x y v z t : Bool) →
+          let a = cond x (cond y (cond v (cond z (cond t found (noLayout 13)) (noLayout 13)) (noLayout 16)) (noLayout 7)) (noLayout 14) in
+          let takes : TestTime = record { refusal = accepted; cycles = cycles (testTime c (moduleAt s m) w (testAt (moduleAt s m) i)) } in
+          let b =
+          cond x (cond y (cond v (cond z (cond t takes (noTestTime 13)) (noTestTime 13)) (noTestTime 16)) (noTestTime 7)) (noTestTime 14)
+          in
+          a .refusal .number ≡ 0 → b .cycles .0 ≡ testTime c (moduleAt s m) w (testAt (moduleAt s m) i)
+      go true true true true true h = refl
+      go true true true true false h = let no : ⊥ = omega arith in absurd no
+      go true true true false t h = let no : ⊥ = omega arith in absurd no
+      go true true false z t h = let no : ⊥ = omega arith in absurd no
+      go true false v z t h = let no : ⊥ = omega arith in absurd no
+      go false y v z t h = let no : ⊥ = omega arith in absurd no
 
-module _ (s : Soc) (m i w : ℕ) (h : layoutAnswer s m i w .refusal .number ≡ 0) where
-  told : LaidOut s m i w (layoutAnswer s m i w)
-  told = laid-out s m i w h
+module _ (s : Soc) (m i w c : ℕ) (h : layoutAnswer s m i w c .refusal .number ≡ 0) where
+  told : LaidOut s m i w c (layoutAnswer s m i w c)
+  told = laid-out s m i w c h
 
   -- each input, output and bidirectional cell lies in exactly one wrapper chain: the counts over all chains are inputs, outputs and bidirs
-  pub answer-input-cells : total (layoutAnswer s m i w .«input_cells») ≡ moduleAt s m .inputs
+  pub answer-input-cells : total (layoutAnswer s m i w c .«input_cells») ≡ moduleAt s m .inputs
   answer-input-cells = rw (told .is) (input-cells-sum (moduleAt s m) (testAt (moduleAt s m) i .«scan_use») w (told .asked .low))
 
-  pub answer-output-cells : total (layoutAnswer s m i w .«output_cells») ≡ moduleAt s m .outputs
+  pub answer-output-cells : total (layoutAnswer s m i w c .«output_cells») ≡ moduleAt s m .outputs
   answer-output-cells = rw (told .is) (output-cells-sum (moduleAt s m) (testAt (moduleAt s m) i .«scan_use») w (told .asked .low))
 
-  pub answer-bidir-cells : total (layoutAnswer s m i w .«bidir_cells») ≡ moduleAt s m .bidirs
+  pub answer-bidir-cells : total (layoutAnswer s m i w c .«bidir_cells») ≡ moduleAt s m .bidirs
   answer-bidir-cells = rw (told .is) (bidir-cells-sum (moduleAt s m) (testAt (moduleAt s m) i .«scan_use») w (told .asked .low))
 
   -- the scan-in of each wrapper chain is its flip-flops, bidirectional cells and input cells, its scan-out likewise with output cells
   pub answer-scan-ins :
       let d = moduleAt s m in
-      scanIns (layoutAnswer s m i w) ≡ padded widthMax 0 (withCells (d .inputs) (withBidirs d (threaded d (testAt d i .«scan_use») w)))
+      scanIns (layoutAnswer s m i w c) ≡ padded widthMax 0 (withCells (d .inputs) (withBidirs d (threaded d (testAt d i .«scan_use») w)))
   answer-scan-ins = rw (told .is) (layout-scan-ins (moduleAt s m) (threaded (moduleAt s m) (testAt (moduleAt s m) i .«scan_use») w))
 
   pub answer-scan-outs :
       let d = moduleAt s m in
-      scanOuts (layoutAnswer s m i w) ≡ padded widthMax 0 (withCells (d .outputs) (withBidirs d (threaded d (testAt d i .«scan_use») w)))
+      scanOuts (layoutAnswer s m i w c) ≡ padded widthMax 0 (withCells (d .outputs) (withBidirs d (threaded d (testAt d i .«scan_use») w)))
   answer-scan-outs = rw (told .is) (layout-scan-outs (moduleAt s m) (threaded (moduleAt s m) (testAt (moduleAt s m) i .«scan_use») w))
 
   -- "longest scan-in si and longest scan-out so": the longest of these
-  pub answer-scan-in : longest (scanIns (layoutAnswer s m i w)) ≡ scanIn (moduleAt s m) (testAt (moduleAt s m) i .«scan_use») w
+  pub answer-scan-in : longest (scanIns (layoutAnswer s m i w c)) ≡ scanIn (moduleAt s m) (testAt (moduleAt s m) i .«scan_use») w
   answer-scan-in = rw (told .is) (sym (scan-in-is (moduleAt s m) (testAt (moduleAt s m) i .«scan_use») w))
 
-  pub answer-scan-out : longest (scanOuts (layoutAnswer s m i w)) ≡ scanOut (moduleAt s m) (testAt (moduleAt s m) i .«scan_use») w
+  pub answer-scan-out : longest (scanOuts (layoutAnswer s m i w c)) ≡ scanOut (moduleAt s m) (testAt (moduleAt s m) i .«scan_use») w
   answer-scan-out = rw (told .is) (sym (scan-out-is (moduleAt s m) (testAt (moduleAt s m) i .«scan_use») w))
 
   -- so the time that is answered for a test is that of its layout
   pub answer-laid-time :
-      let l = layoutAnswer s m i w in
-      testTimeAnswer s m i w .cycles .0 ≡ testCycles (longest (scanIns l)) (longest (scanOuts l)) (testAt (moduleAt s m) i .patterns)
+      let l = layoutAnswer s m i w c in
+      testTimeAnswer s m i w c .cycles .0 ≡ testCycles c (longest (scanIns l)) (longest (scanOuts l)) (testAt (moduleAt s m) i .patterns)
   unfolding testTime
-  answer-laid-time = rw (answer-scan-in, answer-scan-out) (laid-time s m i w h)
+  answer-laid-time = rw (answer-scan-in, answer-scan-out) (laid-time s m i w c h)
 
   -- entries past the chains, and those of internal chains that the test does not use, are 0
-  pub answer-unused : testAt (moduleAt s m) i .«scan_use» ≡ false → (j : ℕ) → getD (layoutAnswer s m i w .«chain_of») j 0 ≡ 0
+  pub answer-unused : testAt (moduleAt s m) i .«scan_use» ≡ false → (j : ℕ) → getD (layoutAnswer s m i w c .«chain_of») j 0 ≡ 0
   unfolding layoutOf
   answer-unused u j = rw (told .is, u) (unused (moduleAt s m) w j)
 
   module _ (used : testAt (moduleAt s m) i .«scan_use» ≡ true) where
-    pub answer-past : (j : ℕ) → moduleAt s m .«chain_count» ≤ j → getD (layoutAnswer s m i w .«chain_of») j 0 ≡ 0
+    pub answer-past : (j : ℕ) → moduleAt s m .«chain_count» ≤ j → getD (layoutAnswer s m i w c .«chain_of») j 0 ≡ 0
     unfolding layoutOf
     answer-past j k = rw (told .is, used) (in-no-chain (moduleAt s m) w j k)
 
@@ -144,7 +152,7 @@ module _ (s : Soc) (m i w : ℕ) (h : layoutAnswer s m i w .refusal .number ≡ 
 
     -- "Every internal chain that the test uses lies in exactly one wrapper chain from 1 to k"
     pub answer-used : testAt (moduleAt s m) i .«scan_use» ≡ true → (j : ℕ) → j < moduleAt s m .«chain_count»
-        → (1 ≤ getD (layoutAnswer s m i w .«chain_of») j 0) × (getD (layoutAnswer s m i w .«chain_of») j 0 ≤ w)
+        → (1 ≤ getD (layoutAnswer s m i w c .«chain_of») j 0) × (getD (layoutAnswer s m i w c .«chain_of») j 0 ≤ w)
     unfolding layoutOf
     answer-used u j k =
         rw (told .is, u)
@@ -152,95 +160,110 @@ module _ (s : Soc) (m i w : ℕ) (h : layoutAnswer s m i w .refusal .number ≡ 
 
     -- "flip-flops of a wrapper chain are the sum of its internal chains"
     pub answer-flip-flops : (j : ℕ)
-        → getD (layoutAnswer s m i w .«flip_flops») j (flipFlops 0)
-        ≡ flipFlops (lengthsIn (suc j) (layoutAnswer s m i w .«chain_of») (chainsOf (moduleAt s m)))
+        → getD (layoutAnswer s m i w c .«flip_flops») j (flipFlops 0)
+        ≡ flipFlops (lengthsIn (suc j) (layoutAnswer s m i w c .«chain_of») (chainsOf (moduleAt s m)))
     answer-flip-flops j =
         rw (told .is) (layout-flip-flops (moduleAt s m) chains-sized (testAt (moduleAt s m) i .«scan_use») w (told .asked .low) j)
 
 -- the time that is answered
-module _ (s : Soc) (m w : ℕ) where
-  record Timed (a : ModuleTime) : Type 0 where
-    asked : Asked s m w
-    is : a ≡ moduleTimeOf (moduleBest (moduleAt s m) w)
+module _ (s : Soc) (m w c : ℕ) where
+  pub record Timed (a : ModuleTime) : Type 0 where
+    pub asked : Asked s m w
+    pub is : a ≡ moduleTimeOf (moduleBest c (moduleAt s m) w)
 
-  timed : moduleTimeAnswer s m w .refusal .number ≡ 0 → Timed (moduleTimeAnswer s m w)
+  pub timed : moduleTimeAnswer s m w c .refusal .number ≡ 0 → Timed (moduleTimeAnswer s m w c)
   unfolding moduleTimeAnswer askedModule
-  timed h = go (goodSoc s) (leb 1 w && leb w widthMax) (ltb m (s .«module_count»)) refl refl refl h
+  timed h = go (goodSoc s) (leb 1 w && leb w widthMax) (leb 1 c && leb c captureMax) (ltb m (s .«module_count»)) refl refl refl refl h
     where
-      go : (x y z : Bool) → goodSoc s ≡ x → (leb 1 w && leb w widthMax) ≡ y → ltb m (s .«module_count») ≡ z →
-          let found = moduleTimeOf (moduleBest (moduleAt s m) w) in
-          let a = cond x (cond y (cond z found (noModuleTime 13)) (noModuleTime 7)) (noModuleTime 14) in
+      go : (x y v z : Bool) → goodSoc s ≡ x → (leb 1 w && leb w widthMax) ≡ y → (leb 1 c && leb c captureMax) ≡ v
+          → ltb m (s .«module_count») ≡ z →
+          let found = moduleTimeOf (moduleBest c (moduleAt s m) w) in
+          let a = cond x (cond y (cond v (cond z found (noModuleTime 13)) (noModuleTime 16)) (noModuleTime 7)) (noModuleTime 14) in
           a .refusal .number ≡ 0 → Timed a
-      go true true true a b c h = record { asked = asked-is s m w a b c; is = refl }
-      go true true false a b c h = let no : ⊥ = omega arith in absurd no
-      go true false z a b c h = let no : ⊥ = omega arith in absurd no
-      go false y z a b c h = let no : ⊥ = omega arith in absurd no
+      go true true true true a b e f h = record { asked = asked-is s m w a b f; is = refl }
+      go true true true false a b e f h = let no : ⊥ = omega arith in absurd no
+      go true true false z a b e f h = let no : ⊥ = omega arith in absurd no
+      go true false v z a b e f h = let no : ⊥ = omega arith in absurd no
+      go false y v z a b e f h = let no : ⊥ = omega arith in absurd no
 
 -- "Its time on a bus of width w is the least figure over u = 1 to w, and its wires the smallest such u."
-module _ (s : Soc) (m w : ℕ) (h : moduleTimeAnswer s m w .refusal .number ≡ 0) where
-  at-width : Timed s m w (moduleTimeAnswer s m w)
-  at-width = timed s m w h
+module _ (s : Soc) (m w c : ℕ) (h : moduleTimeAnswer s m w c .refusal .number ≡ 0) where
+  at-width : Timed s m w c (moduleTimeAnswer s m w c)
+  at-width = timed s m w c h
 
-  pub answer-figure : figure (moduleAt s m) (moduleTimeAnswer s m w .wires .0) ≡ moduleTimeAnswer s m w .cycles .0
-  answer-figure = rw (at-width .is) (time-at (moduleAt s m) w (at-width .asked .low))
+  pub answer-figure : figure c (moduleAt s m) (moduleTimeAnswer s m w c .wires .0) ≡ moduleTimeAnswer s m w c .cycles .0
+  answer-figure = rw (at-width .is) (time-at c (moduleAt s m) w (at-width .asked .low))
 
-  pub answer-wires : (1 ≤ moduleTimeAnswer s m w .wires .0) × (moduleTimeAnswer s m w .wires .0 ≤ w)
-  answer-wires = rw (at-width .is) (time-wires (moduleAt s m) w (at-width .asked .low))
+  pub answer-wires : (1 ≤ moduleTimeAnswer s m w c .wires .0) × (moduleTimeAnswer s m w c .wires .0 ≤ w)
+  answer-wires = rw (at-width .is) (time-wires c (moduleAt s m) w (at-width .asked .low))
 
-  pub answer-least : (u : ℕ) → 1 ≤ u → u ≤ w → moduleTimeAnswer s m w .cycles .0 ≤ figure (moduleAt s m) u
-  answer-least u k l = rw (at-width .is) (time-least (moduleAt s m) w (at-width .asked .low) u k l)
+  pub answer-least : (u : ℕ) → 1 ≤ u → u ≤ w → moduleTimeAnswer s m w c .cycles .0 ≤ figure c (moduleAt s m) u
+  answer-least u k l = rw (at-width .is) (time-least c (moduleAt s m) w (at-width .asked .low) u k l)
 
-  pub answer-smallest : (u : ℕ) → 1 ≤ u → u < moduleTimeAnswer s m w .wires .0 → moduleTimeAnswer s m w .cycles .0 < figure (moduleAt s m) u
-  answer-smallest u k l = rw (at-width .is) (time-first (moduleAt s m) w (at-width .asked .low) u k (rw (at-width .is) at l))
+  pub answer-smallest : (u : ℕ) → 1 ≤ u → u < moduleTimeAnswer s m w c .wires .0
+      → moduleTimeAnswer s m w c .cycles .0 < figure c (moduleAt s m) u
+  answer-smallest u k l = rw (at-width .is) (time-first c (moduleAt s m) w (at-width .asked .low) u k (rw (at-width .is) at l))
 
 -- a refusal has no line, and a time keeps its maximum
-module _ (s : Soc) (m i w : ℕ) where
-  pub layout-told : (layoutAnswer s m i w .refusal .number ≤ 14) × (layoutAnswer s m i w .refusal .line ≡ 0)
+module _ (s : Soc) (m i w c : ℕ) where
+  pub layout-told : (layoutAnswer s m i w c .refusal .number ≤ 16) × (layoutAnswer s m i w c .refusal .line ≡ 0)
   unfolding layoutAnswer askedModule askedTest noLayout layoutOf
   layout-told =
-      go (goodSoc s) (leb 1 w && leb w widthMax) (ltb m (s .«module_count»)) (leb 1 i && leb i (moduleAt s m .«test_count»))
+      go (goodSoc s) (leb 1 w && leb w widthMax) (leb 1 c && leb c captureMax) (ltb m (s .«module_count»))
+      (leb 1 i && leb i (moduleAt s m .«test_count»))
     where
-      go : (x y z t : Bool) →
+      go : (x y v z t : Bool) →
           let found = layoutOf (moduleAt s m) (threaded (moduleAt s m) (testAt (moduleAt s m) i .«scan_use») w) in
-          let a = cond x (cond y (cond z (cond t found (noLayout 13)) (noLayout 13)) (noLayout 7)) (noLayout 14) in
-          (a .refusal .number ≤ 14) × (a .refusal .line ≡ 0)
-      go true true true true = (omega arith, refl)
-      go true true true false = (omega arith, refl)
-      go true true false t = (omega arith, refl)
-      go true false z t = (omega arith, refl)
-      go false y z t = (omega arith, refl)
+          let a = cond x (cond y (cond v (cond z (cond t found (noLayout 13)) (noLayout 13)) (noLayout 16)) (noLayout 7)) (noLayout 14) in
+          (a .refusal .number ≤ 16) × (a .refusal .line ≡ 0)
+      go true true true true true = (omega arith, refl)
+      go true true true true false = (omega arith, refl)
+      go true true true false t = (omega arith, refl)
+      go true true false z t = (omega arith, refl)
+      go true false v z t = (omega arith, refl)
+      go false y v z t = (omega arith, refl)
 
-  pub test-time-told : let a = testTimeAnswer s m i w in (a .refusal .number ≤ 14) × (a .refusal .line ≡ 0) × (a .cycles .0 ≤ testTimeMax)
+  pub test-time-told : let a = testTimeAnswer s m i w c in (a .refusal .number ≤ 16) × (a .refusal .line ≡ 0) × (a .cycles .0 ≤ testTimeMax)
   unfolding testTimeAnswer askedModule askedTest
   test-time-told =
-      go (goodSoc s) (leb 1 w && leb w widthMax) (ltb m (s .«module_count»)) (leb 1 i && leb i (moduleAt s m .«test_count»)) refl refl
+      go (goodSoc s) (leb 1 w && leb w widthMax) (leb 1 c && leb c captureMax) (ltb m (s .«module_count»))
+      (leb 1 i && leb i (moduleAt s m .«test_count»)) refl refl refl
     where
-      go : (x y z t : Bool) → goodSoc s ≡ x → ltb m (s .«module_count») ≡ z →
-          let found : TestTime = record { refusal = accepted; cycles = cycles (testTime (moduleAt s m) w (testAt (moduleAt s m) i)) } in
-          let a = cond x (cond y (cond z (cond t found (noTestTime 13)) (noTestTime 13)) (noTestTime 7)) (noTestTime 14) in
-          (a .refusal .number ≤ 14) × (a .refusal .line ≡ 0) × (a .cycles .0 ≤ testTimeMax)
-      go true true true true a b =
+      go : (x y v z t : Bool) → goodSoc s ≡ x → (leb 1 c && leb c captureMax) ≡ v → ltb m (s .«module_count») ≡ z →
+          let found : TestTime = record { refusal = accepted; cycles = cycles (testTime c (moduleAt s m) w (testAt (moduleAt s m) i)) } in
+          let a =
+          cond x (cond y (cond v (cond z (cond t found (noTestTime 13)) (noTestTime 13)) (noTestTime 16)) (noTestTime 7)) (noTestTime 14)
+          in
+          (a .refusal .number ≤ 16) × (a .refusal .line ≡ 0) × (a .cycles .0 ≤ testTimeMax)
+      go true true true true true a e b =
           let k = good-kept s m a (ltb-true m (s .«module_count») b) in
-          (omega arith, refl, test-most (moduleAt s m) w (testAt (moduleAt s m) i) k (k .patterns (i - 1)))
-      go true true true false a b = (omega arith, refl, omega arith)
-      go true true false t a b = (omega arith, refl, omega arith)
-      go true false z t a b = (omega arith, refl, omega arith)
-      go false y z t a b = (omega arith, refl, omega arith)
+          let l = leb-true c captureMax (and-both (leb 1 c) (leb c captureMax) e .1) in
+          (omega arith, refl, test-most c (moduleAt s m) w (testAt (moduleAt s m) i) l k (k .patterns (i - 1)))
+      go true true true true false a e b = (omega arith, refl, omega arith)
+      go true true true false t a e b = (omega arith, refl, omega arith)
+      go true true false z t a e b = (omega arith, refl, omega arith)
+      go true false v z t a e b = (omega arith, refl, omega arith)
+      go false y v z t a e b = (omega arith, refl, omega arith)
 
-module _ (s : Soc) (m w : ℕ) where
-  pub module-time-told : let a = moduleTimeAnswer s m w in
-      (a .refusal .number ≤ 14) × (a .refusal .line ≡ 0) × (a .cycles .0 ≤ moduleTimeMax) × (a .wires .0 ≤ widthMax)
+module _ (s : Soc) (m w c : ℕ) where
+  pub module-time-told : let a = moduleTimeAnswer s m w c in
+      (a .refusal .number ≤ 16) × (a .refusal .line ≡ 0) × (a .cycles .0 ≤ moduleTimeMax) × (a .wires .0 ≤ widthMax)
   unfolding moduleTimeAnswer askedModule
-  module-time-told = go (goodSoc s) (leb 1 w && leb w widthMax) (ltb m (s .«module_count»)) refl refl refl
+  module-time-told =
+      go (goodSoc s) (leb 1 w && leb w widthMax) (leb 1 c && leb c captureMax) (ltb m (s .«module_count»)) refl refl refl refl
     where
-      go : (x y z : Bool) → goodSoc s ≡ x → (leb 1 w && leb w widthMax) ≡ y → ltb m (s .«module_count») ≡ z →
-          let found = moduleTimeOf (moduleBest (moduleAt s m) w) in
-          let a = cond x (cond y (cond z found (noModuleTime 13)) (noModuleTime 7)) (noModuleTime 14) in
-          (a .refusal .number ≤ 14) × (a .refusal .line ≡ 0) × (a .cycles .0 ≤ moduleTimeMax) × (a .wires .0 ≤ widthMax)
-      go true true true a b c =
+      go : (x y v z : Bool) → goodSoc s ≡ x → (leb 1 w && leb w widthMax) ≡ y → (leb 1 c && leb c captureMax) ≡ v
+          → ltb m (s .«module_count») ≡ z →
+          let found = moduleTimeOf (moduleBest c (moduleAt s m) w) in
+          let a = cond x (cond y (cond v (cond z found (noModuleTime 13)) (noModuleTime 16)) (noModuleTime 7)) (noModuleTime 14) in
+          (a .refusal .number ≤ 16) × (a .refusal .line ≡ 0) × (a .cycles .0 ≤ moduleTimeMax) × (a .wires .0 ≤ widthMax)
+      go true true true true a b e f =
           let l = leb-true 1 w (and-both (leb 1 w) (leb w widthMax) b .0) in
           let n = leb-true w widthMax (and-both (leb 1 w) (leb w widthMax) b .1) in
-          (omega arith, refl, time-most s m a (ltb-true m (s .«module_count») c) w l, omega (arith, time-wires (moduleAt s m) w l .1))
-      go true true false a b c = (omega arith, refl, omega arith, omega arith)
-      go true false z a b c = (omega arith, refl, omega arith, omega arith)
-      go false y z a b c = (omega arith, refl, omega arith, omega arith)
+          let o = and-both (leb 1 c) (leb c captureMax) e in
+          let k = time-most c (leb-true 1 c (o .0)) (leb-true c captureMax (o .1)) s m a (ltb-true m (s .«module_count») f) w l in
+          (omega arith, refl, k, omega (arith, time-wires c (moduleAt s m) w l .1))
+      go true true true false a b e f = (omega arith, refl, omega arith, omega arith)
+      go true true false z a b e f = (omega arith, refl, omega arith, omega arith)
+      go true false v z a b e f = (omega arith, refl, omega arith, omega arith)
+      go false y v z a b e f = (omega arith, refl, omega arith, omega arith)

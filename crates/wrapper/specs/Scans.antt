@@ -71,15 +71,15 @@ pub record Kept (d : Module) : Type 0 where
   pub bidirs : d .bidirs ≤ terminalsMax
 
 -- a test's cycles where the scan lengths are known; 0 with TamUse 0
-unfoldable pub plannedCycles : Scan → Scan → Test → ℕ
-plannedCycles a b t =
+unfoldable pub plannedCycles : ℕ → Scan → Scan → Test → ℕ
+plannedCycles c a b t =
     cond (t .«tam_use»)
-    (cond (t .«scan_use») (testCycles (a .si) (a .so) (t .patterns)) (testCycles (b .si) (b .so) (t .patterns)))
+    (cond (t .«scan_use») (testCycles c (a .si) (a .so) (t .patterns)) (testCycles c (b .si) (b .so) (t .patterns)))
     0
 
-unfoldable pub sumScans : Scan → Scan → List Test → ℕ
-sumScans a b [] = 0
-sumScans a b (t ∷ ts) = plannedCycles a b t + sumScans a b ts
+unfoldable pub sumScans : ℕ → Scan → Scan → List Test → ℕ
+sumScans c a b [] = 0
+sumScans c a b (t ∷ ts) = plannedCycles c a b t + sumScans c a b ts
 
 abbrev pub plainOf : Module → Plain
 plainOf d =

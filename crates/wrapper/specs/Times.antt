@@ -1,4 +1,4 @@
--- Times (document 01, "The wrapper rule"; document 02, item 2).
+-- Times (document 01, "The wrapper rule"; document 02, items 2 and 5). "Every time, plan and bound reads with c", the capture cycles.
 use Prim.Native.Nat.{ℕ, zero, suc, _+_, _*_, min, max}
 use mathlib.Core.Bool.{Bool, cond}
 use mathlib.Core.List.{List, [], _∷_}
@@ -21,20 +21,20 @@ scanIn d scan k = longestAfter (d .inputs) (withBidirs d (threaded d scan k))
 unfoldable pub scanOut : Module → Bool → ℕ → ℕ
 scanOut d scan k = longestAfter (d .outputs) (withBidirs d (threaded d scan k))
 
--- "a test of p patterns takes (1 + max(si, so)) × p + min(si, so) cycles"
-unfoldable pub testCycles : ℕ → ℕ → ℕ → ℕ
-testCycles si so p = (1 + max si so) * p + min si so
+-- "The time of a test becomes (c + max(si, so)) × p + min(si, so), with c from 1 to 4"
+unfoldable pub testCycles : ℕ → ℕ → ℕ → ℕ → ℕ
+testCycles c si so p = (c + max si so) * p + min si so
 
-unfoldable pub testTime : Module → ℕ → Test → ℕ
-testTime d k t = testCycles (scanIn d (t .«scan_use») k) (scanOut d (t .«scan_use») k) (t .patterns)
+unfoldable pub testTime : ℕ → Module → ℕ → Test → ℕ
+testTime c d k t = testCycles c (scanIn d (t .«scan_use») k) (scanOut d (t .«scan_use») k) (t .patterns)
 
 -- "A module's figure at width u is the sum over its tests with TamUse 1."
-unfoldable pub sumTimes : Module → ℕ → List Test → ℕ
-sumTimes d k [] = 0
-sumTimes d k (t ∷ ts) = cond (t .«tam_use») (testTime d k t + sumTimes d k ts) (sumTimes d k ts)
+unfoldable pub sumTimes : ℕ → Module → ℕ → List Test → ℕ
+sumTimes c d k [] = 0
+sumTimes c d k (t ∷ ts) = cond (t .«tam_use») (testTime c d k t + sumTimes c d k ts) (sumTimes c d k ts)
 
-unfoldable pub figure : Module → ℕ → ℕ
-figure d k = sumTimes d k (testsOf d)
+unfoldable pub figure : ℕ → Module → ℕ → ℕ
+figure c d k = sumTimes c d k (testsOf d)
 
 -- "Its time on a bus of width w is the least figure over u = 1 to w, and its wires the smallest such u."
 pub record Best : Type 0 where
@@ -49,5 +49,5 @@ bestTo f (suc (suc w)) =
     (record { cycles = f (suc (suc w)); wires = suc (suc w) })
     (bestTo f (suc w))
 
-unfoldable pub moduleBest : Module → ℕ → Best
-moduleBest d w = bestTo (figure d) w
+unfoldable pub moduleBest : ℕ → Module → ℕ → Best
+moduleBest c d w = bestTo (figure c d) w

@@ -1,4 +1,5 @@
-// What may be asked of the wrapper layer: a test's time, a module's time, its times at all widths. Refusals: 14, 7, 13.
+// What may be asked of the wrapper layer: a test's time, a module's time, its times at all widths. Refusals: 14, 7, 16, 13.
+use super::maxima::CAPTURE_MAX;
 use super::maxima::WIDTH_MAX;
 use super::maxima::WIDTH_PLACES;
 use super::times::Times;
@@ -7,6 +8,7 @@ use super::times::times_of;
 use soc::Module;
 use soc::Soc;
 use soc::Test;
+use units::CaptureCycles;
 use units::Cycles;
 use units::Refusal;
 use units::Wires;
@@ -52,8 +54,8 @@ fn no_asked(n: u8) -> AskedModule
     }
 }
 
-pub(crate) fn asked_module(s: Soc, m: u32, w: Wires) -> AskedModule
-    ensures { λ r. ⌜ r ≡ foundModule s m (w .0) ⌝ }
+pub(crate) fn asked_module(s: Soc, m: u32, w: Wires, capture: CaptureCycles) -> AskedModule
+    ensures { λ r. ⌜ r ≡ foundModule s m (w .0) (capture .0) ⌝ }
 {
     if !soc::is_good(s) {
         return no_asked(14);
@@ -63,6 +65,12 @@ pub(crate) fn asked_module(s: Soc, m: u32, w: Wires) -> AskedModule
     }
     if w.0 > WIDTH_MAX {
         return no_asked(7);
+    }
+    if capture.0 < 1 {
+        return no_asked(16);
+    }
+    if capture.0 > CAPTURE_MAX {
+        return no_asked(16);
     }
     let i = m as usize;
     if s.module_count <= i {
@@ -97,10 +105,10 @@ fn no_test_time(n: u8) -> TestTime
 }
 
 // The cycles of one test of a module at a width.
-pub fn test_time(s: Soc, module: u32, test: u32, width: Wires) -> TestTime
-    ensures { λ r. ⌜ r ≡ testTimeAnswer s «module» test (width .0) ⌝ }
+pub fn test_time(s: Soc, module: u32, test: u32, width: Wires, capture: CaptureCycles) -> TestTime
+    ensures { λ r. ⌜ r ≡ testTimeAnswer s «module» test (width .0) (capture .0) ⌝ }
 {
-    let asked = asked_module(s, module, width);
+    let asked = asked_module(s, module, width, capture);
     if asked.number != 0 {
         return no_test_time(asked.number);
     }
@@ -109,7 +117,7 @@ pub fn test_time(s: Soc, module: u32, test: u32, width: Wires) -> TestTime
         AskedTest::No(n) => no_test_time(n),
         AskedTest::Is(t) => TestTime {
             refusal: Refusal::none(),
-            cycles: Cycles(test_cycles(d, t, width.0 as usize)),
+            cycles: Cycles(test_cycles(d, t, width.0 as usize, capture.0)),
         },
     }
 }
@@ -125,16 +133,16 @@ fn no_module_time(n: u8) -> ModuleTime
 }
 
 // A module's time on a bus of a width, and its wires.
-pub fn module_time(s: Soc, module: u32, width: Wires) -> ModuleTime
-    ensures { λ r. ⌜ r ≡ moduleTimeAnswer s «module» (width .0) ⌝ }
+pub fn module_time(s: Soc, module: u32, width: Wires, capture: CaptureCycles) -> ModuleTime
+    ensures { λ r. ⌜ r ≡ moduleTimeAnswer s «module» (width .0) (capture .0) ⌝ }
 {
-    let asked = asked_module(s, module, width);
+    let asked = asked_module(s, module, width, capture);
     if asked.number != 0 {
         return no_module_time(asked.number);
     }
     let d = asked.module;
     let w = width.0 as usize;
-    let times = times_of(d, w);
+    let times = times_of(d, w, capture.0);
     let last = w - 1;
     let cycles = times.cycles[last];
     let wires = times.wires[last];
@@ -158,16 +166,16 @@ fn no_module_times(n: u8) -> ModuleTimes
 }
 
 // A module's times and wires at every width up to one, each figure computed once.
-pub fn module_times(s: Soc, module: u32, width: Wires) -> ModuleTimes
-    ensures { λ r. ⌜ r ≡ moduleTimesAnswer s «module» (width .0) ⌝ }
+pub fn module_times(s: Soc, module: u32, width: Wires, capture: CaptureCycles) -> ModuleTimes
+    ensures { λ r. ⌜ r ≡ moduleTimesAnswer s «module» (width .0) (capture .0) ⌝ }
 {
-    let asked = asked_module(s, module, width);
+    let asked = asked_module(s, module, width, capture);
     if asked.number != 0 {
         return no_module_times(asked.number);
     }
     let d = asked.module;
     ModuleTimes {
         refusal: Refusal::none(),
-        times: times_of(d, width.0 as usize),
+        times: times_of(d, width.0 as usize, capture.0),
     }
 }

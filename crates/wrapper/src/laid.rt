@@ -10,6 +10,7 @@ use super::maxima::WIDTH_PLACES;
 use soc::CHAINS_MAX;
 use soc::Module;
 use soc::Soc;
+use units::CaptureCycles;
 use units::FlipFlops;
 use units::Refusal;
 use units::Wires;
@@ -105,11 +106,11 @@ fn layout_of(d: Module, scan: bool, k: usize) -> WrapperLayout
     }
 }
 
-// The layout of one test of a module at a width, which is used as it is.
-pub fn layout(s: Soc, module: u32, test: u32, width: Wires) -> WrapperLayout
-    ensures { λ r. ⌜ r ≡ layoutAnswer s «module» test (width .0) ⌝ }
+// The layout of one test of a module at a width, which is used as it is. It is the same at each number of capture cycles.
+pub fn layout(s: Soc, module: u32, test: u32, width: Wires, capture: CaptureCycles) -> WrapperLayout
+    ensures { λ r. ⌜ r ≡ layoutAnswer s «module» test (width .0) (capture .0) ⌝ }
 {
-    let asked = asked_module(s, module, width);
+    let asked = asked_module(s, module, width, capture);
     if asked.number != 0 {
         return no_layout(asked.number);
     }

@@ -1,5 +1,5 @@
-// The wrapper layer (document 01, "The wrapper rule"): how a core's chains and cells are threaded through a wrapper of some width, a
-// test's time, and a module's time and wires.
+// The wrapper layer (document 01, "The wrapper rule"; document 02, item 5): how a core's chains and cells are threaded through a wrapper
+// of some width, a test's time at some number of capture cycles, and a module's time and wires.
 mod asked;
 mod chains;
 mod fit;
@@ -15,6 +15,7 @@ pub use asked::module_times;
 pub use asked::test_time;
 pub use laid::WrapperLayout;
 pub use laid::layout;
+pub use maxima::CAPTURE_MAX;
 pub use maxima::MODULE_TIME_MAX;
 pub use maxima::WIDTH_MAX;
 pub use maxima::WIDTH_PLACES;

@@ -1,5 +1,5 @@
-// A test's time, and a module's time and wires (document 01, "The wrapper rule"): the least figure at any width up to the bus's, and the
-// smallest such width.
+// A test's time, and a module's time and wires (document 01, "The wrapper rule"; document 02, item 5): the least figure at any width up to
+// the bus's, and the smallest such width.
 use super::chains::ChainLengths;
 use super::chains::lengths_of;
 use super::fit::longest_after;
@@ -16,7 +16,7 @@ ghost use Rattle.units.specs.Places.{anyOf};
 ghost use Rattle.soc.specs.Limits.{patternsMax};
 ghost use Rattle.soc.specs.Record.{testsOf};
 ghost use Rattle.wrapper.specs.Times.{testCycles, testTime, figure};
-ghost use Rattle.wrapper.specs.WrapperAnswers.{widthMax, timesOf};
+ghost use Rattle.wrapper.specs.WrapperAnswers.{widthMax, captureMax, timesOf};
 ghost use Rattle.wrapper.specs.Held.{Measured};
 ghost use Rattle.wrapper.specs.Scans.{scanOf, Short, Kept, plannedWith, sumScans, plannedCycles, scanIf, plainOf};
 
@@ -46,15 +46,17 @@ pub(crate) fn scan_at(d: Module, c: ChainLengths, k: usize) -> Scan
     }
 }
 
-// (1 + max(si, so)) × p + min(si, so).
-fn cycles_of(s: Scan, p: u32) -> u64
-    requires { ⌜ Short s × (p ≤ patternsMax) ⌝ }
-    ensures { λ r. ⌜ r ≡ testCycles (s .si) (s .so) p ⌝ }
+// (c + max(si, so)) × p + min(si, so), where the capture cycles of all patterns stand apart.
+fn cycles_of(s: Scan, patterns: u32, capture: u32) -> u64
+    requires { ⌜ Short s × (patterns ≤ patternsMax) × (capture ≤ captureMax) ⌝ }
+    ensures { λ r. ⌜ r ≡ testCycles capture (s .si) (s .so) patterns ⌝ }
 {
+    let p = patterns as u64;
+    let captured = (capture as u64) * p;
     if s.si < s.so {
-        (1 + s.so) * (p as u64) + s.si
+        captured + s.so * p + s.si
     } else {
-        (1 + s.si) * (p as u64) + s.so
+        captured + s.si * p + s.so
     }
 }
 
@@ -78,30 +80,30 @@ fn is_planned_with(d: Module, scan: bool) -> bool
 }
 
 // A test's cycles where the scan lengths with chains and without are known; 0 with TamUse 0.
-fn planned_cycles(t: Test, with: Scan, without: Scan) -> u64
-    requires { ⌜ Short with × Short without × (t .patterns ≤ patternsMax) ⌝ }
-    ensures { λ r. ⌜ r ≡ plannedCycles with without t ⌝ }
+fn planned_cycles(t: Test, with: Scan, without: Scan, capture: u32) -> u64
+    requires { ⌜ Short with × Short without × (t .patterns ≤ patternsMax) × (capture ≤ captureMax) ⌝ }
+    ensures { λ r. ⌜ r ≡ plannedCycles capture with without t ⌝ }
 {
     if !t.tam_use {
         return 0;
     }
     if t.scan_use {
-        cycles_of(with, t.patterns)
+        cycles_of(with, t.patterns, capture)
     } else {
-        cycles_of(without, t.patterns)
+        cycles_of(without, t.patterns, capture)
     }
 }
 
-fn sum_of(d: Module, with: Scan, without: Scan) -> u64
-    requires { ⌜ Kept d × Short with × Short without ⌝ }
-    ensures { λ r. ⌜ r ≡ sumScans with without (testsOf d) ⌝ }
+fn sum_of(d: Module, with: Scan, without: Scan, capture: u32) -> u64
+    requires { ⌜ Kept d × Short with × Short without × (capture ≤ captureMax) ⌝ }
+    ensures { λ r. ⌜ r ≡ sumScans capture with without (testsOf d) ⌝ }
 {
     let n = d.test_count;
     let mut sum: u64 = 0;
     let mut i: usize = 0;
     while i < n {
         let t = d.tests[i];
-        sum += planned_cycles(t, with, without);
+        sum += planned_cycles(t, with, without, capture);
         i += 1;
     }
     sum
@@ -139,32 +141,32 @@ fn plain_of(d: Module) -> Plain
     }
 }
 
-fn figure_at(d: Module, p: Plain, k: usize) -> u64
-    requires { ⌜ Kept d × (p ≡ plainOf d) × (0 < k) × (k ≤ widthMax) ⌝ }
-    ensures { λ r. ⌜ r ≡ figure d k ⌝ }
+fn figure_at(d: Module, p: Plain, k: usize, capture: u32) -> u64
+    requires { ⌜ Kept d × (p ≡ plainOf d) × (0 < k) × (k ≤ widthMax) × (capture ≤ captureMax) ⌝ }
+    ensures { λ r. ⌜ r ≡ figure capture d k ⌝ }
 {
     let with = p.with;
     let without = p.without;
     let a = scan_if(p.needs_with, d, with, k);
     let b = scan_if(p.needs_without, d, without, k);
-    sum_of(d, a, b)
+    sum_of(d, a, b, capture)
 }
 
 // The times and wires at the widths 1 to w, each figure computed once.
-pub(crate) fn times_of(d: Module, w: usize) -> Times
-    requires { ⌜ Kept d × (0 < w) × (w ≤ widthMax) ⌝ }
-    ensures { λ r. ⌜ r ≡ timesOf d w ⌝ }
+pub(crate) fn times_of(d: Module, w: usize, capture: u32) -> Times
+    requires { ⌜ Kept d × (0 < w) × (w ≤ widthMax) × (capture ≤ captureMax) ⌝ }
+    ensures { λ r. ⌜ r ≡ timesOf capture d w ⌝ }
 {
     let p = plain_of(d);
     let mut cycles = [Cycles(0); WIDTH_PLACES];
     let mut wires = [Wires(0); WIDTH_PLACES];
-    let mut best = figure_at(d, p, 1);
+    let mut best = figure_at(d, p, 1, capture);
     let mut at: u32 = 1;
     cycles[0] = Cycles(best);
     wires[0] = Wires(at);
     let mut u: usize = 1;
     while u < w {
-        let f = figure_at(d, p, u + 1);
+        let f = figure_at(d, p, u + 1, capture);
         if f < best {
             best = f;
             at = u as u32 + 1;
@@ -177,9 +179,13 @@ pub(crate) fn times_of(d: Module, w: usize) -> Times
 }
 
 // The cycles of one test.
-pub(crate) fn test_cycles(d: Module, t: Test, k: usize) -> u64
-    requires { ⌜ Kept d × (t .patterns ≤ patternsMax) × (0 < k) × (k ≤ widthMax) ⌝ }
-    ensures { λ r. ⌜ r ≡ testTime d k t ⌝ }
+pub(crate) fn test_cycles(d: Module, t: Test, k: usize, capture: u32) -> u64
+    requires { ⌜ Kept d × (t .patterns ≤ patternsMax) × (0 < k) × (k ≤ widthMax) × (capture ≤ captureMax) ⌝ }
+    ensures { λ r. ⌜ r ≡ testTime capture d k t ⌝ }
 {
-    cycles_of(scan_at(d, lengths_of(d, t.scan_use), k), t.patterns)
+    cycles_of(
+        scan_at(d, lengths_of(d, t.scan_use), k),
+        t.patterns,
+        capture,
+    )
 }

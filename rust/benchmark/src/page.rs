@@ -104,12 +104,12 @@ fn times(text: &str) -> Pair {
     pair(
         || {
             for &(module, width) in &asked {
-                black_box(library::module_time(black_box(&record), module, width));
+                black_box(library::module_time(black_box(&record), module, width, 1));
             }
         },
         || {
             for &(module, width) in &asked {
-                let _ = black_box(entries::module_time(black_box(&record), module, width));
+                let _ = black_box(entries::module_time(black_box(&record), module, width, 1));
             }
         },
     )
@@ -120,10 +120,10 @@ fn planning(text: &str, wires: u32, limit: u32) -> Pair {
     let (mut one, mut other) = (vec![0; library::PLAN_BYTES], vec![0; library::PLAN_BYTES]);
     pair(
         || {
-            black_box(library::plan(black_box(&record), wires, limit, &mut one));
+            black_box(library::plan(black_box(&record), wires, limit, 1, &mut one));
         },
         || {
-            let _ = black_box(entries::plan(black_box(&record), wires, limit, &mut other));
+            let _ = black_box(entries::plan(black_box(&record), wires, limit, 1, &mut other));
         },
     )
 }
@@ -136,11 +136,11 @@ fn planning_a_pair(base: &str, overlay: &str, wires: u32, limit: u32) -> Pair {
     let (mut one, mut other, mut record) = (vec![0; library::PLAN_BYTES], vec![0; library::PLAN_BYTES], vec![0; library::SOC_BYTES]);
     pair(
         || {
-            black_box(library::plan_pair(black_box(base), black_box(overlay), wires, limit, &mut one));
+            black_box(library::plan_pair(black_box(base), black_box(overlay), wires, limit, 1, &mut one));
         },
         || {
             black_box(library::read_soc(black_box(combined), &mut record));
-            black_box(library::plan(black_box(&record), wires, limit, &mut other));
+            black_box(library::plan(black_box(&record), wires, limit, 1, &mut other));
         },
     )
 }

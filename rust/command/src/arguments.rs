@@ -17,11 +17,11 @@ use crate::refusals::NOT_DECIMAL;
 
 /// What the user asks for.
 pub enum Job {
-    Plan { file: PathBuf, overlay: Option<PathBuf>, wires: u32, limit: u32 },
+    Plan { file: PathBuf, overlay: Option<PathBuf>, wires: u32, limit: u32, capture: u32 },
     Soc { file: PathBuf },
-    Layout { file: PathBuf, overlay: Option<PathBuf>, module: u32, test: u32, width: u32 },
-    Time { file: PathBuf, overlay: Option<PathBuf>, module: u32, width: u32 },
-    Write { file: PathBuf, overlay: Option<PathBuf>, wires: u32, limit: u32, out: PathBuf },
+    Layout { file: PathBuf, overlay: Option<PathBuf>, module: u32, test: u32, width: u32, capture: u32 },
+    Time { file: PathBuf, overlay: Option<PathBuf>, module: u32, width: u32, capture: u32 },
+    Write { file: PathBuf, overlay: Option<PathBuf>, wires: u32, limit: u32, capture: u32, out: PathBuf },
     Show { file: PathBuf },
     Overlay { base: PathBuf, overlay: PathBuf },
     Lines { base: PathBuf, overlay: PathBuf, module: u32 },
@@ -56,11 +56,11 @@ pub fn command() -> Command {
         .after_long_help(help::after_long())
         .subcommand_required(true)
         .disable_help_subcommand(true)
-        .subcommand(subcommand("plan", help::PLAN).arg(soc_file()).arg(wires()).arg(limit()).arg(over()).arg(json()))
+        .subcommand(subcommand("plan", help::PLAN).arg(soc_file()).arg(wires()).arg(limit()).arg(capture()).arg(over()).arg(json()))
         .subcommand(subcommand("soc", help::SOC).arg(soc_file()))
-        .subcommand(subcommand("layout", help::LAYOUT).arg(soc_file()).arg(module()).arg(test()).arg(width()).arg(over()).arg(json()))
-        .subcommand(subcommand("time", help::TIME).arg(soc_file()).arg(module()).arg(width()).arg(over()).arg(json()))
-        .subcommand(subcommand("write", help::WRITE).arg(soc_file()).arg(wires()).arg(limit()).arg(out()).arg(over()))
+        .subcommand(subcommand("layout", help::LAYOUT).args([soc_file(), module(), test(), width(), capture(), over(), json()]))
+        .subcommand(subcommand("time", help::TIME).arg(soc_file()).arg(module()).arg(width()).arg(capture()).arg(over()).arg(json()))
+        .subcommand(subcommand("write", help::WRITE).arg(soc_file()).arg(wires()).arg(limit()).arg(out()).arg(capture()).arg(over()))
         .subcommand(subcommand("show", help::SHOW).arg(plan_file()).arg(json()))
         .subcommand(subcommand("overlay", help::OVERLAY).arg(base_file()).arg(overlay_file()))
         .subcommand(subcommand("lines", help::LINES).arg(base_file()).arg(overlay_file()).arg(module()))
@@ -148,6 +148,12 @@ fn width() -> Arg {
     number_argument("WIDTH", "Wires of the bus, 1 to 64")
 }
 
+/// Any decimal; which ones make sense is the library's affair.
+fn capture() -> Arg {
+    let help = "Capture cycles of each pattern, 1 to 4";
+    Arg::new("C").long("capture").value_name("C").help(help).default_value("1").value_parser(value_parser!(OsString))
+}
+
 /// The arguments of a subcommand.
 struct Given<'a> {
     name: &'a str,
@@ -171,15 +177,22 @@ impl Given<'_> {
         let file = || self.path("FILE");
         let overlay = || self.matches.get_one::<PathBuf>("overlay").cloned();
         Ok(match self.name {
-            "plan" => Job::Plan { file: file(), overlay: overlay(), wires: self.word("W")?, limit: self.word("B")? },
+            "plan" => {
+                let (wires, limit, capture) = (self.word("W")?, self.word("B")?, self.number("C")?);
+                Job::Plan { file: file(), overlay: overlay(), wires, limit, capture }
+            }
             "soc" => Job::Soc { file: file() },
             "layout" => {
                 let (module, test, width) = (self.number("MODULE")?, self.number("TEST")?, self.number("WIDTH")?);
-                Job::Layout { file: file(), overlay: overlay(), module, test, width }
+                Job::Layout { file: file(), overlay: overlay(), module, test, width, capture: self.number("C")? }
             }
-            "time" => Job::Time { file: file(), overlay: overlay(), module: self.number("MODULE")?, width: self.number("WIDTH")? },
+            "time" => {
+                let (module, width, capture) = (self.number("MODULE")?, self.number("WIDTH")?, self.number("C")?);
+                Job::Time { file: file(), overlay: overlay(), module, width, capture }
+            }
             "write" => {
-                Job::Write { file: file(), overlay: overlay(), wires: self.word("W")?, limit: self.word("B")?, out: self.path("OUT") }
+                let (wires, limit, capture) = (self.word("W")?, self.word("B")?, self.number("C")?);
+                Job::Write { file: file(), overlay: overlay(), wires, limit, capture, out: self.path("OUT") }
             }
             "show" => Job::Show { file: file() },
             "overlay" => Job::Overlay { base: file(), overlay: self.path("OVERLAY") },

@@ -37,7 +37,8 @@ pub const PLAN: &str = "\
 Lists the plan of least time for W wires and at most B buses.
 
 Prints `soc NAME wires W limit B time T`, then `bus I width W busy CYCLES` for each bus and `module M bus I wires K cycles CYCLES \
-start CYCLES` for each planned module: how long it takes, and at which cycle it begins.";
+start CYCLES` for each planned module: how long it takes, and at which cycle it begins. A test of P patterns takes (C + the \
+longer of scan-in and scan-out) × P + the shorter of them, C being the capture cycles.";
 
 pub const SOC: &str = "\
 Writes a SOC text in its written form.

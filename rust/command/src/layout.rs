@@ -11,14 +11,23 @@ use crate::output;
 use crate::report::{Group, Report, Row};
 use crate::source::Source;
 
-pub fn run(file: &Path, overlay: Option<&Path>, module: u32, test: u32, width: u32, form: Form) -> Result<(), Failure> {
+/// Of which test, at which width, with how many capture cycles.
+pub struct Asked {
+    pub module: u32,
+    pub test: u32,
+    pub width: u32,
+    pub capture: u32,
+}
+
+pub fn run(file: &Path, overlay: Option<&Path>, asked: &Asked, form: Form) -> Result<(), Failure> {
     let source = Source::read(file, overlay)?;
+    let &Asked { module, test, width, capture } = asked;
     let mut layout = [0; LAYOUT_BYTES];
-    source.layout(module, test, width, &mut layout)?;
-    let cycles = source.test_time(module, test, width)?;
+    source.layout(module, test, width, capture, &mut layout)?;
+    let cycles = source.test_time(module, test, width, capture)?;
     let internal = source.soc()?.view().module(module).map_or(0, |module| module.chain_count());
     let mut report = report(LayoutView::new(&layout), width, internal, cycles);
-    report.asked = vec![("module", module.into()), ("test", test.into()), ("width", width.into())];
+    report.asked = vec![("module", module.into()), ("test", test.into()), ("width", width.into()), ("capture", capture.into())];
     output::print(report.printed(form).as_bytes())
 }
 

@@ -43,11 +43,13 @@ fn main() -> ExitCode {
 
 fn run(job: &Job, form: Form) -> Result<(), Failure> {
     match job {
-        Job::Plan { file, overlay, wires, limit } => plan::run(file, overlay.as_deref(), *wires, *limit, form),
+        Job::Plan { file, overlay, wires, limit, capture } => plan::run(file, overlay.as_deref(), *wires, *limit, *capture, form),
         Job::Soc { file } => soc::run(file),
-        Job::Layout { file, overlay, module, test, width } => layout::run(file, overlay.as_deref(), *module, *test, *width, form),
-        Job::Time { file, overlay, module, width } => time::run(file, overlay.as_deref(), *module, *width, form),
-        Job::Write { file, overlay, wires, limit, out } => write::run(file, overlay.as_deref(), *wires, *limit, out),
+        Job::Layout { file, overlay, module, test, width, capture } => {
+            layout::run(file, overlay.as_deref(), &layout::Asked { module: *module, test: *test, width: *width, capture: *capture }, form)
+        }
+        Job::Time { file, overlay, module, width, capture } => time::run(file, overlay.as_deref(), *module, *width, *capture, form),
+        Job::Write { file, overlay, wires, limit, capture, out } => write::run(file, overlay.as_deref(), *wires, *limit, *capture, out),
         Job::Show { file } => show::run(file, form),
         Job::Overlay { base, overlay } => overlay::run(base, overlay),
         Job::Lines { base, overlay, module } => overlay::lines(base, overlay, *module),

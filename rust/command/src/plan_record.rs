@@ -14,19 +14,21 @@ use crate::source::Source;
 pub struct PlanRecord {
     file: Box<Path>,
     record: [u8; PLAN_BYTES],
+    /// The capture cycles that it was planned with, which its record does not hold.
+    capture: Option<u32>,
 }
 
 impl PlanRecord {
     /// The first plan of least time.
-    pub fn planned(source: &Source, file: &Path, wires: u32, limit: u32) -> Result<Self, Failure> {
+    pub fn planned(source: &Source, file: &Path, wires: u32, limit: u32, capture: u32) -> Result<Self, Failure> {
         let mut record = [0; PLAN_BYTES];
-        source.plan(wires, limit, &mut record)?;
-        Ok(PlanRecord { file: file.into(), record })
+        source.plan(wires, limit, capture, &mut record)?;
+        Ok(PlanRecord { file: file.into(), record, capture: Some(capture) })
     }
 
     /// The plan that a plan file holds.
     pub fn read(bytes: &[u8], file: &Path) -> Result<Self, Failure> {
-        let mut plan = PlanRecord { file: file.into(), record: [0; PLAN_BYTES] };
+        let mut plan = PlanRecord { file: file.into(), record: [0; PLAN_BYTES], capture: None };
         let answer = library::read_plan(bytes, &mut plan.record);
         plan.figure(answer)?;
         Ok(plan)
@@ -68,7 +70,7 @@ impl PlanRecord {
             row
         };
         Report {
-            asked: Vec::new(),
+            asked: self.capture.map(|capture| ("capture", capture.into())).into_iter().collect(),
             head: name.into_iter().chain(head).collect(),
             groups: vec![
                 Group { name: "buses", rows: (1..).zip(plan.buses()).map(bus).collect() },
@@ -94,7 +96,7 @@ mod tests {
         for (example, wires, limit) in [("t1", 4, 2), ("t1", 1, 1), ("d695", 32, 3), ("d695", 9, 2)] {
             let path = Path::new(env!("CARGO_MANIFEST_DIR")).join(format!("../../examples/{example}.soc"));
             let Ok(source) = Source::read(&path, None) else { panic!("{example} is good") };
-            let Ok(plan) = PlanRecord::planned(&source, &path, wires, limit) else { panic!("{example} has a plan") };
+            let Ok(plan) = PlanRecord::planned(&source, &path, wires, limit, 1) else { panic!("{example} has a plan") };
             let mut lines = vec![0; LISTING_MAX];
             let length = library::show(&plan.record, &mut lines).figure().expect("a good record") as usize;
             assert_eq!(plan.report(None).printed(Form::Lines).as_bytes(), &lines[..length]);

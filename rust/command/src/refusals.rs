@@ -8,7 +8,7 @@ pub struct Words {
     pub arguments: &'static [&'static str],
 }
 
-pub const REFUSALS: [Words; 15] = [
+pub const REFUSALS: [Words; 16] = [
     of_file(1, "the text is longer than 61,440 bytes"),
     of_file(FORBIDDEN_BYTE, "a byte is none of tab, LF, CR before LF, or 32 to 126"),
     of_file(3, "a wrong keyword, 0/1 flag, name or form, too few or too many fields, or a line after the last one due"),
@@ -24,6 +24,7 @@ pub const REFUSALS: [Words; 15] = [
     Words { number: NOT_THERE, words: "there is no such module, or no such test in it", arguments: &["MODULE", "TEST"] },
     of_file(14, "the SOC record breaks a limit or rule of the text, or a spare place in it is not 0"),
     of_file(15, "the overlay does not fit the base: another name or options, a module that is not there, or another level"),
+    Words { number: 16, words: "the number of capture cycles is not from 1 to 4", arguments: &["C"] },
 ];
 
 /// Refusals that are told with more than their words.
@@ -57,6 +58,6 @@ mod tests {
 
     #[test]
     fn a_number_that_is_not_there_has_words_too() {
-        assert_eq!((of(0).words, of(16).words), ("the library refuses it", "the library refuses it"));
+        assert_eq!((of(0).words, of(17).words), ("the library refuses it", "the library refuses it"));
     }
 }

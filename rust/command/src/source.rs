@@ -29,43 +29,45 @@ impl Source {
         }
     }
 
-    pub fn plan(&self, wires: u32, limit: u32, plan: &mut [u8]) -> Result<u64, Failure> {
-        let asked = [("W", wires), ("B", limit)];
+    pub fn plan(&self, wires: u32, limit: u32, capture: u32, plan: &mut [u8]) -> Result<u64, Failure> {
+        let asked = [("W", wires), ("B", limit), ("C", capture)];
         match self {
-            Source::Text(soc) => soc.figure(library::plan(soc.record(), wires, limit, plan), &asked),
-            Source::Pair(pair) => pair.figure(library::plan_pair(pair.base(), pair.overlay(), wires, limit, plan), &asked),
+            Source::Text(soc) => soc.figure(library::plan(soc.record(), wires, limit, capture, plan), &asked),
+            Source::Pair(pair) => pair.figure(library::plan_pair(pair.base(), pair.overlay(), wires, limit, capture, plan), &asked),
         }
     }
 
-    pub fn layout(&self, module: u32, test: u32, width: u32, layout: &mut [u8]) -> Result<u64, Failure> {
-        let asked = [("MODULE", module), ("TEST", test), ("WIDTH", width)];
+    pub fn layout(&self, module: u32, test: u32, width: u32, capture: u32, layout: &mut [u8]) -> Result<u64, Failure> {
+        let asked = [("MODULE", module), ("TEST", test), ("WIDTH", width), ("C", capture)];
         match self {
-            Source::Text(soc) => soc.figure(library::layout(soc.record(), module, test, width, layout), &asked),
-            Source::Pair(pair) => pair.figure(library::layout_pair(pair.base(), pair.overlay(), module, test, width, layout), &asked),
+            Source::Text(soc) => soc.figure(library::layout(soc.record(), module, test, width, capture, layout), &asked),
+            Source::Pair(pair) => {
+                pair.figure(library::layout_pair(pair.base(), pair.overlay(), module, test, width, capture, layout), &asked)
+            }
         }
     }
 
-    pub fn test_time(&self, module: u32, test: u32, width: u32) -> Result<u64, Failure> {
-        let asked = [("MODULE", module), ("TEST", test), ("WIDTH", width)];
+    pub fn test_time(&self, module: u32, test: u32, width: u32, capture: u32) -> Result<u64, Failure> {
+        let asked = [("MODULE", module), ("TEST", test), ("WIDTH", width), ("C", capture)];
         match self {
-            Source::Text(soc) => soc.figure(library::test_time(soc.record(), module, test, width), &asked),
-            Source::Pair(pair) => pair.figure(library::test_time_pair(pair.base(), pair.overlay(), module, test, width), &asked),
+            Source::Text(soc) => soc.figure(library::test_time(soc.record(), module, test, width, capture), &asked),
+            Source::Pair(pair) => pair.figure(library::test_time_pair(pair.base(), pair.overlay(), module, test, width, capture), &asked),
         }
     }
 
-    pub fn module_time(&self, module: u32, width: u32) -> Result<u64, Failure> {
-        let asked = [("MODULE", module), ("WIDTH", width)];
+    pub fn module_time(&self, module: u32, width: u32, capture: u32) -> Result<u64, Failure> {
+        let asked = [("MODULE", module), ("WIDTH", width), ("C", capture)];
         match self {
-            Source::Text(soc) => soc.figure(library::module_time(soc.record(), module, width), &asked),
-            Source::Pair(pair) => pair.figure(library::module_time_pair(pair.base(), pair.overlay(), module, width), &asked),
+            Source::Text(soc) => soc.figure(library::module_time(soc.record(), module, width, capture), &asked),
+            Source::Pair(pair) => pair.figure(library::module_time_pair(pair.base(), pair.overlay(), module, width, capture), &asked),
         }
     }
 
-    pub fn module_wires(&self, module: u32, width: u32) -> Result<u64, Failure> {
-        let asked = [("MODULE", module), ("WIDTH", width)];
+    pub fn module_wires(&self, module: u32, width: u32, capture: u32) -> Result<u64, Failure> {
+        let asked = [("MODULE", module), ("WIDTH", width), ("C", capture)];
         match self {
-            Source::Text(soc) => soc.figure(library::module_wires(soc.record(), module, width), &asked),
-            Source::Pair(pair) => pair.figure(library::module_wires_pair(pair.base(), pair.overlay(), module, width), &asked),
+            Source::Text(soc) => soc.figure(library::module_wires(soc.record(), module, width, capture), &asked),
+            Source::Pair(pair) => pair.figure(library::module_wires_pair(pair.base(), pair.overlay(), module, width, capture), &asked),
         }
     }
 }

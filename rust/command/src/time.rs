@@ -8,11 +8,11 @@ use crate::output;
 use crate::report::Report;
 use crate::source::Source;
 
-pub fn run(file: &Path, overlay: Option<&Path>, module: u32, width: u32, form: Form) -> Result<(), Failure> {
+pub fn run(file: &Path, overlay: Option<&Path>, module: u32, width: u32, capture: u32, form: Form) -> Result<(), Failure> {
     let source = Source::read(file, overlay)?;
-    let (cycles, wires) = (source.module_time(module, width)?, source.module_wires(module, width)?);
+    let (cycles, wires) = (source.module_time(module, width, capture)?, source.module_wires(module, width, capture)?);
     let report = Report {
-        asked: vec![("module", module.into()), ("width", width.into())],
+        asked: vec![("module", module.into()), ("width", width.into()), ("capture", capture.into())],
         head: vec![("cycles", cycles.into()), ("wires", wires.into())],
         groups: Vec::new(),
     };

@@ -7,7 +7,7 @@ use crate::output;
 use crate::plan_record::PlanRecord;
 use crate::source::Source;
 
-pub fn run(file: &Path, overlay: Option<&Path>, wires: u32, limit: u32, out: &Path) -> Result<(), Failure> {
+pub fn run(file: &Path, overlay: Option<&Path>, wires: u32, limit: u32, capture: u32, out: &Path) -> Result<(), Failure> {
     let source = Source::read(file, overlay)?;
-    output::write_file(out, &PlanRecord::planned(&source, file, wires, limit)?.file()?)
+    output::write_file(out, &PlanRecord::planned(&source, file, wires, limit, capture)?.file()?)
 }

@@ -52,6 +52,10 @@ fn numbers_that_are_no_decimals() {
         folder.run(&["layout", "x.soc", "1", "1", word]).wrong_call();
         folder.run(&["time", "x.soc", word, "4"]).wrong_call();
         folder.run(&["time", "x.soc", "1", word]).wrong_call();
+        let capture = format!("--capture={word}");
+        for call in [&["plan", "x.soc", "4", "2"][..], &["time", "x.soc", "1", "4"], &["layout", "x.soc", "1", "1", "4"]] {
+            folder.run(&[call, &[&capture]].concat()).wrong_call();
+        }
     }
 }
 

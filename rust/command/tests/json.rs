@@ -14,7 +14,7 @@ fn object(folder: &Folder, words: &[&str], status: i32) -> Value {
 
 fn plan_of_t1() -> Value {
     json!({
-        "soc": "t1", "wires": 4, "limit": 2, "time": 65,
+        "capture": 1, "soc": "t1", "wires": 4, "limit": 2, "time": 65,
         "buses": [{"bus": 1, "width": 1, "busy": 65}, {"bus": 2, "width": 3, "busy": 9}],
         "modules": [
             {"module": 1, "bus": 1, "wires": 1, "cycles": 65, "start": 0},
@@ -30,7 +30,9 @@ fn plan_and_show() {
     assert_eq!(object(&folder, &["plan", "t1.soc", "4", "2", "--json"], 0), plan_of_t1());
     folder.run(&["write", "t1.soc", "4", "2", "t1.plan"]).done("");
     let mut shown = plan_of_t1();
-    shown.as_object_mut().unwrap().remove("soc");
+    for key in ["soc", "capture"] {
+        shown.as_object_mut().unwrap().remove(key);
+    }
     assert_eq!(object(&folder, &["show", "--json", "t1.plan"], 0), shown);
     let second = json!({"module": 2, "bus": 1, "wires": 3, "cycles": 9, "start": 65});
     assert_eq!(object(&folder, &["plan", "--json", "t1.soc", "4", "1"], 0)["modules"][1], second);
@@ -47,19 +49,19 @@ fn layout() {
     let text = T1.replace("ScanChains 1 : 10", "ScanChains 2 : 10 4").replace("Inputs 3", "Inputs 4");
     let folder = Folder::holding("x.soc", text);
     let with_chains = json!({
-        "module": 1, "test": 1, "width": 2, "si": 10, "so": 10, "cycles": 65,
+        "module": 1, "test": 1, "width": 2, "capture": 1, "si": 10, "so": 10, "cycles": 65,
         "chains": [{"chain": 1, "ff": 10, "in": 0, "out": 0, "bidir": 0}, {"chain": 2, "ff": 4, "in": 0, "out": 0, "bidir": 0}],
         "internal": [{"internal": 1, "chain": 1}, {"internal": 2, "chain": 2}],
     });
     assert_eq!(object(&folder, &["layout", "--json", "x.soc", "1", "1", "2"], 0), with_chains);
     let with_cells = json!({
-        "module": 2, "test": 1, "width": 1, "si": 4, "so": 2, "cycles": 22,
+        "module": 2, "test": 1, "width": 1, "capture": 1, "si": 4, "so": 2, "cycles": 22,
         "chains": [{"chain": 1, "ff": 0, "in": 4, "out": 2, "bidir": 0}], "internal": [],
     });
     assert_eq!(object(&folder, &["layout", "--json", "x.soc", "2", "1", "1"], 0), with_cells);
     let folder = Folder::holding("x.soc", T1.replace("Inputs 3 Outputs 2 Bidirs 0", "Inputs 2 Outputs 1 Bidirs 1"));
     let with_bidirs = json!({
-        "module": 2, "test": 1, "width": 2, "si": 2, "so": 1, "cycles": 13,
+        "module": 2, "test": 1, "width": 2, "capture": 1, "si": 2, "so": 1, "cycles": 13,
         "chains": [{"chain": 1, "ff": 0, "in": 1, "out": 0, "bidir": 1}, {"chain": 2, "ff": 0, "in": 1, "out": 1, "bidir": 0}],
         "internal": [],
     });
@@ -69,8 +71,10 @@ fn layout() {
 #[test]
 fn time() {
     let folder = Folder::holding("t1.soc", T1);
-    let expected = json!({"module": 2, "width": 4, "cycles": 9, "wires": 3});
+    let expected = json!({"module": 2, "width": 4, "capture": 1, "cycles": 9, "wires": 3});
     assert_eq!(object(&folder, &["time", "--json", "t1.soc", "2", "4"], 0), expected);
+    let longer = json!({"module": 2, "width": 4, "capture": 3, "cycles": 17, "wires": 3});
+    assert_eq!(object(&folder, &["time", "--json", "--capture", "3", "t1.soc", "2", "4"], 0), longer);
 }
 
 #[test]

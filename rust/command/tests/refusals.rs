@@ -196,6 +196,23 @@ fn refusal_13() {
 }
 
 #[test]
+fn refusal_16() {
+    let folder = Folder::holding("x.soc", T1);
+    let words = "the number of capture cycles is not from 1 to 4";
+    for c in ["0", "5", "4294967295"] {
+        for call in [&["plan", "x.soc", "4", "2"][..], &["write", "x.soc", "4", "2", "x.plan"], &["layout", "x.soc", "9", "9", "4"]] {
+            folder.run(&[call, &["--capture", c]].concat()).refused(16, 0, &format!("C {c}: {words}"), "");
+        }
+        folder.run(&["time", "x.soc", "9", "4", "--capture", c]).refused(16, 0, &format!("C {c}: {words}"), "");
+        folder.run(&["plan", "x.soc", "4", "4", "--capture", c]).refused(8, 0, "B 4: the limit of buses is not from 1 to 3", "");
+        folder.run(&["time", "x.soc", "9", "0", "--capture", c]).refused(7, 0, "WIDTH 0: the number of wires is not from 1 to 64", "");
+    }
+    folder.put("x.soc", T1.replace("TamUse 1", "TamUse 0"));
+    folder.run(&["plan", "x.soc", "4", "2", "--capture", "5"]).refused(16, 0, &format!("C 5: {words}"), "");
+    assert_eq!(folder.names(), ["x.soc"]);
+}
+
+#[test]
 fn standard_input_is_named_as_it_was_typed() {
     let words = "-:1: a wrong keyword, 0/1 flag, name or form, too few or too many fields, or a line after the last one due";
     Folder::new().run_with(&["soc", "-"], b"SocName").refused(3, 1, words, " 1 | SocName\n");

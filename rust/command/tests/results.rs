@@ -114,6 +114,20 @@ fn time_and_wires() {
 }
 
 #[test]
+fn more_capture_cycles() {
+    let folder = Folder::holding("t1.soc", T1);
+    let longer = "soc t1 wires 4 limit 2 time 80\nbus 1 width 1 busy 80\nbus 2 width 3 busy 21\n\
+                  module 1 bus 1 wires 1 cycles 80 start 0\nmodule 2 bus 2 wires 3 cycles 21 start 0\n";
+    folder.run(&["plan", "t1.soc", "4", "2", "--capture", "4"]).done(longer);
+    folder.run(&["plan", "--capture=1", "t1.soc", "4", "2"]).done(T1_LISTING);
+    folder.run(&["time", "t1.soc", "2", "4", "--capture", "2"]).done("cycles 13 wires 3\n");
+    let laid = "si 1 so 1 cycles 13\nchain 1 ff 0 in 1 out 1 bidir 0\nchain 2 ff 0 in 1 out 1 bidir 0\nchain 3 ff 0 in 1 out 0 bidir 0\n";
+    folder.run(&["layout", "t1.soc", "2", "1", "3", "--capture", "2"]).done(laid);
+    folder.run(&["write", "t1.soc", "4", "2", "t1.plan", "--capture", "4"]).done("");
+    folder.run(&["show", "t1.plan"]).done(longer.strip_prefix("soc t1 ").expect("a name"));
+}
+
+#[test]
 fn write_and_show() {
     let folder = Folder::holding("t1.soc", T1);
     folder.run(&["write", "t1.soc", "4", "2", "t1.plan"]).done("");

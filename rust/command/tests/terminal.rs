@@ -39,7 +39,7 @@ module  bus  wires  cycles  start
 fn a_time_is_one_line_and_json_one_object() {
     let folder = Folder::holding("t1.soc", T1);
     assert_eq!(on_a_terminal(&folder, "time t1.soc 2 4"), "cycles 9 wires 3\n");
-    assert_eq!(on_a_terminal(&folder, "time --json t1.soc 2 4"), "{\"module\":2,\"width\":4,\"cycles\":9,\"wires\":3}\n");
+    assert_eq!(on_a_terminal(&folder, "time --json t1.soc 2 4"), "{\"module\":2,\"width\":4,\"capture\":1,\"cycles\":9,\"wires\":3}\n");
 }
 
 #[test]

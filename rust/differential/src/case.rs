@@ -2,7 +2,7 @@
 
 use independent::entries;
 use independent::entries::Outcome;
-use independent::pair_entries::{self, PairOutcome};
+use independent::pair_entries::{self, for_c};
 use tallowwing_library::{self as library, Answer};
 
 #[derive(Clone, Copy, Debug, PartialEq, Eq)]
@@ -50,6 +50,9 @@ pub const ENTRIES: [Entry; 19] = [
     Entry::PlanPair,
 ];
 
+/// The most numbers that an entry takes.
+pub const NUMBERS: usize = 4;
+
 impl Entry {
     pub fn name(self) -> &'static str {
         match self {
@@ -81,47 +84,60 @@ impl Entry {
 
     /// Whether bytes are lent for a result.
     pub fn writes(self) -> bool {
-        !matches!(
-            self,
-            Entry::TestTime
-                | Entry::ModuleTime
-                | Entry::ModuleWires
-                | Entry::ModuleLines
-                | Entry::TestTimePair
-                | Entry::ModuleTimePair
-                | Entry::ModuleWiresPair
-        )
+        let figure_alone = [
+            Entry::TestTime,
+            Entry::ModuleTime,
+            Entry::ModuleWires,
+            Entry::ModuleLines,
+            Entry::TestTimePair,
+            Entry::ModuleTimePair,
+            Entry::ModuleWiresPair,
+        ];
+        !figure_alone.contains(&self)
     }
 }
 
-/// The bytes handed in, of a pair the one text behind the other and where the overlay begins; the numbers in the order of the C interface
-/// (unused ones 0); and how many bytes are lent for the result.
+/// The bytes handed in, the numbers in the order of the C interface (unused ones 0), and how many bytes are lent for the result.
 #[derive(Clone, Debug, PartialEq, Eq)]
 pub struct Case {
     pub entry: Entry,
-    pub numbers: [u32; 3],
-    pub overlay: usize,
+    pub numbers: [u32; NUMBERS],
+    /// Where the overlay of a pair begins, whose base stands before it; else 0.
+    pub overlay_at: usize,
     pub room: usize,
     pub input: Vec<u8>,
 }
 
 impl Case {
-    pub fn new(entry: Entry, numbers: [u32; 3], input: Vec<u8>) -> Self {
-        Case { entry, numbers, overlay: 0, room: 0, input }
+    /// A case with the numbers that its entry takes.
+    pub fn new<const N: usize>(entry: Entry, numbers: [u32; N], input: Vec<u8>) -> Self {
+        let mut all = [0; NUMBERS];
+        all[..N].copy_from_slice(&numbers);
+        Case { entry, numbers: all, overlay_at: 0, room: 0, input }
+    }
+
+    /// A case of a base and an overlay.
+    pub fn of_pair<const N: usize>(entry: Entry, numbers: [u32; N], base: &[u8], overlay: &[u8]) -> Self {
+        Case { overlay_at: base.len(), ..Case::new(entry, numbers, [base, overlay].concat()) }
+    }
+
+    /// The two texts of a pair.
+    fn pair<'a>(&self, input: &'a [u8]) -> (&'a [u8], &'a [u8]) {
+        input.split_at(self.overlay_at.min(input.len()))
     }
 
     /// What the library answers.
     pub fn ask_library(&self, input: &[u8], lent: &mut [u8]) -> Answer {
-        let [a, b, c] = self.numbers;
-        let (base, overlay) = input.split_at(self.overlay.min(input.len()));
+        let [a, b, c, d] = self.numbers;
+        let (base, overlay) = self.pair(input);
         match self.entry {
             Entry::ReadSoc => library::read_soc(input, lent),
             Entry::WriteSoc => library::write_soc(input, lent),
-            Entry::Layout => library::layout(input, a, b, c, lent),
-            Entry::TestTime => library::test_time(input, a, b, c),
-            Entry::ModuleTime => library::module_time(input, a, b),
-            Entry::ModuleWires => library::module_wires(input, a, b),
-            Entry::Plan => library::plan(input, a, b, lent),
+            Entry::Layout => library::layout(input, a, b, c, d, lent),
+            Entry::TestTime => library::test_time(input, a, b, c, d),
+            Entry::ModuleTime => library::module_time(input, a, b, c),
+            Entry::ModuleWires => library::module_wires(input, a, b, c),
+            Entry::Plan => library::plan(input, a, b, c, lent),
             Entry::WritePlan => library::write_plan(input, lent),
             Entry::ReadPlan => library::read_plan(input, lent),
             Entry::Show => library::show(input, lent),
@@ -129,38 +145,38 @@ impl Case {
             Entry::ReadPair => library::read_pair(base, overlay, lent),
             Entry::ModuleLines => library::module_lines(base, overlay, a),
             Entry::WritePair => library::write_pair(base, overlay, lent),
-            Entry::LayoutPair => library::layout_pair(base, overlay, a, b, c, lent),
-            Entry::TestTimePair => library::test_time_pair(base, overlay, a, b, c),
-            Entry::ModuleTimePair => library::module_time_pair(base, overlay, a, b),
-            Entry::ModuleWiresPair => library::module_wires_pair(base, overlay, a, b),
-            Entry::PlanPair => library::plan_pair(base, overlay, a, b, lent),
+            Entry::LayoutPair => library::layout_pair(base, overlay, a, b, c, d, lent),
+            Entry::TestTimePair => library::test_time_pair(base, overlay, a, b, c, d),
+            Entry::ModuleTimePair => library::module_time_pair(base, overlay, a, b, c),
+            Entry::ModuleWiresPair => library::module_wires_pair(base, overlay, a, b, c),
+            Entry::PlanPair => library::plan_pair(base, overlay, a, b, c, lent),
         }
     }
 
     /// What the independent implementation answers.
     pub fn ask_independent(&self, input: &[u8], lent: &mut [u8]) -> Answer {
-        let [a, b, c] = self.numbers;
-        let (base, overlay) = input.split_at(self.overlay.min(input.len()));
+        let [a, b, c, d] = self.numbers;
+        let (base, overlay) = self.pair(input);
         answer(match self.entry {
             Entry::ReadSoc => entries::read_soc(input, lent),
             Entry::WriteSoc => entries::write_soc(input, lent),
-            Entry::Layout => entries::layout(input, a, b, c, lent),
-            Entry::TestTime => entries::test_time(input, a, b, c),
-            Entry::ModuleTime => entries::module_time(input, a, b),
-            Entry::ModuleWires => entries::module_wires(input, a, b),
-            Entry::Plan => entries::plan(input, a, b, lent),
+            Entry::Layout => entries::layout(input, a, b, c, d, lent),
+            Entry::TestTime => entries::test_time(input, a, b, c, d),
+            Entry::ModuleTime => entries::module_time(input, a, b, c),
+            Entry::ModuleWires => entries::module_wires(input, a, b, c),
+            Entry::Plan => entries::plan(input, a, b, c, lent),
             Entry::WritePlan => entries::write_plan(input, lent),
             Entry::ReadPlan => entries::read_plan(input, lent),
             Entry::Show => entries::show(input, lent),
             Entry::Listing => entries::listing(input, lent),
-            Entry::ReadPair => pair_entries::read_pair_for_c(base, overlay, lent),
+            Entry::ReadPair => pair_entries::read_pair(base, overlay, lent).map_err(for_c),
             Entry::ModuleLines => pair_entries::module_lines_for_c(base, overlay, a),
-            Entry::WritePair => return pair_answer(pair_entries::write_pair(base, overlay, lent)),
-            Entry::LayoutPair => return pair_answer(pair_entries::layout_pair(base, overlay, a, b, c, lent)),
-            Entry::TestTimePair => return pair_answer(pair_entries::test_time_pair(base, overlay, a, b, c)),
-            Entry::ModuleTimePair => return pair_answer(pair_entries::module_time_pair(base, overlay, a, b)),
-            Entry::ModuleWiresPair => return pair_answer(pair_entries::module_wires_pair(base, overlay, a, b)),
-            Entry::PlanPair => return pair_answer(pair_entries::plan_pair(base, overlay, a, b, lent)),
+            Entry::WritePair => pair_entries::write_pair(base, overlay, lent).map_err(for_c),
+            Entry::LayoutPair => pair_entries::layout_pair(base, overlay, a, b, c, d, lent).map_err(for_c),
+            Entry::TestTimePair => pair_entries::test_time_pair(base, overlay, a, b, c, d).map_err(for_c),
+            Entry::ModuleTimePair => pair_entries::module_time_pair(base, overlay, a, b, c).map_err(for_c),
+            Entry::ModuleWiresPair => pair_entries::module_wires_pair(base, overlay, a, b, c).map_err(for_c),
+            Entry::PlanPair => pair_entries::plan_pair(base, overlay, a, b, c, lent).map_err(for_c),
         })
     }
 }
@@ -170,12 +186,4 @@ fn answer(outcome: Outcome) -> Answer {
         Ok(figure) => Answer::Figure(figure),
         Err(refusal) => Answer::Refused { number: refusal.number, line: refusal.line as u64 },
     }
-}
-
-/// A refusal of a pair as C has it: 4 times its line, and the text that is meant.
-fn pair_answer(outcome: PairOutcome) -> Answer {
-    outcome.map_or_else(
-        |refused| Answer::Refused { number: refused.refusal.number, line: 4 * refused.refusal.line as u64 + refused.text as u64 },
-        Answer::Figure,
-    )
 }

@@ -2,7 +2,7 @@
 
 use std::fmt::Write;
 
-use crate::case::{Case, Entry};
+use crate::case::{Case, Entry, NUMBERS};
 
 /// A run of equal bytes this long is written as `repeat`.
 const RUN: usize = 16;
@@ -14,10 +14,10 @@ pub fn written(case: &Case, remark: &str) -> String {
     for line in remark.lines() {
         let _ = writeln!(file, "# {line}");
     }
-    let [a, b, c] = case.numbers;
-    let _ = writeln!(file, "entry {}\nnumbers {a} {b} {c}\nroom {}", case.entry.name(), case.room);
-    if case.overlay > 0 {
-        let _ = writeln!(file, "overlay {}", case.overlay);
+    let numbers = case.numbers.map(|number| number.to_string()).join(" ");
+    let _ = writeln!(file, "entry {}\nnumbers {numbers}\nroom {}", case.entry.name(), case.room);
+    if case.overlay_at > 0 {
+        let _ = writeln!(file, "overlay {}", case.overlay_at);
     }
     let mut rest = &case.input[..];
     while !rest.is_empty() {
@@ -59,7 +59,7 @@ fn readable(byte: u8) -> bool {
 }
 
 pub fn read(file: &str) -> Result<Case, String> {
-    let mut case = Case::new(Entry::Listing, [0; 3], Vec::new());
+    let mut case = Case::new(Entry::Listing, [], Vec::new());
     let mut entry = None;
     for (index, line) in file.lines().enumerate() {
         let (word, rest) = line.split_once(' ').unwrap_or((line, ""));
@@ -68,7 +68,7 @@ pub fn read(file: &str) -> Result<Case, String> {
             "entry" => Entry::named(rest).map(|named| entry = Some(named)),
             "numbers" => read_numbers(rest).map(|numbers| case.numbers = numbers),
             "room" => rest.parse().ok().map(|room| case.room = room),
-            "overlay" => rest.parse().ok().map(|overlay| case.overlay = overlay),
+            "overlay" => rest.parse().ok().map(|place| case.overlay_at = place),
             "text" => read_text(rest).map(|bytes| case.input.extend(bytes)),
             "bytes" => read_hex(rest).map(|bytes| case.input.extend(bytes)),
             "repeat" => read_repeat(rest).map(|bytes| case.input.extend(bytes)),
@@ -80,8 +80,10 @@ pub fn read(file: &str) -> Result<Case, String> {
     Ok(case)
 }
 
-fn read_numbers(numbers: &str) -> Option<[u32; 3]> {
-    let numbers: Vec<u32> = numbers.split(' ').map(|number| number.parse().ok()).collect::<Option<_>>()?;
+/// Numbers that are left out are 0.
+fn read_numbers(numbers: &str) -> Option<[u32; NUMBERS]> {
+    let mut numbers: Vec<u32> = numbers.split(' ').map(|number| number.parse().ok()).collect::<Option<_>>()?;
+    numbers.resize(numbers.len().max(NUMBERS), 0);
     numbers.try_into().ok()
 }
 
@@ -129,16 +131,30 @@ mod tests {
         ];
         for entry in crate::case::ENTRIES {
             for input in inputs {
-                let case = Case { entry, numbers: [1, 0, u32::MAX], overlay: input.len() / 2, room: 300, input: input.to_vec() };
-                let file = written(&case, "why it is kept\nin two lines");
-                assert_eq!(read(&file), Ok(case), "{file}");
+                for overlay_at in [0, 4] {
+                    let case = Case { entry, numbers: [1, 0, 0, u32::MAX], overlay_at, room: 300, input: input.to_vec() };
+                    let file = written(&case, "why it is kept\nin two lines");
+                    assert_eq!(read(&file), Ok(case), "{file}");
+                }
             }
         }
     }
 
     #[test]
+    fn numbers_left_out_are_0() {
+        assert_eq!(read("entry plan\nnumbers 4 2\n"), Ok(Case::new(Entry::Plan, [4, 2, 0, 0], Vec::new())));
+    }
+
+    #[test]
     fn other_lines_are_told() {
-        for file in ["", "entry none\n", "entry plan\nnumbers 1 2\n", "entry plan\nbytes 0\n", "entry plan\ntext \"a\nwhat\n"] {
+        for file in [
+            "",
+            "entry none\n",
+            "entry plan\nnumbers 1 2 3 4 5\n",
+            "entry plan\nnumbers x\n",
+            "entry plan\nbytes 0\n",
+            "entry plan\ntext \"a\nwhat\n",
+        ] {
             assert!(read(file).is_err(), "{file}");
         }
     }

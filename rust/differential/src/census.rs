@@ -4,7 +4,7 @@ use crate::compare::Outcome;
 use crate::kinds::Kind;
 
 /// The highest refusal number.
-const REFUSALS: usize = 15;
+pub const REFUSALS: usize = 16;
 
 #[derive(Clone, Default)]
 pub struct Tally {

@@ -11,7 +11,6 @@ mod kinds;
 mod make_plan;
 mod make_soc;
 mod options;
-// No entry of the library takes a pair yet: these cases are put to the independent implementation alone.
 mod random;
 mod run;
 mod self_test;

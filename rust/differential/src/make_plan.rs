@@ -5,6 +5,9 @@ use tallowwing_library::{places, PLAN_BYTES};
 
 use crate::random::Random;
 
+/// The most cycles of a module with one capture cycle.
+const ONE_CAPTURE_CYCLES: u64 = 37_383_261_126_648;
+
 /// A planned module as it stands in a plan, right or wrong.
 #[derive(Clone)]
 pub struct LooseModule {
@@ -41,6 +44,19 @@ impl LoosePlan {
             LoosePlan { wires: widths.iter().sum(), limit, buses: widths.into_iter().map(|width| (width, 0)).collect(), modules, time: 0 };
         plan.settle();
         plan
+    }
+
+    /// Gives every module about the most cycles with one capture cycle or with four; only one past the latter is not good.
+    pub fn raise_cycles(&mut self, random: &mut Random) {
+        let past = random.chance(30);
+        for module in &mut self.modules {
+            module.cycles = *random.pick(&[ONE_CAPTURE_CYCLES, ONE_CAPTURE_CYCLES + 1, limits::MODULE_CYCLES - 1, limits::MODULE_CYCLES]);
+        }
+        if past {
+            let at = random.below(self.modules.len());
+            self.modules[at].cycles = limits::MODULE_CYCLES + 1;
+        }
+        self.settle();
     }
 
     /// Makes busy figures, time and starts right again, as far as the buses exist; sums may pass 64 bits.

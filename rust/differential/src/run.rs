@@ -12,7 +12,7 @@ use crate::kinds::{make_case, KINDS};
 use crate::options::Options;
 
 /// From this many cases on, every outcome of every kind is asked to occur.
-const ENOUGH_CASES: u64 = 5_000;
+const ENOUGH_CASES: u64 = 20_000;
 
 /// The run's last line, or what went wrong.
 pub fn run(options: &Options) -> Result<String, String> {

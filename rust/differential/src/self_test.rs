@@ -3,6 +3,7 @@
 use tallowwing_library::Answer;
 
 use crate::case::{Case, Entry, ENTRIES};
+use crate::census::REFUSALS;
 use crate::compare::{compare, Lent, Subject, GUARD};
 use crate::kinds::{make_case, KINDS, SLOW};
 
@@ -66,7 +67,7 @@ impl Lie {
     fn changed(self, answer: Answer) -> Answer {
         match (self, answer) {
             (Lie::FigureOneMore, Answer::Figure(figure)) => Answer::Figure(figure + 1),
-            (Lie::NumberChanged, Answer::Refused { number, line }) => Answer::Refused { number: number % 14 + 1, line },
+            (Lie::NumberChanged, Answer::Refused { number, line }) => Answer::Refused { number: number % REFUSALS as u8 + 1, line },
             (Lie::LineOneMore, Answer::Refused { number, line }) => Answer::Refused { number, line: line + 1 },
             (Lie::AcceptedInstead, _) => Answer::Figure(0),
             (Lie::RefusedInstead, _) => Answer::Refused { number: 14, line: 0 },

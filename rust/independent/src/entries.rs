@@ -16,24 +16,24 @@ pub fn write_soc(record: &[u8], text: &mut [u8]) -> Outcome {
     give(soc_written::written(&good_soc(record)?).as_bytes(), text)
 }
 
-pub fn layout(record: &[u8], module: u32, test: u32, width: u32, layout: &mut [u8]) -> Outcome {
-    give(&layout_bytes(&time::test_layout(&good_soc(record)?, module, test, width)?), layout)
+pub fn layout(record: &[u8], module: u32, test: u32, width: u32, capture: u32, layout: &mut [u8]) -> Outcome {
+    give(&layout_bytes(&time::test_layout(&good_soc(record)?, module, test, width, capture)?), layout)
 }
 
-pub fn test_time(record: &[u8], module: u32, test: u32, width: u32) -> Outcome {
-    Ok(time::test_time(&good_soc(record)?, module, test, width)?.0)
+pub fn test_time(record: &[u8], module: u32, test: u32, width: u32, capture: u32) -> Outcome {
+    Ok(time::test_time(&good_soc(record)?, module, test, width, capture)?.0)
 }
 
-pub fn module_time(record: &[u8], module: u32, width: u32) -> Outcome {
-    Ok(time::module_time(&good_soc(record)?, module, width)?.cycles.0)
+pub fn module_time(record: &[u8], module: u32, width: u32, capture: u32) -> Outcome {
+    Ok(time::module_time(&good_soc(record)?, module, width, capture)?.cycles.0)
 }
 
-pub fn module_wires(record: &[u8], module: u32, width: u32) -> Outcome {
-    Ok(time::module_time(&good_soc(record)?, module, width)?.wires.0.into())
+pub fn module_wires(record: &[u8], module: u32, width: u32, capture: u32) -> Outcome {
+    Ok(time::module_time(&good_soc(record)?, module, width, capture)?.wires.0.into())
 }
 
-pub fn plan(record: &[u8], wires: u32, limit: u32, plan: &mut [u8]) -> Outcome {
-    give(&plan_bytes(&planner::plan(&good_soc(record)?, wires, limit)?), plan)
+pub fn plan(record: &[u8], wires: u32, limit: u32, capture: u32, plan: &mut [u8]) -> Outcome {
+    give(&plan_bytes(&planner::plan(&good_soc(record)?, wires, limit, capture)?), plan)
 }
 
 pub fn write_plan(plan: &[u8], file: &mut [u8]) -> Outcome {

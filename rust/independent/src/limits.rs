@@ -16,9 +16,13 @@ pub const WIRES: u32 = 64;
 pub const BUSES: usize = 3;
 pub const PLANNED: usize = 12;
 
-/// The most cycles that one test, and one module, can take.
-pub const TEST_CYCLES: u64 = 4_672_907_640_831;
-pub const MODULE_CYCLES: u64 = 37_383_261_126_648;
+/// Capture cycles, from 1; and those where none are asked for.
+pub const CAPTURE: u32 = 4;
+pub const CAPTURE_IF_ABSENT: u32 = 1;
 
-/// The most bytes of the line `Plan W B`, its end included.
+/// The most cycles that one test, and one module, can take with the most capture cycles.
+pub const TEST_CYCLES: u64 = 4_672_957_972_476;
+pub const MODULE_CYCLES: u64 = 37_383_663_779_808;
+
+/// The most bytes of the line `Plan W B c`, its end included.
 pub const PLAN_LINE_BYTES: usize = 32;

@@ -20,22 +20,23 @@ pub fn listing(input: &[u8]) -> String {
 fn soc_and_plan(input: &[u8]) -> Result<(Soc, Plan), Refusal> {
     let end = input.iter().position(|&byte| byte == b'\n').map_or(input.len(), |place| place + 1);
     let (first, text) = input.split_at(end);
-    let (wires, limit) = plan_line(first)?;
+    let [wires, limit, capture] = plan_line(first)?;
     let soc = soc_text::read(text)?;
-    let plan = plan(&soc, wires, limit)?;
+    let plan = plan(&soc, wires, limit, capture)?;
     Ok((soc, plan))
 }
 
-/// W and B from the line `Plan W B`, given with its end.
-fn plan_line(line: &[u8]) -> Result<(u32, u32), Refusal> {
+/// W, B and c from the line `Plan W B` or `Plan W B c`, given with its end.
+fn plan_line(line: &[u8]) -> Result<[u32; 3], Refusal> {
     demand(line.len() <= limits::PLAN_LINE_BYTES, 3)?;
     let content = line.strip_suffix(b"\r\n").or(line.strip_suffix(b"\n")).unwrap_or(line);
     let mut fields = Fields::new(content, 0);
     fields.keyword("Plan")?;
     let wires = fields.number(0, u32::MAX)?;
     let limit = fields.number(0, u32::MAX)?;
+    let capture = if fields.at_end() { limits::CAPTURE_IF_ABSENT } else { fields.number(0, u32::MAX)? };
     fields.end()?;
-    Ok((wires, limit))
+    Ok([wires, limit, capture])
 }
 
 fn lines(soc: &Soc, plan: &Plan) -> String {

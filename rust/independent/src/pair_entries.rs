@@ -20,24 +20,24 @@ pub fn write_pair(base: &[u8], overlay: &[u8], text: &mut [u8]) -> PairOutcome {
     Ok(give(soc_written::written(&pair::read(base, overlay)?.soc).as_bytes(), text)?)
 }
 
-pub fn layout_pair(base: &[u8], overlay: &[u8], module: u32, test: u32, width: u32, layout: &mut [u8]) -> PairOutcome {
-    Ok(give(&layout_bytes(&time::test_layout(&pair::read(base, overlay)?.soc, module, test, width)?), layout)?)
+pub fn layout_pair(base: &[u8], overlay: &[u8], module: u32, test: u32, width: u32, capture: u32, layout: &mut [u8]) -> PairOutcome {
+    Ok(give(&layout_bytes(&time::test_layout(&pair::read(base, overlay)?.soc, module, test, width, capture)?), layout)?)
 }
 
-pub fn test_time_pair(base: &[u8], overlay: &[u8], module: u32, test: u32, width: u32) -> PairOutcome {
-    Ok(time::test_time(&pair::read(base, overlay)?.soc, module, test, width)?.0)
+pub fn test_time_pair(base: &[u8], overlay: &[u8], module: u32, test: u32, width: u32, capture: u32) -> PairOutcome {
+    Ok(time::test_time(&pair::read(base, overlay)?.soc, module, test, width, capture)?.0)
 }
 
-pub fn module_time_pair(base: &[u8], overlay: &[u8], module: u32, width: u32) -> PairOutcome {
-    Ok(time::module_time(&pair::read(base, overlay)?.soc, module, width)?.cycles.0)
+pub fn module_time_pair(base: &[u8], overlay: &[u8], module: u32, width: u32, capture: u32) -> PairOutcome {
+    Ok(time::module_time(&pair::read(base, overlay)?.soc, module, width, capture)?.cycles.0)
 }
 
-pub fn module_wires_pair(base: &[u8], overlay: &[u8], module: u32, width: u32) -> PairOutcome {
-    Ok(time::module_time(&pair::read(base, overlay)?.soc, module, width)?.wires.0.into())
+pub fn module_wires_pair(base: &[u8], overlay: &[u8], module: u32, width: u32, capture: u32) -> PairOutcome {
+    Ok(time::module_time(&pair::read(base, overlay)?.soc, module, width, capture)?.wires.0.into())
 }
 
-pub fn plan_pair(base: &[u8], overlay: &[u8], wires: u32, limit: u32, plan: &mut [u8]) -> PairOutcome {
-    Ok(give(&plan_bytes(&planner::plan(&pair::read(base, overlay)?.soc, wires, limit)?), plan)?)
+pub fn plan_pair(base: &[u8], overlay: &[u8], wires: u32, limit: u32, capture: u32, plan: &mut [u8]) -> PairOutcome {
+    Ok(give(&plan_bytes(&planner::plan(&pair::read(base, overlay)?.soc, wires, limit, capture)?), plan)?)
 }
 
 /// Which text has the lines of a module, and where in it they stand (refusal 13 after 15).
@@ -46,13 +46,8 @@ pub fn module_lines(base: &[u8], overlay: &[u8], module: u32) -> Result<Part, Pa
 }
 
 /// A refusal of a pair as C has it: its line is 4 times the line, and 1 more for the base or 2 more for the overlay.
-fn for_c(refused: PairRefusal) -> Refusal {
+pub fn for_c(refused: PairRefusal) -> Refusal {
     Refusal::at(refused.refusal.number, 4 * refused.refusal.line + refused.text as usize)
-}
-
-/// The combined record, answered as C has it.
-pub fn read_pair_for_c(base: &[u8], overlay: &[u8], record: &mut [u8]) -> Outcome {
-    read_pair(base, overlay, record).map_err(for_c)
 }
 
 /// Where the lines of a module stand, as C has it: 131,072 times where they begin, 2 times where they end, and 1 for the overlay.

@@ -4,19 +4,20 @@ use crate::limits;
 use crate::plan::{Bus, Plan, Planned};
 use crate::refusal::{demand, Refusal};
 use crate::soc::Soc;
-use crate::time::{check_width, times, ModuleTime};
+use crate::time::{check_capture, check_width, times, ModuleTime};
 use crate::units::{Cycles, Wires};
 
-/// Finds the plan for W wires and limit B (refusals 7, 8, 9, 10; the record is good).
-pub fn plan(soc: &Soc, wires: u32, limit: u32) -> Result<Plan, Refusal> {
-    check_width(wires)?;
+/// Finds the plan for W wires, limit B and c capture cycles (refusals 7, 8, 16, 9, 10; the record is good).
+pub fn plan(soc: &Soc, wires: u32, limit: u32, capture: u32) -> Result<Plan, Refusal> {
+    let wires = check_width(wires)?;
     demand((1..=limits::BUSES as u32).contains(&limit), 8)?;
+    let capture = check_capture(capture)?;
     let planned: Vec<u32> = (0..soc.module_count).filter(|&number| soc.modules[number as usize].planned()).collect();
     demand(!planned.is_empty(), 9)?;
     demand(planned.len() <= limits::PLANNED, 10)?;
-    let table: Vec<Vec<ModuleTime>> = planned.iter().map(|&number| times(&soc.modules[number as usize], Wires(wires))).collect();
-    let best = search(&table, Wires(wires), limit);
-    Ok(record(&planned, &table, &best, Wires(wires), limit))
+    let table: Vec<Vec<ModuleTime>> = planned.iter().map(|&number| times(&soc.modules[number as usize], wires, capture)).collect();
+    let best = search(&table, wires, limit);
+    Ok(record(&planned, &table, &best, wires, limit))
 }
 
 /// Widths of the buses, and for each planned module its bus counted from 0.

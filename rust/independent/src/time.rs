@@ -4,7 +4,7 @@ use crate::layout::{layout, layout_for, Layout};
 use crate::limits;
 use crate::refusal::{demand, Refusal};
 use crate::soc::{Module, Soc, Test};
-use crate::units::{Cycles, Wires};
+use crate::units::{Capture, Cycles, Wires};
 
 /// A module's time on a bus, and the fewest wires that give it.
 #[derive(Clone, Copy, Debug, PartialEq, Eq)]
@@ -13,31 +13,33 @@ pub struct ModuleTime {
     pub wires: Wires,
 }
 
-/// The cycles of one test of a module (refusals 7, 13; the record is good).
-pub fn test_time(soc: &Soc, module: u32, test: u32, width: u32) -> Result<Cycles, Refusal> {
-    let (module, test) = asked_test(soc, module, test, width)?;
-    Ok(cycles(&layout(module, test, Wires(width)), test.patterns))
+/// The cycles of one test of a module (refusals 7, 16, 13; the record is good).
+pub fn test_time(soc: &Soc, module: u32, test: u32, width: u32, capture: u32) -> Result<Cycles, Refusal> {
+    let (width, capture) = (check_width(width)?, check_capture(capture)?);
+    let (module, test) = asked_test(soc, module, test)?;
+    Ok(cycles(&layout(module, test, width), test.patterns, capture))
 }
 
-/// The layout of one test of a module (refusals 7, 13; the record is good).
-pub fn test_layout(soc: &Soc, module: u32, test: u32, width: u32) -> Result<Layout, Refusal> {
-    let (module, test) = asked_test(soc, module, test, width)?;
-    Ok(layout(module, test, Wires(width)))
+/// The layout of one test of a module (refusals 7, 16, 13; the record is good). Capture cycles are judged, and move no cell.
+pub fn test_layout(soc: &Soc, module: u32, test: u32, width: u32, capture: u32) -> Result<Layout, Refusal> {
+    let (width, _) = (check_width(width)?, check_capture(capture)?);
+    let (module, test) = asked_test(soc, module, test)?;
+    Ok(layout(module, test, width))
 }
 
-/// The time of a module on a bus of a width (refusals 7, 13; the record is good).
-pub fn module_time(soc: &Soc, module: u32, width: u32) -> Result<ModuleTime, Refusal> {
-    check_width(width)?;
+/// The time of a module on a bus of a width (refusals 7, 16, 13; the record is good).
+pub fn module_time(soc: &Soc, module: u32, width: u32, capture: u32) -> Result<ModuleTime, Refusal> {
+    let (width, capture) = (check_width(width)?, check_capture(capture)?);
     let module = soc.module(module)?;
-    Ok(*times(module, Wires(width)).last().expect("a width is at least 1"))
+    Ok(*times(module, width, capture).last().expect("a width is at least 1"))
 }
 
 /// The times of a module on buses of the widths from 1 to `widest`.
-pub fn times(module: &Module, widest: Wires) -> Vec<ModuleTime> {
+pub fn times(module: &Module, widest: Wires, capture: Capture) -> Vec<ModuleTime> {
     let mut times = Vec::new();
     let mut best: Option<ModuleTime> = None;
     for width in (1..=widest.0).map(Wires) {
-        let figure = figure(module, width);
+        let figure = figure(module, width, capture);
         // Only a smaller figure takes over, so the wires stay the smallest that give it.
         let now = match best {
             Some(best) if best.cycles <= figure => best,
@@ -50,31 +52,37 @@ pub fn times(module: &Module, widest: Wires) -> Vec<ModuleTime> {
 }
 
 /// The sum over the tests with TamUse 1 at this very width.
-pub fn figure(module: &Module, width: Wires) -> Cycles {
+pub fn figure(module: &Module, width: Wires, capture: Capture) -> Cycles {
     let figure_of = |scan_use: bool| {
         let mut tests = module.tests().iter().filter(|test| test.tam_use && test.scan_use == scan_use).peekable();
         if tests.peek().is_none() {
             return Cycles(0);
         }
         let layout = layout_for(module, scan_use, width);
-        tests.map(|test| cycles(&layout, test.patterns)).sum()
+        tests.map(|test| cycles(&layout, test.patterns, capture)).sum()
     };
     figure_of(false) + figure_of(true)
 }
 
-fn cycles(layout: &Layout, patterns: u32) -> Cycles {
+/// (c + max(si, so)) × p + min(si, so).
+fn cycles(layout: &Layout, patterns: u32, capture: Capture) -> Cycles {
     let (scan_in, scan_out) = (u64::from(layout.scan_in().0), u64::from(layout.scan_out().0));
-    Cycles((1 + scan_in.max(scan_out)) * u64::from(patterns) + scan_in.min(scan_out))
+    Cycles((u64::from(capture.0) + scan_in.max(scan_out)) * u64::from(patterns) + scan_in.min(scan_out))
 }
 
-fn asked_test(soc: &Soc, module: u32, test: u32, width: u32) -> Result<(&Module, &Test), Refusal> {
-    check_width(width)?;
+fn asked_test(soc: &Soc, module: u32, test: u32) -> Result<(&Module, &Test), Refusal> {
     let module = soc.module(module)?;
     let index = (test as usize).checked_sub(1).ok_or(Refusal::new(13))?;
     let test = module.tests().get(index).ok_or(Refusal::new(13))?;
     Ok((module, test))
 }
 
-pub fn check_width(width: u32) -> Result<(), Refusal> {
-    demand((1..=limits::WIRES).contains(&width), 7)
+pub fn check_width(width: u32) -> Result<Wires, Refusal> {
+    demand((1..=limits::WIRES).contains(&width), 7)?;
+    Ok(Wires(width))
+}
+
+pub fn check_capture(capture: u32) -> Result<Capture, Refusal> {
+    demand((1..=limits::CAPTURE).contains(&capture), 16)?;
+    Ok(Capture(capture))
 }

@@ -1,4 +1,4 @@
-//! Wires, flip-flops and cycles: three counts that cannot stand for one another.
+//! Wires, flip-flops, cycles and capture cycles: counts that cannot stand for one another.
 
 use std::iter::Sum;
 use std::ops::Add;
@@ -12,6 +12,10 @@ pub struct FlipFlops(pub u32);
 
 #[derive(Clone, Copy, Debug, Default, PartialEq, Eq, PartialOrd, Ord)]
 pub struct Cycles(pub u64);
+
+/// Capture cycles: those between the load and the unload of a pattern, the same for the whole SOC.
+#[derive(Clone, Copy, Debug, PartialEq, Eq, PartialOrd, Ord)]
+pub struct Capture(pub u32);
 
 impl Add for FlipFlops {
     type Output = FlipFlops;

@@ -8,7 +8,7 @@ use independent::limits;
 use independent::planner::{plan, width_lists};
 use independent::soc::Soc;
 use independent::time::{figure, module_time, test_time};
-use independent::units::{Cycles, FlipFlops, Wires};
+use independent::units::{Capture, Cycles, FlipFlops, Wires};
 
 fn one_module(level_line: &str, patterns: u32) -> Soc {
     soc(&format!(
@@ -18,11 +18,11 @@ fn one_module(level_line: &str, patterns: u32) -> Soc {
 }
 
 fn figures(soc: &Soc, widths: std::ops::RangeInclusive<u32>) -> Vec<u64> {
-    widths.map(|width| figure(&soc.modules[0], Wires(width)).0).collect()
+    widths.map(|width| figure(&soc.modules[0], Wires(width), Capture(1)).0).collect()
 }
 
 fn time_and_wires(soc: &Soc, module: u32, width: u32) -> (u64, u32) {
-    let time = module_time(soc, module, width).unwrap();
+    let time = module_time(soc, module, width, 1).unwrap();
     (time.cycles.0, time.wires.0)
 }
 
@@ -107,16 +107,19 @@ fn the_most_that_a_test_and_a_module_take() {
         "SocName largest\nTotalModules 1\nOptions Power 0 XY 0\n\
          Module 0 Level 0 Inputs 8191 Outputs 8191 Bidirs 8191 ScanChains 64 : {chains}\nModule 0 TotalTests 8\n{tests}"
     ));
-    assert_eq!(test_time(&largest, 0, 1, 1), Ok(Cycles(limits::TEST_CYCLES)));
-    assert_eq!(time_and_wires(&largest, 0, 1), (limits::MODULE_CYCLES, 1));
+    assert_eq!(test_time(&largest, 0, 1, 1, 1), Ok(Cycles(4_672_907_640_831)));
+    assert_eq!(time_and_wires(&largest, 0, 1), (37_383_261_126_648, 1));
+    assert_eq!(test_time(&largest, 0, 1, 1, 4), Ok(Cycles(4_672_957_972_476)));
+    assert_eq!(module_time(&largest, 0, 1, 4).unwrap().cycles, Cycles(37_383_663_779_808));
+    assert_eq!((limits::TEST_CYCLES, limits::MODULE_CYCLES), (4_672_957_972_476, 37_383_663_779_808));
 }
 
 #[test]
 fn t1_plans() {
     let t1 = soc(&t1());
-    assert_eq!(plan(&t1, 4, 1).unwrap().time, Cycles(74));
-    assert_eq!(plan(&t1, 1, 3).unwrap().time, Cycles(83));
-    let best = plan(&t1, 4, 3).unwrap();
+    assert_eq!(plan(&t1, 4, 1, 1).unwrap().time, Cycles(74));
+    assert_eq!(plan(&t1, 1, 3, 1).unwrap().time, Cycles(83));
+    let best = plan(&t1, 4, 3, 1).unwrap();
     assert_eq!((best.time, best.bus_count), (Cycles(65), 2));
 }
 
@@ -134,7 +137,7 @@ fn two_copies_go_to_two_buses() {
         module(1),
         module(2)
     ));
-    let best = plan(&two, 2, 2).unwrap();
+    let best = plan(&two, 2, 2, 1).unwrap();
     assert_eq!((best.time, best.modules[0].bus, best.modules[1].bus), (Cycles(65), 1, 2));
 }
 
@@ -168,7 +171,7 @@ fn d695_against_table_9() {
     let (mut equal, mut lower, mut higher) = (0, 0, Vec::new());
     for (wires, two, three) in TABLE_9 {
         for (limit, printed) in [(2, two), (3, three)] {
-            let time = plan(&d695, wires, limit).unwrap().time.0;
+            let time = plan(&d695, wires, limit, 1).unwrap().time.0;
             match time.cmp(&printed) {
                 std::cmp::Ordering::Equal => equal += 1,
                 std::cmp::Ordering::Less => lower += 1,

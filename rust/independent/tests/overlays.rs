@@ -118,19 +118,21 @@ fn entries_work_on_the_combined_record() {
     assert_eq!(write_pair(base, overlay, &mut lent), Ok(text.len() as u64));
     assert_eq!((&lent[..text.len()], lent[text.len()]), (text.as_bytes(), 7));
     let mut lent = vec![7; LAYOUT_BYTES];
-    assert_eq!(layout_pair(base, overlay, 3, 1, 4, &mut lent), Ok(LAYOUT_BYTES as u64));
-    assert_eq!(lent, independent::forms::layout_bytes(&test_layout(&soc, 3, 1, 4).unwrap()));
-    for module in 1..11 {
-        let time = module_time(&soc, module, 9).unwrap();
-        assert_eq!(module_time_pair(base, overlay, module, 9), Ok(time.cycles.0));
-        assert_eq!(module_wires_pair(base, overlay, module, 9), Ok(time.wires.0.into()));
-        assert_eq!(test_time_pair(base, overlay, module, 1, 9), Ok(test_time(&soc, module, 1, 9).unwrap().0));
+    assert_eq!(layout_pair(base, overlay, 3, 1, 4, 2, &mut lent), Ok(LAYOUT_BYTES as u64));
+    assert_eq!(lent, independent::forms::layout_bytes(&test_layout(&soc, 3, 1, 4, 2).unwrap()));
+    for (module, capture) in (1..11).zip([1, 2, 3, 4].into_iter().cycle()) {
+        let time = module_time(&soc, module, 9, capture).unwrap();
+        assert_eq!(module_time_pair(base, overlay, module, 9, capture), Ok(time.cycles.0));
+        assert_eq!(module_wires_pair(base, overlay, module, 9, capture), Ok(time.wires.0.into()));
+        assert_eq!(test_time_pair(base, overlay, module, 1, 9, capture), Ok(test_time(&soc, module, 1, 9, capture).unwrap().0));
     }
     let mut lent = vec![7; PLAN_BYTES];
-    assert_eq!(plan_pair(base, overlay, 16, 2, &mut lent), Ok(PLAN_BYTES as u64));
-    assert_eq!(lent, independent::forms::plan_bytes(&plan(&soc, 16, 2).unwrap()));
+    assert_eq!(plan_pair(base, overlay, 16, 2, 3, &mut lent), Ok(PLAN_BYTES as u64));
+    assert_eq!(lent, independent::forms::plan_bytes(&plan(&soc, 16, 2, 3).unwrap()));
     // On 9 wires module 5 took 21,518 cycles, (1 + 193) × 110 + 178.
-    assert_eq!(module_time_pair(base, overlay, 5, 9), Ok((1 + 193) * 96 + 178));
+    for capture in 1..=4 {
+        assert_eq!(module_time_pair(base, overlay, 5, 9, capture), Ok((u64::from(capture) + 193) * 96 + 178));
+    }
 }
 
 #[test]
@@ -388,23 +390,26 @@ fn what_an_entry_refuses_of_a_good_pair_is_of_neither_text() {
     let mut lent = vec![7; SOC_BYTES];
     assert_eq!(read_pair(base, late, &mut lent[1..]), of(11));
     assert_eq!(write_pair(base, late, &mut lent[..9]), of(11));
-    assert_eq!(layout_pair(base, late, 2, 1, 65, &mut lent), of(7));
-    assert_eq!(layout_pair(base, late, 2, 1, 64, &mut lent), of(13));
+    assert_eq!(layout_pair(base, late, 2, 1, 65, 5, &mut lent), of(7));
+    assert_eq!(layout_pair(base, late, 2, 1, 64, 5, &mut lent), of(16));
+    assert_eq!(layout_pair(base, late, 2, 1, 64, 4, &mut lent), of(13));
     // The overlay has a second test of module 1, and none of module 0.
-    assert_eq!(layout_pair(base, late, 0, 2, 64, &mut lent), of(13));
-    assert_eq!(layout_pair(base, late, 1, 2, 64, &mut lent[..LAYOUT_BYTES - 1]), of(11));
-    assert!(test_time_pair(base, late, 1, 2, 64).is_ok());
-    assert_eq!(test_time_pair(base, late, 1, 3, 64), of(13));
-    assert_eq!(test_time_pair(base, late, 1, 3, 0), of(7));
-    assert_eq!(module_time_pair(base, late, 2, 0), of(7));
-    assert_eq!(module_time_pair(base, late, 2, 1), of(13));
-    assert_eq!(module_wires_pair(base, late, 2, 65), of(7));
-    assert_eq!(module_wires_pair(base, late, 2, 1), of(13));
-    assert_eq!(plan_pair(base, late, 0, 0, &mut lent), of(7));
-    assert_eq!(plan_pair(base, late, 1, 4, &mut lent), of(8));
-    assert_eq!(plan_pair(base, late, 1, 1, &mut lent[..PLAN_BYTES - 1]), of(11));
+    assert_eq!(layout_pair(base, late, 0, 2, 64, 1, &mut lent), of(13));
+    assert_eq!(layout_pair(base, late, 1, 2, 64, 1, &mut lent[..LAYOUT_BYTES - 1]), of(11));
+    assert!(test_time_pair(base, late, 1, 2, 64, 4).is_ok());
+    assert_eq!(test_time_pair(base, late, 1, 3, 64, 4), of(13));
+    assert_eq!(test_time_pair(base, late, 1, 3, 64, 0), of(16));
+    assert_eq!(test_time_pair(base, late, 1, 3, 0, 0), of(7));
+    for (width, capture, number) in [(0, 0, 7), (65, 5, 7), (1, 0, 16), (64, 5, 16), (1, 1, 13), (64, 4, 13)] {
+        assert_eq!(module_time_pair(base, late, 2, width, capture), of(number));
+        assert_eq!(module_wires_pair(base, late, 2, width, capture), of(number));
+    }
+    assert_eq!(plan_pair(base, late, 0, 0, 0, &mut lent), of(7));
+    assert_eq!(plan_pair(base, late, 1, 4, 0, &mut lent), of(8));
+    assert_eq!(plan_pair(base, late, 1, 1, 1, &mut lent[..PLAN_BYTES - 1]), of(11));
     let unplanned = full_overlay().replace("TamUse 1", "TamUse 0");
-    assert_eq!(plan_pair(base, unplanned.as_bytes(), 1, 1, &mut lent), of(9));
+    assert_eq!(plan_pair(base, unplanned.as_bytes(), 1, 1, 5, &mut lent), of(16));
+    assert_eq!(plan_pair(base, unplanned.as_bytes(), 1, 1, 4, &mut lent), of(9));
     assert!(lent.iter().all(|&byte| byte == 7));
 }
 
@@ -422,11 +427,11 @@ fn every_entry_refuses_the_pair_first() {
         let answers = [
             read_pair(base, late, &mut lent),
             write_pair(base, late, &mut lent),
-            layout_pair(base, late, 99, 99, 99, &mut lent),
-            test_time_pair(base, late, 99, 99, 99),
-            module_time_pair(base, late, 99, 99),
-            module_wires_pair(base, late, 99, 99),
-            plan_pair(base, late, 99, 99, &mut lent),
+            layout_pair(base, late, 99, 99, 99, 99, &mut lent),
+            test_time_pair(base, late, 99, 99, 99, 99),
+            module_time_pair(base, late, 99, 99, 99),
+            module_wires_pair(base, late, 99, 99, 99),
+            plan_pair(base, late, 99, 99, 99, &mut lent),
             module_lines(base, late, 99).map(|_| 0),
         ];
         for answer in answers {

@@ -7,10 +7,10 @@ use independent::plan::Plan;
 use independent::planner::{plan, width_lists};
 use independent::soc::Soc;
 use independent::time::{module_time, times};
-use independent::units::Wires;
+use independent::units::{Capture, Wires};
 
 /// Widths, buses from 1, and the time of the first plan of least time, by listing all plans in their order.
-fn by_listing_all(soc: &Soc, wires: u32, limit: u32) -> (Vec<u32>, Vec<u32>, u64) {
+fn by_listing_all(soc: &Soc, wires: u32, limit: u32, capture: u32) -> (Vec<u32>, Vec<u32>, u64) {
     let planned: Vec<u32> = (0..soc.module_count).filter(|&m| soc.modules[m as usize].planned()).collect();
     let mut best: Option<(Vec<u32>, Vec<u32>, u64)> = None;
     for count in 1..=limit.min(wires) {
@@ -19,7 +19,7 @@ fn by_listing_all(soc: &Soc, wires: u32, limit: u32) -> (Vec<u32>, Vec<u32>, u64
                 let buses = digits(code, u64::from(count), planned.len());
                 let mut busy = vec![0; count as usize];
                 for (&module, &bus) in planned.iter().zip(&buses) {
-                    busy[bus] += module_time(soc, module, widths[bus].0).unwrap().cycles.0;
+                    busy[bus] += module_time(soc, module, widths[bus].0, capture).unwrap().cycles.0;
                 }
                 let time = *busy.iter().max().unwrap();
                 if best.as_ref().is_none_or(|best| time < best.2) {
@@ -79,18 +79,19 @@ fn same_as_listing_all_plans() {
     let mut random = Random(7);
     for case in 0..2_000 {
         let soc = random_soc(&mut random);
-        let (wires, limit) = (1 + random.below(9) as u32, 1 + random.below(3) as u32);
-        let found = plan(&soc, wires, limit).unwrap();
-        assert_eq!(choice(&found), by_listing_all(&soc, wires, limit), "case {case}");
+        let [wires, limit, capture] = [9, 3, 4].map(|most| 1 + random.below(most) as u32);
+        let found = plan(&soc, wires, limit, capture).unwrap();
+        assert_eq!(choice(&found), by_listing_all(&soc, wires, limit, capture), "case {case}");
         assert_eq!(found.check(), Ok(()));
     }
 }
 
 /// What the least time is at least: the longest time of a planned module on all the wires, their sum shared out over the buses, and the
 /// sum of the smallest wires × cycles shared out over the wires.
-fn bounds(soc: &Soc, wires: u32, limit: u32) -> [u64; 3] {
+fn bounds(soc: &Soc, wires: u32, limit: u32, capture: u32) -> [u64; 3] {
     let planned = soc.modules().iter().filter(|module| module.planned());
-    let rows: Vec<Vec<u64>> = planned.map(|module| times(module, Wires(wires)).iter().map(|time| time.cycles.0).collect()).collect();
+    let rows: Vec<Vec<u64>> =
+        planned.map(|module| times(module, Wires(wires), Capture(capture)).iter().map(|time| time.cycles.0).collect()).collect();
     let on_all: Vec<u64> = rows.iter().map(|row| *row.last().unwrap()).collect();
     let areas = rows.iter().map(|row| (1..).zip(row).map(|(width, cycles)| width * cycles).min().unwrap());
     let [buses, wires] = [limit, wires].map(u64::from);
@@ -98,14 +99,14 @@ fn bounds(soc: &Soc, wires: u32, limit: u32) -> [u64; 3] {
 }
 
 /// The least times for every number of wires up to `widest` and every limit.
-fn one_more_cannot_hurt(soc: &Soc, widest: u32) {
-    let time = |wires, limit| plan(soc, wires, limit).unwrap().time.0;
+fn one_more_cannot_hurt(soc: &Soc, widest: u32, capture: u32) {
+    let time = |wires, limit| plan(soc, wires, limit, capture).unwrap().time.0;
     for wires in 1..=widest {
         for limit in 1..=3 {
             let least = time(wires, limit);
             assert!(wires == 1 || least <= time(wires - 1, limit), "wires {wires} limit {limit}");
             assert!(limit == 1 || least <= time(wires, limit - 1), "wires {wires} limit {limit}");
-            assert!(bounds(soc, wires, limit).iter().all(|&bound| bound <= least), "wires {wires} limit {limit}");
+            assert!(bounds(soc, wires, limit, capture).iter().all(|&bound| bound <= least), "wires {wires} limit {limit}");
         }
     }
 }
@@ -113,16 +114,16 @@ fn one_more_cannot_hurt(soc: &Soc, widest: u32) {
 #[test]
 fn one_more_wire_or_bus_cannot_hurt() {
     let mut random = Random(10);
-    for _ in 0..300 {
-        one_more_cannot_hurt(&random_soc(&mut random), 12);
+    for case in 0..300 {
+        one_more_cannot_hurt(&random_soc(&mut random), 12, 1 + case % 4);
     }
 }
 
 #[test]
 fn one_more_wire_or_bus_cannot_hurt_d695() {
     let d695 = soc(common::D695);
-    one_more_cannot_hurt(&d695, 64);
-    assert_eq!(bounds(&d695, 16, 3), [12_192, 17_214, 41_232]);
-    assert_eq!(bounds(&d695, 32, 3), [9_869, 12_563, 20_616]);
-    assert_eq!(bounds(&d695, 64, 3), [9_869, 12_081, 10_308]);
+    one_more_cannot_hurt(&d695, 64, 1);
+    assert_eq!(bounds(&d695, 16, 3, 1), [12_192, 17_214, 41_232]);
+    assert_eq!(bounds(&d695, 32, 3, 1), [9_869, 12_563, 20_616]);
+    assert_eq!(bounds(&d695, 64, 3, 1), [9_869, 12_081, 10_308]);
 }

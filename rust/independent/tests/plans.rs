@@ -5,6 +5,7 @@ mod common;
 use common::{soc, t1};
 use independent::entries;
 use independent::forms::{plan_bytes, plan_from, PLAN_BYTES};
+use independent::limits;
 use independent::plan::{Plan, Planned};
 use independent::plan_file;
 use independent::planner::plan;
@@ -18,12 +19,12 @@ fn refusal<T: std::fmt::Debug>(answer: Result<T, Refusal>) -> u8 {
 }
 
 fn best() -> Plan {
-    plan(&soc(&t1()), 4, 2).unwrap()
+    plan(&soc(&t1()), 4, 2, 1).unwrap()
 }
 
 /// Both modules on one bus.
 fn on_one_bus() -> Plan {
-    plan(&soc(&t1()), 4, 1).unwrap()
+    plan(&soc(&t1()), 4, 1, 1).unwrap()
 }
 
 #[test]
@@ -69,6 +70,29 @@ fn a_wrong_place_in_a_plan_record_is_12() {
         assert_eq!(plan.check(), Err(Refusal::new(12)), "fault {index}");
     }
     assert_eq!(refusal(entries::write_plan(&plan_bytes(&best())[..PLAN_BYTES - 1], &mut [0; 292])), 12);
+}
+
+/// Both modules of t1 with so many cycles, each on its bus.
+fn with_cycles(cycles: u64) -> Plan {
+    let mut plan = Plan { time: Cycles(cycles), ..best() };
+    for (module, bus) in plan.modules.iter_mut().zip(&mut plan.buses[..2]) {
+        (module.cycles, bus.busy) = (Cycles(cycles), Cycles(cycles));
+    }
+    plan
+}
+
+#[test]
+fn cycles_are_judged_by_the_most_with_four_capture_cycles() {
+    for good in [1, 37_383_261_126_648, 37_383_261_126_649, limits::MODULE_CYCLES] {
+        let plan = with_cycles(good);
+        assert_eq!(plan.check(), Ok(()), "{good}");
+        assert_eq!(plan_file::read(&plan_file::write(&plan)), Ok(plan));
+    }
+    for bad in [0, limits::MODULE_CYCLES + 1, u64::MAX / 2] {
+        let plan = with_cycles(bad);
+        assert_eq!(plan.check(), Err(Refusal::new(12)), "{bad}");
+        assert_eq!(refusal(plan_file::read(&plan_file::write(&plan))), 12);
+    }
 }
 
 #[test]

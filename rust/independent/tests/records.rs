@@ -94,37 +94,51 @@ fn lengths_and_flags_of_a_soc_record() {
     flag[36] = 2;
     for bad in [&good[..SOC_BYTES - 1], &longer, &flag, &[]] {
         assert_eq!(refusal(entries::write_soc(bad, &mut [0; 9])), 14);
-        assert_eq!(refusal(entries::test_time(bad, 0, 0, 0)), 14);
-        assert_eq!(refusal(entries::module_time(bad, 0, 0)), 14);
-        assert_eq!(refusal(entries::plan(bad, 0, 0, &mut [])), 14);
+        assert_eq!(refusal(entries::test_time(bad, 0, 0, 0, 0)), 14);
+        assert_eq!(refusal(entries::module_time(bad, 0, 0, 0)), 14);
+        assert_eq!(refusal(entries::plan(bad, 0, 0, 0, &mut [])), 14);
     }
 }
 
 #[test]
-fn layout_and_time_refuse_14_then_7_then_13_then_11() {
+fn layout_and_time_refuse_14_then_7_then_16_then_13_then_11() {
     let good = soc_bytes(&soc(&full()));
-    for (module, test, width, number) in [(9, 9, 0, 7), (9, 9, 65, 7), (2, 1, 1, 13), (0, 0, 64, 13), (0, 3, 64, 13), (0, u32::MAX, 64, 13)]
-    {
-        assert_eq!(refusal(entries::layout(&good, module, test, width, &mut [])), number);
-        assert_eq!(refusal(entries::test_time(&good, module, test, width)), number);
+    let asked = [
+        (9, 9, 0, 0, 7),
+        (9, 9, 65, 9, 7),
+        (9, 9, 64, 0, 16),
+        (9, 9, 1, 5, 16),
+        (0, 1, 1, u32::MAX, 16),
+        (2, 1, 1, 1, 13),
+        (0, 0, 64, 4, 13),
+        (0, 3, 64, 1, 13),
+        (0, u32::MAX, 64, 4, 13),
+    ];
+    for (module, test, width, capture, number) in asked {
+        assert_eq!(refusal(entries::layout(&good, module, test, width, capture, &mut [])), number);
+        assert_eq!(refusal(entries::test_time(&good, module, test, width, capture)), number);
     }
-    assert_eq!(refusal(entries::layout(&good, 0, 1, 64, &mut [7; LAYOUT_BYTES - 1])), 11);
-    assert_eq!(refusal(entries::module_time(&good, 2, 65)), 7);
-    assert_eq!(refusal(entries::module_wires(&good, 2, 64)), 13);
+    assert_eq!(refusal(entries::layout(&good, 0, 1, 64, 4, &mut [7; LAYOUT_BYTES - 1])), 11);
+    for (module, width, capture, number) in [(2, 65, 0, 7), (2, 64, 0, 16), (2, 1, 5, 16), (0, 1, 256, 16), (2, 64, 4, 13)] {
+        assert_eq!(refusal(entries::module_time(&good, module, width, capture)), number);
+        assert_eq!(refusal(entries::module_wires(&good, module, width, capture)), number);
+    }
 }
 
 #[test]
 fn a_module_without_a_planned_test_takes_no_time_on_one_wire() {
     let good = soc_bytes(&soc(&full()));
-    assert_eq!((entries::module_time(&good, 0, 64), entries::module_wires(&good, 0, 64)), (Ok(0), Ok(1)));
+    assert_eq!((entries::module_time(&good, 0, 64, 4), entries::module_wires(&good, 0, 64, 4)), (Ok(0), Ok(1)));
 }
 
 #[test]
-fn planner_refuses_7_then_8_then_9_then_10_then_11() {
+fn planner_refuses_7_then_8_then_16_then_9_then_10_then_11() {
     let none = soc_bytes(&soc(&full().replace("TamUse 1", "TamUse 0")));
-    assert_eq!([(0, 0), (65, 4)].map(|(wires, limit)| refusal(entries::plan(&none, wires, limit, &mut []))), [7, 7]);
-    assert_eq!([(64, 0), (1, 4)].map(|(wires, limit)| refusal(entries::plan(&none, wires, limit, &mut []))), [8, 8]);
-    assert_eq!(refusal(entries::plan(&none, 64, 3, &mut [])), 9);
+    let of = |record: &[u8], wires, limit, capture| refusal(entries::plan(record, wires, limit, capture, &mut []));
+    assert_eq!([of(&none, 0, 0, 0), of(&none, 65, 4, 5)], [7, 7]);
+    assert_eq!([of(&none, 64, 0, 0), of(&none, 1, 4, 5)], [8, 8]);
+    assert_eq!([of(&none, 64, 3, 0), of(&none, 1, 1, 5), of(&none, 1, 1, u32::MAX)], [16, 16, 16]);
+    assert_eq!([of(&none, 64, 3, 1), of(&none, 1, 1, 4)], [9, 9]);
     let many = |count: usize| {
         let module = |m: usize| {
             let level = m.min(1);
@@ -136,9 +150,9 @@ fn planner_refuses_7_then_8_then_9_then_10_then_11() {
         let modules: String = (0..count).map(module).collect();
         soc_bytes(&soc(&format!("SocName n\nTotalModules {count}\nOptions Power 0 XY 0\n{modules}")))
     };
-    assert_eq!(refusal(entries::plan(&many(13), 64, 3, &mut [])), 10);
-    assert_eq!(refusal(entries::plan(&many(12), 64, 3, &mut [0; PLAN_BYTES - 1])), 11);
-    assert_eq!(entries::plan(&many(12), 64, 3, &mut [0; PLAN_BYTES]), Ok(PLAN_BYTES as u64));
+    assert_eq!([of(&many(13), 64, 3, 5), of(&many(13), 64, 3, 4)], [16, 10]);
+    assert_eq!(refusal(entries::plan(&many(12), 64, 3, 4, &mut [0; PLAN_BYTES - 1])), 11);
+    assert_eq!(entries::plan(&many(12), 64, 3, 4, &mut [0; PLAN_BYTES]), Ok(PLAN_BYTES as u64));
 }
 
 #[test]

@@ -27,6 +27,7 @@ extern "C" {
         module: u32,
         test: u32,
         width: u32,
+        capture: u32,
         layout: *mut u8,
         layout_len: usize,
     ) -> u64;
@@ -38,6 +39,7 @@ extern "C" {
         module: u32,
         test: u32,
         width: u32,
+        capture: u32,
     ) -> u64;
     pub fn tallowwing_module_time_pair(
         base: *const u8,
@@ -46,6 +48,7 @@ extern "C" {
         overlay_len: usize,
         module: u32,
         width: u32,
+        capture: u32,
     ) -> u64;
     pub fn tallowwing_module_wires_pair(
         base: *const u8,
@@ -54,6 +57,7 @@ extern "C" {
         overlay_len: usize,
         module: u32,
         width: u32,
+        capture: u32,
     ) -> u64;
     pub fn tallowwing_plan_pair(
         base: *const u8,
@@ -62,6 +66,7 @@ extern "C" {
         overlay_len: usize,
         wires: u32,
         limit: u32,
+        capture: u32,
         plan: *mut u8,
         plan_len: usize,
     ) -> u64;
@@ -72,13 +77,22 @@ extern "C" {
         module: u32,
         test: u32,
         width: u32,
+        capture: u32,
         layout: *mut u8,
         layout_len: usize,
     ) -> u64;
-    pub fn tallowwing_test_time(record: *const u8, record_len: usize, module: u32, test: u32, width: u32) -> u64;
-    pub fn tallowwing_module_time(record: *const u8, record_len: usize, module: u32, width: u32) -> u64;
-    pub fn tallowwing_module_wires(record: *const u8, record_len: usize, module: u32, width: u32) -> u64;
-    pub fn tallowwing_plan(record: *const u8, record_len: usize, wires: u32, limit: u32, plan: *mut u8, plan_len: usize) -> u64;
+    pub fn tallowwing_test_time(record: *const u8, record_len: usize, module: u32, test: u32, width: u32, capture: u32) -> u64;
+    pub fn tallowwing_module_time(record: *const u8, record_len: usize, module: u32, width: u32, capture: u32) -> u64;
+    pub fn tallowwing_module_wires(record: *const u8, record_len: usize, module: u32, width: u32, capture: u32) -> u64;
+    pub fn tallowwing_plan(
+        record: *const u8,
+        record_len: usize,
+        wires: u32,
+        limit: u32,
+        capture: u32,
+        plan: *mut u8,
+        plan_len: usize,
+    ) -> u64;
     pub fn tallowwing_write_plan(plan: *const u8, plan_len: usize, file: *mut u8, file_len: usize) -> u64;
     pub fn tallowwing_read_plan(file: *const u8, file_len: usize, plan: *mut u8, plan_len: usize) -> u64;
     pub fn tallowwing_show(plan: *const u8, plan_len: usize, listing: *mut u8, listing_len: usize) -> u64;

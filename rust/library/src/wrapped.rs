@@ -31,33 +31,33 @@ pub fn write_pair(base: &[u8], overlay: &[u8], text: &mut [u8]) -> Answer {
 }
 
 /// Lays out the wrapper of a module of a pair for one of its tests at a width.
-pub fn layout_pair(base: &[u8], overlay: &[u8], module: u32, test: u32, width: u32, layout: &mut [u8]) -> Answer {
+pub fn layout_pair(base: &[u8], overlay: &[u8], module: u32, test: u32, width: u32, capture: u32, layout: &mut [u8]) -> Answer {
     let (b, o, into, room) = (base.as_ptr(), overlay.as_ptr(), layout.as_mut_ptr(), layout.len());
-    Answer::from_number(unsafe { tallowwing_layout_pair(b, base.len(), o, overlay.len(), module, test, width, into, room) })
+    Answer::from_number(unsafe { tallowwing_layout_pair(b, base.len(), o, overlay.len(), module, test, width, capture, into, room) })
 }
 
 /// The cycles of one test of a module of a pair at a width.
-pub fn test_time_pair(base: &[u8], overlay: &[u8], module: u32, test: u32, width: u32) -> Answer {
+pub fn test_time_pair(base: &[u8], overlay: &[u8], module: u32, test: u32, width: u32, capture: u32) -> Answer {
     let (b, o) = (base.as_ptr(), overlay.as_ptr());
-    Answer::from_number(unsafe { tallowwing_test_time_pair(b, base.len(), o, overlay.len(), module, test, width) })
+    Answer::from_number(unsafe { tallowwing_test_time_pair(b, base.len(), o, overlay.len(), module, test, width, capture) })
 }
 
 /// The time, in cycles, of a module of a pair on a bus of a width.
-pub fn module_time_pair(base: &[u8], overlay: &[u8], module: u32, width: u32) -> Answer {
+pub fn module_time_pair(base: &[u8], overlay: &[u8], module: u32, width: u32, capture: u32) -> Answer {
     let (b, o) = (base.as_ptr(), overlay.as_ptr());
-    Answer::from_number(unsafe { tallowwing_module_time_pair(b, base.len(), o, overlay.len(), module, width) })
+    Answer::from_number(unsafe { tallowwing_module_time_pair(b, base.len(), o, overlay.len(), module, width, capture) })
 }
 
 /// The fewest wires that give the time of a module of a pair on a bus of a width.
-pub fn module_wires_pair(base: &[u8], overlay: &[u8], module: u32, width: u32) -> Answer {
+pub fn module_wires_pair(base: &[u8], overlay: &[u8], module: u32, width: u32, capture: u32) -> Answer {
     let (b, o) = (base.as_ptr(), overlay.as_ptr());
-    Answer::from_number(unsafe { tallowwing_module_wires_pair(b, base.len(), o, overlay.len(), module, width) })
+    Answer::from_number(unsafe { tallowwing_module_wires_pair(b, base.len(), o, overlay.len(), module, width, capture) })
 }
 
 /// Finds the first plan of least time of a pair for W wires and limit B.
-pub fn plan_pair(base: &[u8], overlay: &[u8], wires: u32, limit: u32, plan: &mut [u8]) -> Answer {
+pub fn plan_pair(base: &[u8], overlay: &[u8], wires: u32, limit: u32, capture: u32, plan: &mut [u8]) -> Answer {
     let (b, o, into, room) = (base.as_ptr(), overlay.as_ptr(), plan.as_mut_ptr(), plan.len());
-    Answer::from_number(unsafe { tallowwing_plan_pair(b, base.len(), o, overlay.len(), wires, limit, into, room) })
+    Answer::from_number(unsafe { tallowwing_plan_pair(b, base.len(), o, overlay.len(), wires, limit, capture, into, room) })
 }
 
 /// Writes the written form of a SOC record.
@@ -65,29 +65,30 @@ pub fn write_soc(record: &[u8], text: &mut [u8]) -> Answer {
     Answer::from_number(unsafe { tallowwing_write_soc(record.as_ptr(), record.len(), text.as_mut_ptr(), text.len()) })
 }
 
-/// Lays out the wrapper of a module for one of its tests at a width.
-pub fn layout(record: &[u8], module: u32, test: u32, width: u32, layout: &mut [u8]) -> Answer {
-    Answer::from_number(unsafe { tallowwing_layout(record.as_ptr(), record.len(), module, test, width, layout.as_mut_ptr(), layout.len()) })
+/// Lays out the wrapper of a module for one of its tests at a width. The layout is the same at each number of capture cycles.
+pub fn layout(record: &[u8], module: u32, test: u32, width: u32, capture: u32, layout: &mut [u8]) -> Answer {
+    let (r, l) = (record.as_ptr(), layout.as_mut_ptr());
+    Answer::from_number(unsafe { tallowwing_layout(r, record.len(), module, test, width, capture, l, layout.len()) })
 }
 
-/// The cycles of one test of a module at a width.
-pub fn test_time(record: &[u8], module: u32, test: u32, width: u32) -> Answer {
-    Answer::from_number(unsafe { tallowwing_test_time(record.as_ptr(), record.len(), module, test, width) })
+/// The cycles of one test of a module at a width, with so many capture cycles for each pattern.
+pub fn test_time(record: &[u8], module: u32, test: u32, width: u32, capture: u32) -> Answer {
+    Answer::from_number(unsafe { tallowwing_test_time(record.as_ptr(), record.len(), module, test, width, capture) })
 }
 
 /// A module's time, in cycles, on a bus of a width.
-pub fn module_time(record: &[u8], module: u32, width: u32) -> Answer {
-    Answer::from_number(unsafe { tallowwing_module_time(record.as_ptr(), record.len(), module, width) })
+pub fn module_time(record: &[u8], module: u32, width: u32, capture: u32) -> Answer {
+    Answer::from_number(unsafe { tallowwing_module_time(record.as_ptr(), record.len(), module, width, capture) })
 }
 
 /// The fewest wires that give a module's time on a bus of a width.
-pub fn module_wires(record: &[u8], module: u32, width: u32) -> Answer {
-    Answer::from_number(unsafe { tallowwing_module_wires(record.as_ptr(), record.len(), module, width) })
+pub fn module_wires(record: &[u8], module: u32, width: u32, capture: u32) -> Answer {
+    Answer::from_number(unsafe { tallowwing_module_wires(record.as_ptr(), record.len(), module, width, capture) })
 }
 
 /// Finds the first plan of least time for W wires and limit B.
-pub fn plan(record: &[u8], wires: u32, limit: u32, plan: &mut [u8]) -> Answer {
-    Answer::from_number(unsafe { tallowwing_plan(record.as_ptr(), record.len(), wires, limit, plan.as_mut_ptr(), plan.len()) })
+pub fn plan(record: &[u8], wires: u32, limit: u32, capture: u32, plan: &mut [u8]) -> Answer {
+    Answer::from_number(unsafe { tallowwing_plan(record.as_ptr(), record.len(), wires, limit, capture, plan.as_mut_ptr(), plan.len()) })
 }
 
 /// Writes the plan file of a plan record.
@@ -105,7 +106,7 @@ pub fn show(plan: &[u8], listing: &mut [u8]) -> Answer {
     Answer::from_number(unsafe { tallowwing_show(plan.as_ptr(), plan.len(), listing.as_mut_ptr(), listing.len()) })
 }
 
-/// Lists the plan for a line `Plan W B` and the SOC text behind it, or the line `refused N line L`.
+/// Lists the plan for a line `Plan W B`, or `Plan W B C` with C capture cycles, and the SOC text behind it, or the line `refused N line L`.
 pub fn listing(input: &[u8], listing: &mut [u8]) -> Answer {
     Answer::from_number(unsafe { tallowwing_listing(input.as_ptr(), input.len(), listing.as_mut_ptr(), listing.len()) })
 }

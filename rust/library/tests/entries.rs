@@ -26,11 +26,29 @@ fn text_goes_to_the_record_and_back() {
 #[test]
 fn times_of_t1() {
     let (record, mut lent) = (record(), [0; LAYOUT_BYTES]);
-    assert_eq!(layout(&record, 1, 1, 2, &mut lent), Answer::Figure(LAYOUT_BYTES as u64));
+    assert_eq!(layout(&record, 1, 1, 2, 1, &mut lent), Answer::Figure(LAYOUT_BYTES as u64));
     assert_eq!(lent[..8], [10, 0, 0, 0, 0, 0, 0, 0]);
-    assert_eq!(test_time(&record, 2, 1, 2), Answer::Figure(13));
-    assert_eq!(module_time(&record, 2, 4), Answer::Figure(9));
-    assert_eq!(module_wires(&record, 2, 4), Answer::Figure(3));
+    assert_eq!(test_time(&record, 2, 1, 2, 1), Answer::Figure(13));
+    assert_eq!(module_time(&record, 2, 4, 1), Answer::Figure(9));
+    assert_eq!(module_wires(&record, 2, 4, 1), Answer::Figure(3));
+}
+
+#[test]
+fn more_capture_cycles_take_longer() {
+    let (record, mut lent) = (record(), [0; PLAN_BYTES]);
+    let taken = |capture| [test_time(&record, 2, 1, 2, capture), module_time(&record, 2, 4, capture), module_wires(&record, 2, 4, capture)];
+    assert_eq!(taken(2), [17, 13, 3].map(Answer::Figure));
+    assert_eq!(taken(4), [25, 21, 3].map(Answer::Figure));
+    assert_eq!([taken(0), taken(5)], [[refused(16); 3]; 2]);
+    for (capture, time) in [(2, 70), (4, 80)] {
+        assert!(plan(&record, 4, 2, capture, &mut lent).figure().is_some());
+        assert_eq!(PlanView::new(&lent).time(), time);
+    }
+    assert_eq!((plan(&record, 4, 2, 5, &mut lent), plan(&record, 4, 4, 5, &mut lent)), (refused(16), refused(8)));
+    let mut layouts = [[0; LAYOUT_BYTES]; 2];
+    assert!((1..).zip(&mut layouts).all(|(capture, lent)| layout(&record, 1, 1, 2, capture, lent).figure().is_some()));
+    assert_eq!(layouts[0], layouts[1]);
+    assert_eq!(layout(&record, 9, 1, 2, 0, &mut layouts[0]), refused(16));
 }
 
 /// An overlay on t1 whose module 1 has a longer chain.
@@ -45,13 +63,13 @@ fn entries_on_a_pair_answer_as_on_its_record() {
     assert_eq!(write_pair(T1, LATE, &mut text), write_soc(&both, &mut again));
     assert_eq!(text, again);
     let (mut laid, mut due) = ([0; LAYOUT_BYTES], [0; LAYOUT_BYTES]);
-    assert_eq!(layout_pair(T1, LATE, 1, 1, 2, &mut laid), layout(&both, 1, 1, 2, &mut due));
+    assert_eq!(layout_pair(T1, LATE, 1, 1, 2, 1, &mut laid), layout(&both, 1, 1, 2, 1, &mut due));
     assert_eq!(laid, due);
-    assert_eq!(test_time_pair(T1, LATE, 1, 1, 1), Answer::Figure(125));
-    assert_eq!(module_time_pair(T1, LATE, 1, 4), Answer::Figure(125));
-    assert_eq!(module_wires_pair(T1, LATE, 1, 4), Answer::Figure(1));
+    assert_eq!(test_time_pair(T1, LATE, 1, 1, 1, 1), Answer::Figure(125));
+    assert_eq!(module_time_pair(T1, LATE, 1, 4, 1), Answer::Figure(125));
+    assert_eq!(module_wires_pair(T1, LATE, 1, 4, 1), Answer::Figure(1));
     let (mut planned, mut alone) = ([0; PLAN_BYTES], [0; PLAN_BYTES]);
-    assert_eq!(plan_pair(T1, LATE, 4, 2, &mut planned), plan(&both, 4, 2, &mut alone));
+    assert_eq!(plan_pair(T1, LATE, 4, 2, 1, &mut planned), plan(&both, 4, 2, 1, &mut alone));
     assert_eq!((planned, PlanView::new(&planned).time()), (alone, 125));
 }
 
@@ -59,24 +77,24 @@ fn entries_on_a_pair_answer_as_on_its_record() {
 fn a_refusal_of_a_pair_has_the_text_below_its_line() {
     let of = |number: u8, line: u64, text: u64| Answer::Refused { number, line: 4 * line + text };
     let mut lent = [7; PLAN_BYTES];
-    assert_eq!(plan_pair(LATE, LATE, 0, 0, &mut lent), of(3, 1, 1));
-    assert_eq!(plan_pair(T1, T1, 0, 0, &mut lent), of(3, 1, 2));
+    assert_eq!(plan_pair(LATE, LATE, 0, 0, 1, &mut lent), of(3, 1, 1));
+    assert_eq!(plan_pair(T1, T1, 0, 0, 1, &mut lent), of(3, 1, 2));
     let other = [b"Overlay t2\n", &LATE[11..]].concat();
-    assert_eq!(plan_pair(T1, &other, 0, 0, &mut lent), of(15, 0, 2));
-    assert_eq!(plan_pair(T1, LATE, 0, 0, &mut lent), of(7, 0, 0));
-    assert_eq!(plan_pair(T1, LATE, 4, 2, &mut lent[..9]), of(11, 0, 0));
+    assert_eq!(plan_pair(T1, &other, 0, 0, 1, &mut lent), of(15, 0, 2));
+    assert_eq!(plan_pair(T1, LATE, 0, 0, 1, &mut lent), of(7, 0, 0));
+    assert_eq!(plan_pair(T1, LATE, 4, 2, 1, &mut lent[..9]), of(11, 0, 0));
     assert_eq!(write_pair(T1, &other, &mut lent), of(15, 0, 2));
-    assert_eq!(layout_pair(T1, LATE, 1, 2, 1, &mut lent), of(13, 0, 0));
-    assert_eq!(test_time_pair(&[], LATE, 1, 1, 1), of(6, 0, 1));
-    assert_eq!(module_time_pair(T1, &[], 1, 1), of(6, 0, 2));
-    assert_eq!(module_wires_pair(T1, LATE, 3, 1), of(13, 0, 0));
+    assert_eq!(layout_pair(T1, LATE, 1, 2, 1, 1, &mut lent), of(13, 0, 0));
+    assert_eq!(test_time_pair(&[], LATE, 1, 1, 1, 1), of(6, 0, 1));
+    assert_eq!(module_time_pair(T1, &[], 1, 1, 1), of(6, 0, 2));
+    assert_eq!(module_wires_pair(T1, LATE, 3, 1, 1), of(13, 0, 0));
     assert_eq!(lent, [7; PLAN_BYTES]);
 }
 
 #[test]
 fn plan_goes_to_the_file_and_back() {
     let (mut planned, mut file, mut again) = ([0; PLAN_BYTES], [0; PLAN_FILE_MAX], [0; PLAN_BYTES]);
-    assert_eq!(plan(&record(), 4, 2, &mut planned), Answer::Figure(PLAN_BYTES as u64));
+    assert_eq!(plan(&record(), 4, 2, 1, &mut planned), Answer::Figure(PLAN_BYTES as u64));
     assert_eq!(write_plan(&planned, &mut file), Answer::Figure(80));
     assert_eq!(read_plan(&file[..80], &mut again), Answer::Figure(PLAN_BYTES as u64));
     assert_eq!(planned, again);
@@ -85,7 +103,7 @@ fn plan_goes_to_the_file_and_back() {
 #[test]
 fn a_plan_record_is_shown_as_it_is_listed() {
     let (mut planned, mut shown, mut listed) = ([0; PLAN_BYTES], [0; LISTING_MAX], [0; LISTING_MAX]);
-    assert_eq!(plan(&record(), 4, 2, &mut planned), Answer::Figure(PLAN_BYTES as u64));
+    assert_eq!(plan(&record(), 4, 2, 1, &mut planned), Answer::Figure(PLAN_BYTES as u64));
     let length = show(&planned, &mut shown).figure().expect("a good record") as usize;
     assert!(listing(&[b"Plan 4 2\n", T1].concat(), &mut listed).figure().is_some());
     assert_eq!([b"soc t1 ", &shown[..length]].concat(), listed[..length + 7]);
@@ -101,24 +119,24 @@ fn views_read_figures_by_name() {
     assert_eq!([0, 1, 2, 3].map(counts), [Some((0, 0, false)), Some((1, 1, true)), Some((0, 1, true)), None]);
 
     let mut bytes = [0; LAYOUT_BYTES];
-    assert!(layout(&record, 2, 1, 2, &mut bytes).figure().is_some());
+    assert!(layout(&record, 2, 1, 2, 1, &mut bytes).figure().is_some());
     assert_eq!(LayoutView::new(&bytes).chain(1), Chain { flip_flops: 0, input_cells: 2, output_cells: 1, bidir_cells: 0 });
-    assert!(layout(&record, 1, 1, 2, &mut bytes).figure().is_some());
+    assert!(layout(&record, 1, 1, 2, 1, &mut bytes).figure().is_some());
     assert_eq!(LayoutView::new(&bytes).wrapper_chain(1), 1);
     let mut with_bidirs = record;
     with_bidirs[places::soc::module(2) + places::module::BIDIRS] = 3;
-    assert!(layout(&with_bidirs, 2, 1, 2, &mut bytes).figure().is_some());
+    assert!(layout(&with_bidirs, 2, 1, 2, 1, &mut bytes).figure().is_some());
     assert_eq!(LayoutView::new(&bytes).chain(1), Chain { flip_flops: 0, input_cells: 1, output_cells: 1, bidir_cells: 2 });
 
     let mut bytes = [0; PLAN_BYTES];
-    assert!(plan(&record, 4, 2, &mut bytes).figure().is_some());
+    assert!(plan(&record, 4, 2, 1, &mut bytes).figure().is_some());
     let view = PlanView::new(&bytes);
     assert_eq!((view.wires(), view.limit(), view.time()), (4, 2, 65));
     assert_eq!(view.buses().collect::<Vec<_>>(), [Bus { width: 1, busy: 65 }, Bus { width: 3, busy: 9 }]);
     let first = Planned { number: 1, bus: 1, wires: 1, cycles: 65, start: 0 };
     assert_eq!(view.modules().collect::<Vec<_>>(), [first, Planned { number: 2, bus: 2, wires: 3, cycles: 9, start: 0 }]);
 
-    assert!(plan(&record, 4, 1, &mut bytes).figure().is_some());
+    assert!(plan(&record, 4, 1, 1, &mut bytes).figure().is_some());
     let modules: Vec<Planned> = PlanView::new(&bytes).modules().collect();
     assert_eq!(modules, [first, Planned { number: 2, bus: 1, wires: 3, cycles: 9, start: 65 }]);
 }
@@ -128,11 +146,11 @@ fn empty_slices_are_refused_and_no_more() {
     assert_eq!(read_soc(&[], &mut []), refused(6));
     assert_eq!(read_soc(T1, &mut []), refused(11));
     assert_eq!(write_soc(&[], &mut []), refused(14));
-    assert_eq!(layout(&[], 0, 0, 0, &mut []), refused(14));
-    assert_eq!(test_time(&[], 0, 0, 0), refused(14));
-    assert_eq!(module_time(&[], 0, 0), refused(14));
-    assert_eq!(module_wires(&[], 0, 0), refused(14));
-    assert_eq!(plan(&[], 0, 0, &mut []), refused(14));
+    assert_eq!(layout(&[], 0, 0, 0, 0, &mut []), refused(14));
+    assert_eq!(test_time(&[], 0, 0, 0, 0), refused(14));
+    assert_eq!(module_time(&[], 0, 0, 0), refused(14));
+    assert_eq!(module_wires(&[], 0, 0, 0), refused(14));
+    assert_eq!(plan(&[], 0, 0, 0, &mut []), refused(14));
     assert_eq!(write_plan(&[], &mut []), refused(12));
     assert_eq!(read_plan(&[], &mut []), refused(12));
     assert_eq!(show(&[], &mut []), refused(12));

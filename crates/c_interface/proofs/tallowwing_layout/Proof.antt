@@ -10,8 +10,12 @@ use Rattle.c_interface.proofs.tallowwing_layout.Statement.{statement}
 use Rattle.c_interface.proofs.tallowwing_layout.Tie as tie
 
 -- what the call answers, for the record in the bytes
-same : (t : tie.After-layout) → let s = t .before .before .before .before in t .layout .result ≡ layoutAnswer (socIn (s .args .soc .now)) (s .args .«module») (s .args .test) (s .args .width)
-same t = let s = t .before .before .before .before in t .layout .ensures ∙ ap (λ d. layoutAnswer d (s .args .«module») (s .args .test) (s .args .width)) (t .before .soc-in .ensures)
+same : (t : tie.After-layout) →
+    let a = t .before .before .before .before .args in
+    t .layout .result ≡ layoutAnswer (socIn (a .soc .now)) (a .«module») (a .test) (a .width) (a .capture)
+same t =
+    let a = t .before .before .before .before .args in
+    t .layout .ensures ∙ ap (λ d. layoutAnswer d (a .«module») (a .test) (a .width) (a .capture)) (t .before .soc-in .ensures)
 
 soc-in-requires : tie.Need-soc-in-requires
 soc-in-requires c κs = search needs

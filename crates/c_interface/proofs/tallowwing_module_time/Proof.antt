@@ -18,8 +18,9 @@ code-of-requires c κs = search needs
 returns : tie.Need-returns
 returns c =
     let t = c .before in
-    let s = t .before .before .before in
-    c .code-of .ensures ∙ ap (λ a. code (a .refusal) (a .cycles .0)) (t .module-time .ensures ∙ ap (λ d. moduleTimeAnswer d (s .args .«module») (s .args .width)) (t .before .soc-in .ensures))
+    let a = t .before .before .before .args in
+    let e = t .module-time .ensures ∙ ap (λ d. moduleTimeAnswer d (a .«module») (a .width) (a .capture)) (t .before .soc-in .ensures) in
+    c .code-of .ensures ∙ ap (λ r. code (r .refusal) (r .cycles .0)) e
 
 pub tallowwing-module-time-spec : {M : Type 1} → statement M
 tallowwing-module-time-spec =

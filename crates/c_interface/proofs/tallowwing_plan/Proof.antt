@@ -10,8 +10,12 @@ use Rattle.c_interface.proofs.tallowwing_plan.Statement.{statement}
 use Rattle.c_interface.proofs.tallowwing_plan.Tie as tie
 
 -- what the call answers, for the record in the bytes
-same : (t : tie.After-plan) → let s = t .before .before .before .before in t .plan .result ≡ planAnswer (socIn (s .args .soc .now)) (s .args .wires) (s .args .limit)
-same t = let s = t .before .before .before .before in t .plan .ensures ∙ ap (λ d. planAnswer d (s .args .wires) (s .args .limit)) (t .before .soc-in .ensures)
+same : (t : tie.After-plan) →
+    let a = t .before .before .before .before .args in
+    t .plan .result ≡ planAnswer (socIn (a .soc .now)) (a .wires) (a .limit) (a .capture)
+same t =
+    let a = t .before .before .before .before .args in
+    t .plan .ensures ∙ ap (λ d. planAnswer d (a .wires) (a .limit) (a .capture)) (t .before .soc-in .ensures)
 
 soc-in-requires : tie.Need-soc-in-requires
 soc-in-requires c κs = search needs

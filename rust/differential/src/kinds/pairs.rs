@@ -1,28 +1,14 @@
-//! Cases of a SOC text and an overlay. The input holds the one behind the other.
+//! Cases of a SOC text and an overlay.
 
 use independent::soc::Soc;
 
 use super::plans::any_plan_numbers;
-use super::records::any_width;
+use super::records::{any_capture, any_width};
 use crate::at_limits::limit_in_lines;
 use crate::case::{Case, Entry};
 use crate::damage_text::{damage_bytes, damage_lines};
 use crate::make_soc::{any_shape, field_lines, make_soc, styled, Shape};
 use crate::random::Random;
-
-/// The entries that a pair is put to, those that judge it alone more often.
-const ASKED: [Entry; 10] = [
-    Entry::ReadPair,
-    Entry::ReadPair,
-    Entry::ModuleLines,
-    Entry::ModuleLines,
-    Entry::WritePair,
-    Entry::LayoutPair,
-    Entry::TestTimePair,
-    Entry::ModuleTimePair,
-    Entry::ModuleWiresPair,
-    Entry::PlanPair,
-];
 
 type Lines = Vec<Vec<String>>;
 
@@ -51,16 +37,25 @@ fn changed(soc: &Soc, random: &mut Random) -> Soc {
     other
 }
 
-fn case(soc: &Soc, base: Vec<u8>, overlay: Vec<u8>, random: &mut Random) -> Case {
-    let entry = *random.pick(&ASKED);
-    let module = random.within(0, soc.module_count);
+/// What is asked of the combined description, beside the description itself.
+const ASKED: &[Entry] =
+    &[Entry::WritePair, Entry::LayoutPair, Entry::TestTimePair, Entry::ModuleTimePair, Entry::ModuleWiresPair, Entry::PlanPair];
+
+/// Every entry that takes a pair judges it in the same way.
+fn case(soc: &Soc, base: &[u8], overlay: &[u8], random: &mut Random) -> Case {
+    let entry = *if random.chance(50) { random.pick(&[Entry::ReadPair, Entry::ModuleLines]) } else { random.pick(ASKED) };
+    let (module, test) = (random.within(0, soc.module_count), random.within(0, 3));
     let numbers = match entry {
-        Entry::LayoutPair | Entry::TestTimePair => [module, random.within(0, 2), any_width(random)],
-        Entry::ModuleTimePair | Entry::ModuleWiresPair => [module, any_width(random), 0],
-        Entry::PlanPair => any_plan_numbers(random),
-        _ => [module, 0, 0],
+        Entry::ReadPair | Entry::WritePair => [0; 4],
+        Entry::ModuleLines => [module, 0, 0, 0],
+        Entry::LayoutPair | Entry::TestTimePair => [module, test, any_width(random), any_capture(random)],
+        Entry::PlanPair => {
+            let [wires, limit, capture] = any_plan_numbers(random);
+            [wires, limit, capture, 0]
+        }
+        _ => [module, any_width(random), any_capture(random), 0],
     };
-    Case { overlay: base.len(), ..Case::new(entry, numbers, [base, overlay].concat()) }
+    Case::of_pair(entry, numbers, base, overlay)
 }
 
 /// The lines of both texts, which fit.
@@ -75,7 +70,7 @@ fn fitting(random: &mut Random) -> (Soc, Lines, Lines) {
 pub fn pair_good(random: &mut Random) -> Case {
     let (soc, base, overlay) = fitting(random);
     let (base, overlay) = (styled(&base, random), styled(&overlay, random));
-    case(&soc, base, overlay, random)
+    case(&soc, &base, &overlay, random)
 }
 
 pub fn pair_damaged(random: &mut Random) -> Case {
@@ -90,14 +85,14 @@ pub fn pair_damaged(random: &mut Random) -> Case {
     if random.chance(15) {
         damage_bytes(&mut overlay, random);
     }
-    case(&soc, base, overlay, random)
+    case(&soc, &base, &overlay, random)
 }
 
 pub fn pair_limits(random: &mut Random) -> Case {
     let (soc, base, mut overlay) = fitting(random);
     limit_in_lines(&mut overlay, random);
     let (base, overlay) = (styled(&base, random), styled(&overlay, random));
-    case(&soc, base, overlay, random)
+    case(&soc, &base, &overlay, random)
 }
 
 /// An overlay of another record: name, options, modules and levels may differ.
@@ -109,5 +104,5 @@ pub fn pair_unfit(random: &mut Random) -> Case {
     }
     let lines = if random.chance(80) { overlay_lines(&other, random) } else { overlay };
     let (base, overlay) = (styled(&base, random), styled(&lines, random));
-    case(&soc, base, overlay, random)
+    case(&soc, &base, &overlay, random)
 }

@@ -3,6 +3,7 @@
 use independent::forms::soc_bytes;
 use independent::limits;
 
+use super::records::any_capture;
 use crate::case::{Case, Entry};
 use crate::damage_record::damage_any;
 use crate::make_plan::LoosePlan;
@@ -20,7 +21,7 @@ pub fn planned_shape(random: &mut Random) -> Shape {
     Shape { modules: (planned + random.within(0, 3)).max(1), planned, large: random.chance(3) }
 }
 
-/// Few wires, so that no case takes long; the refusals of W and B now and then.
+/// W, B and c: few wires, so that no case takes long; the refusals of each now and then.
 pub fn any_plan_numbers(random: &mut Random) -> [u32; 3] {
     let wires = match random.below(20) {
         0 => *random.pick(&[0, 65, 4_294_967_295]),
@@ -28,7 +29,7 @@ pub fn any_plan_numbers(random: &mut Random) -> [u32; 3] {
         _ => random.within(1, 12),
     };
     let limit = if random.chance(5) { *random.pick(&[0, 4, 5, 4_294_967_295]) } else { random.within(1, 3) };
-    [wires, limit, 0]
+    [wires, limit, any_capture(random)]
 }
 
 pub fn plan_small(random: &mut Random) -> Case {
@@ -38,7 +39,7 @@ pub fn plan_small(random: &mut Random) -> Case {
 
 pub fn plan_large(random: &mut Random) -> Case {
     let shape = Shape { modules: random.within(12, 14), planned: limits::PLANNED as u32, large: false };
-    Case::new(Entry::Plan, [limits::WIRES, limits::BUSES as u32, 0], soc_bytes(&make_soc(shape, random)))
+    Case::new(Entry::Plan, [limits::WIRES, limits::BUSES as u32, random.within(1, limits::CAPTURE)], soc_bytes(&make_soc(shape, random)))
 }
 
 pub fn plan_record_good(random: &mut Random) -> Case {
@@ -60,11 +61,21 @@ pub fn plan_record_damaged(random: &mut Random) -> Case {
 
 /// Every entry that takes a plan record judges it in the same way.
 fn handed_to_any(record: Vec<u8>, random: &mut Random) -> Case {
-    Case::new(*random.pick(&[Entry::WritePlan, Entry::Show]), [0; 3], record)
+    Case::new(*random.pick(&[Entry::WritePlan, Entry::Show]), [], record)
+}
+
+/// Modules whose cycles lie about the most there are, and about the most with one capture cycle.
+pub fn plan_most_cycles(random: &mut Random) -> Case {
+    let mut plan = LoosePlan::good(random);
+    plan.raise_cycles(random);
+    if random.chance(50) {
+        return handed_to_any(plan.record(), random);
+    }
+    Case::new(Entry::ReadPlan, [], plan.file())
 }
 
 pub fn plan_file_good(random: &mut Random) -> Case {
-    Case::new(Entry::ReadPlan, [0; 3], LoosePlan::good(random).file())
+    Case::new(Entry::ReadPlan, [], LoosePlan::good(random).file())
 }
 
 /// A file of the old 12-byte records, good by the rules of its time, or with a rule broken.
@@ -73,7 +84,7 @@ pub fn plan_file_old(random: &mut Random) -> Case {
     if random.chance(30) {
         plan.damage(random);
     }
-    Case::new(Entry::ReadPlan, [0; 3], plan.old_file())
+    Case::new(Entry::ReadPlan, [], plan.old_file())
 }
 
 pub fn plan_file_damaged(random: &mut Random) -> Case {
@@ -86,5 +97,5 @@ pub fn plan_file_damaged(random: &mut Random) -> Case {
     if !among_figures {
         damage_any(&mut file, random);
     }
-    Case::new(Entry::ReadPlan, [0; 3], file)
+    Case::new(Entry::ReadPlan, [], file)
 }

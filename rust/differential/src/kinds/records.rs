@@ -15,7 +15,7 @@ pub fn any_record(random: &mut Random) -> Vec<u8> {
 }
 
 pub fn soc_good(random: &mut Random) -> Case {
-    Case::new(Entry::WriteSoc, [0; 3], any_record(random))
+    Case::new(Entry::WriteSoc, [], any_record(random))
 }
 
 pub fn soc_damaged(random: &mut Random) -> Case {
@@ -33,11 +33,12 @@ pub fn soc_limits(random: &mut Random) -> Case {
 /// Every entry that takes a SOC record judges it in the same way.
 fn handed_to_any(record: Vec<u8>, random: &mut Random) -> Case {
     let entry = *random.pick(&[Entry::WriteSoc, Entry::Layout, Entry::TestTime, Entry::ModuleTime, Entry::ModuleWires, Entry::Plan]);
+    let capture = any_capture(random);
     let numbers = match entry {
-        Entry::WriteSoc => [0; 3],
-        Entry::Layout | Entry::TestTime => [random.within(0, 2), random.within(0, 2), random.within(0, 9)],
-        Entry::Plan => [random.within(0, 6), random.within(0, 3), 0],
-        _ => [random.within(0, 2), random.within(0, 9), 0],
+        Entry::WriteSoc => [0; 4],
+        Entry::Layout | Entry::TestTime => [random.within(0, 2), random.within(0, 2), random.within(0, 9), capture],
+        Entry::Plan => [random.within(0, 6), random.within(0, 3), capture, 0],
+        _ => [random.within(0, 2), random.within(0, 9), capture, 0],
     };
     Case::new(entry, numbers, record)
 }
@@ -48,6 +49,15 @@ pub fn any_width(random: &mut Random) -> u32 {
         1 => limits::WIRES,
         2..=5 => random.within(1, limits::WIRES),
         _ => random.within(1, 12),
+    }
+}
+
+/// Mostly from 1 to 4, now and then just outside or far from it.
+pub fn any_capture(random: &mut Random) -> u32 {
+    match random.below(20) {
+        0 => *random.pick(&[255, 256, 257, 65_537, 4_294_967_295]),
+        1..=2 => *random.pick(&[0, limits::CAPTURE + 1, limits::CAPTURE + 2]),
+        _ => random.within(1, limits::CAPTURE),
     }
 }
 
@@ -73,7 +83,7 @@ pub fn asks_a_test(entry: Entry, random: &mut Random) -> Case {
     let record = any_record(random);
     let module = any_module(&record, random);
     let test = any_test(&record, module.min(39), random);
-    Case::new(entry, [module, test, any_width(random)], record)
+    Case::new(entry, [module, test, any_width(random), any_capture(random)], record)
 }
 
 pub fn layout(random: &mut Random) -> Case {
@@ -87,7 +97,7 @@ pub fn test_time(random: &mut Random) -> Case {
 pub fn asks_a_module(entry: Entry, random: &mut Random) -> Case {
     let record = any_record(random);
     let module = any_module(&record, random);
-    Case::new(entry, [module, any_width(random), 0], record)
+    Case::new(entry, [module, any_width(random), any_capture(random)], record)
 }
 
 pub fn module_time(random: &mut Random) -> Case {

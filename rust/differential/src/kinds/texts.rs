@@ -44,31 +44,31 @@ pub fn long_text(random: &mut Random) -> Vec<u8> {
 }
 
 pub fn text_good(random: &mut Random) -> Case {
-    Case::new(Entry::ReadSoc, [0; 3], good_text(random))
+    Case::new(Entry::ReadSoc, [], good_text(random))
 }
 
 pub fn text_damaged(random: &mut Random) -> Case {
-    Case::new(Entry::ReadSoc, [0; 3], damaged_text(random))
+    Case::new(Entry::ReadSoc, [], damaged_text(random))
 }
 
 pub fn text_limits(random: &mut Random) -> Case {
     let soc = make_soc(any_shape(random), random);
     let mut lines = field_lines(&soc, random);
     limit_in_lines(&mut lines, random);
-    Case::new(Entry::ReadSoc, [0; 3], styled(&lines, random))
+    Case::new(Entry::ReadSoc, [], styled(&lines, random))
 }
 
 pub fn text_one_line(random: &mut Random) -> Case {
     let soc = make_soc(any_shape(random), random);
     let mut lines = field_lines(&soc, random);
     damage_one_line(&mut lines, random);
-    Case::new(Entry::ReadSoc, [0; 3], styled(&lines, random))
+    Case::new(Entry::ReadSoc, [], styled(&lines, random))
 }
 
 pub fn text_random(random: &mut Random) -> Case {
-    Case::new(Entry::ReadSoc, [0; 3], random_text(random))
+    Case::new(Entry::ReadSoc, [], random_text(random))
 }
 
 pub fn text_long(random: &mut Random) -> Case {
-    Case::new(Entry::ReadSoc, [0; 3], long_text(random))
+    Case::new(Entry::ReadSoc, [], long_text(random))
 }

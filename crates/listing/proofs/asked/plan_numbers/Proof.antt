@@ -1,5 +1,5 @@
--- `listing::asked::plan_numbers` meets its contract. The definition reads the two numbers as the code does, and the line ends behind them or not.
--- A number that was read fits 32 bits. Assumes nothing.
+-- `listing::asked::plan_numbers` meets its contract. The definition reads the two numbers as the code does, and goes on behind them. A
+-- number that was read fits 32 bits. Assumes nothing.
 use borrow.Author.Needs.{needs}
 use native.Mathlib.Omega.{arith}
 use mathlib.Core.Path.{_≡_, sym, ap, _∙_}
@@ -8,8 +8,10 @@ use Rattle.fields.specs.Fields.{fieldsOf}
 use Rattle.fields.specs.Readers.{got, between, figureIs}
 use Rattle.fields.proofs.PlaceAnswerLaws.{number-is}
 use Rattle.fields.proofs.ReaderLaws.{after-no, after-got, between-within}
-use Rattle.text_lines.proofs.HeadLaws.{closed-no, closed-blank, closed-more}
+use Rattle.text_lines.specs.Parts.{closed}
+use Rattle.text_lines.proofs.HeadLaws.{closed-no}
 use Rattle.listing.specs.Asked.{askedMax, planNumbers, askedAnswer}
+use Rattle.listing.specs.Rest.{captureRest}
 use Rattle.listing.proofs.asked.plan_numbers.Statement.{statement}
 use Rattle.listing.proofs.asked.plan_numbers.Tie as tie
 
@@ -32,8 +34,9 @@ limit : (c : tie.After-b) → let w = c .before .before .before .before in let l
 limit c = sym (second (c .before .before)) ∙ ap (figureIs (c .before .before .before .before .before .before .before .before .args .l .now)) (c .b .given .1)
 
 both : (c : tie.After-b) → let w = c .before .before .before .before in let s = w .before .before .before .before in let l = s .args .l .now in
-    planNumbers (fieldsOf (drop (s .args .at) l)) ≡ got (record { wires = w .w .given .0 .0; limit = c .b .given .0 .0 }) (fieldsOf (drop (c .b .given .0 .1 .0) l))
-unfolding planNumbers
+    planNumbers (fieldsOf (drop (s .args .at) l))
+    ≡ captureRest (w .w .given .0 .0) (c .b .given .0 .0) (fieldsOf (drop (c .b .given .0 .1 .0) l))
+unfolding planNumbers captureRest
 both c = after-got _ _ _ _ (wires (c .before .before .before .before)) ∙ after-got _ _ _ _ (limit c)
 
 figure-at-requires : tie.Need-figure-at-requires
@@ -54,14 +57,14 @@ enum-known-c-2 c = search needs
 enum-known-b : tie.Need-enum-known-b
 enum-known-b c = search needs
 
-is-blank-requires : tie.Need-is-blank-requires
-is-blank-requires c κs = search needs
+cast-capture-to-end : tie.Need-cast-capture-to-end
+cast-capture-to-end c = record { fits = omega (arith, between-within _ _ _ _ _ (wires (c .before .before .before .before .before))) }
 
-cast-t15 : tie.Need-cast-t15
-cast-t15 c = record { fits = omega (arith, between-within _ _ _ _ _ (wires (c .before .before .before .before .before .before .before))) }
+cast-capture-to-end-2 : tie.Need-cast-capture-to-end-2
+cast-capture-to-end-2 c = record { fits = omega (arith, between-within _ _ _ _ _ (limit (c .before))) }
 
-cast-t16 : tie.Need-cast-t16
-cast-t16 c = record { fits = omega (arith, between-within _ _ _ _ _ (limit (c .before .before .before))) }
+capture-to-end-requires : tie.Need-capture-to-end-requires
+capture-to-end-requires c κs = search needs
 
 returns : tie.Need-returns
 unfolding planNumbers askedAnswer
@@ -79,12 +82,7 @@ returns-2 c =
     sym (ap askedAnswer (closed-no _ _ (after-got _ _ _ _ (wires w) ∙ after-no _ _ _ (sym (second k) ∙ ap (figureIs (s .args .l .now)) (c .before .c2 .given .1)))))
 
 returns-3 : tie.Need-returns-3
-unfolding askedAnswer
-returns-3 c = sym (ap askedAnswer (closed-blank _ _ _ (both (c .before .before .before)) (sym (c .before .is-blank .ensures) ∙ c .if1 .taken)))
-
-returns-4 : tie.Need-returns-4
-unfolding askedAnswer
-returns-4 c = sym (ap askedAnswer (closed-more _ _ _ (both (c .before .before .before)) (sym (c .before .is-blank .ensures) ∙ c .if1 .left)))
+returns-3 c = c .capture-to-end .ensures ∙ sym (ap (λ g. askedAnswer (closed g)) (both (c .before .before)))
 
 pub plan-numbers-spec : {M : Type 1} → statement M
 plan-numbers-spec =
@@ -96,10 +94,9 @@ plan-numbers-spec =
     figure-at-requires-2
     enum-known-c-2
     enum-known-b
-    is-blank-requires
-    cast-t15
-    cast-t16
+    cast-capture-to-end
+    cast-capture-to-end-2
+    capture-to-end-requires
     returns
     returns-2
-    returns-3
-    returns-4)
+    returns-3)

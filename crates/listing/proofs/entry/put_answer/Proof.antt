@@ -17,7 +17,8 @@ found : (c : tie.Else1) → GoodFigures (c .before .before .plan .result .plan)
 found c =
     let p = c .before .before in
     let s = p .before .before in
-    good-figures _ (planner-answers-good (s .args .s) (s .args .wires) (s .args .limit) _ (p .plan .ensures) (c .if1 .left))
+    let a = s .args in
+    good-figures _ (planner-answers-good (a .s) (a .wires) (a .limit) (a .capture) _ (p .plan .ensures) (c .if1 .left))
 
 plan-requires : tie.Need-plan-requires
 plan-requires c κs = search needs
@@ -34,15 +35,21 @@ returns c =
     let t = k .before .before in
     let p = t .before .before in
     let s = p .before .before in
-    put-as refusalRoom (ap writtenLines (plan-refused (s .args .s) (s .args .wires) (s .args .limit) _ (p .plan .ensures) (t .if1 .taken))) (omega arith) (k .put-refusal .ensures)
+    let e = plan-refused (s .args .s) (s .args .wires) (s .args .limit) (s .args .capture) _ (p .plan .ensures) (t .if1 .taken) in
+    put-as refusalRoom (ap writtenLines e) (omega arith) (k .put-refusal .ensures)
 
 put-plan-requires : tie.Need-put-plan-requires
 put-plan-requires c κs =
     let t = c .before in
     let s = t .before .before .before .before in
     let f = found t in
-    let p = t .before .before in
-    (soc-figures (s .args .s) (planner-accepts-good (s .args .s) (s .args .wires) (s .args .limit) _ (p .plan .ensures) (t .if1 .left)) .name-len, f .buses-high, f .modules-high, omega (arith, s .pre))
+    let p = t .before .before in (
+      soc-figures (s .args .s) (planner-accepts-good (s .args .s) (s .args .wires) (s .args .limit) (s .args .capture) _ (p .plan .ensures)
+          (t .if1 .left)) .name-len,
+      f .buses-high,
+      f .modules-high,
+      omega (arith, s .pre),
+    )
 
 same-length-2 : tie.Need-same-length-2
 same-length-2 c = search needs
@@ -53,7 +60,8 @@ returns-2 c =
     let t = k .before .before in
     let p = t .before .before in
     let s = p .before .before in
-    put-as planRoom (ap writtenLines (plan-found (s .args .s) (s .args .wires) (s .args .limit) _ (p .plan .ensures) (t .if1 .left))) (omega arith) (k .put-plan .ensures)
+    let e = plan-found (s .args .s) (s .args .wires) (s .args .limit) (s .args .capture) _ (p .plan .ensures) (t .if1 .left) in
+    put-as planRoom (ap writtenLines e) (omega arith) (k .put-plan .ensures)
 
 pub put-answer-spec : {M : Type 1} → statement M
 put-answer-spec = tie.close (tie.spec plan-requires put-refusal-requires same-length returns put-plan-requires same-length-2 returns-2)

@@ -15,6 +15,7 @@ use Rattle.fields.specs.WrittenLines.{writtenLines}
 use Rattle.listing.specs.Asked.{Wanted, asked, textBehind}
 use Rattle.listing.specs.Listing.{refusalFields, textPrinted, listingMax}
 use Rattle.listing.specs.Room.{refusalRoom}
+use Rattle.listing.specs.Rest.{wanted}
 use Rattle.listing.proofs.AskedLaws.{first-line}
 use Rattle.listing.proofs.ListingLaws.{put-as, answer-no, answer-for, listed-no, listed-says}
 use Rattle.listing.proofs.entry.put_listed.Statement.{statement}
@@ -84,8 +85,8 @@ returns-2 c =
     let o = k .before .before in
     let n = o .before in
     let t = n .before .before .before .args .input .now in
-    let w : Wanted = record { wires = k .wires .given .0 .0; limit = k .wires .given .0 .1 .0 } in
-    let e : asked t ≡ says w = answer-for (asked t) _ _ (sym (k .wires .given .1) ∙ o .asked-of .ensures) in
+    let w : Wanted = wanted (k .wires .given .0 .0) (k .wires .given .0 .1 .0) (k .wires .given .0 .1 .1 .0) in
+    let e : asked t ≡ says w = answer-for (asked t) _ _ _ (sym (k .wires .given .1) ∙ o .asked-of .ensures) in
     put-as listingMax (listed-says t w e ∙ ap (λ (x : List ℕ). writtenLines (textPrinted w (readSoc x))) (sym (behind n))) (omega arith) (p .put-text .ensures)
 
 pub put-listed-spec : {M : Type 1} → statement M

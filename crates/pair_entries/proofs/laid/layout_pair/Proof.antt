@@ -18,7 +18,7 @@ unfolding layoutPair
 returns c =
     let p = c .before .before .before .read-pair in
     let s = c .before .before .before .before .before .before in
-    let answers = layoutOf (s .args .«module») (s .args .test) (s .args .width .0) in
+    let answers = layoutOf (s .args .«module») (s .args .test) (s .args .width .0) (s .args .capture .0) in
     c .refused-layout .ensures ∙ sym (of-refused (p .result) refusedLayout answers (c .before .if1 .taken))
     ∙ ap (λ r. ofPair r refusedLayout answers) (p .ensures)
 
@@ -30,7 +30,7 @@ unfolding layoutPair
 returns-2 c =
     let p = c .before .before .before .before .read-pair in
     let s = c .before .before .before .before .before .before .before in
-    let answers = layoutOf (s .args .«module») (s .args .test) (s .args .width .0) in
+    let answers = layoutOf (s .args .«module») (s .args .test) (s .args .width .0) (s .args .capture .0) in
     rw (c .layout .ensures)
     (sym (of-accepted (p .result) refusedLayout answers (c .before .before .if1 .left))
     ∙ ap (λ r. ofPair r refusedLayout answers) (p .ensures))

@@ -18,7 +18,7 @@ unfolding planPair
 returns c =
     let p = c .before .before .before .read-pair in
     let s = c .before .before .before .before .before .before in
-    let answers = planOf (s .args .wires .0) (s .args .limit) in
+    let answers = planOf (s .args .wires .0) (s .args .limit) (s .args .capture .0) in
     c .refused-plan .ensures ∙ sym (of-refused (p .result) refusedPlan answers (c .before .if1 .taken))
     ∙ ap (λ r. ofPair r refusedPlan answers) (p .ensures)
 
@@ -30,7 +30,7 @@ unfolding planPair
 returns-2 c =
     let p = c .before .before .before .before .read-pair in
     let s = c .before .before .before .before .before .before .before in
-    let answers = planOf (s .args .wires .0) (s .args .limit) in
+    let answers = planOf (s .args .wires .0) (s .args .limit) (s .args .capture .0) in
     rw (c .plan .ensures)
     (sym (of-accepted (p .result) refusedPlan answers (c .before .before .if1 .left)) ∙ ap (λ r. ofPair r refusedPlan answers) (p .ensures))
 

@@ -18,7 +18,7 @@ unfolding moduleTimePair
 returns c =
     let p = c .before .before .before .read-pair in
     let s = c .before .before .before .before .before .before in
-    let answers = moduleTimeOf (s .args .«module») (s .args .width .0) in
+    let answers = moduleTimeOf (s .args .«module») (s .args .width .0) (s .args .capture .0) in
     c .refused-module-time .ensures ∙ sym (of-refused (p .result) refusedModuleTime answers (c .before .if1 .taken))
     ∙ ap (λ r. ofPair r refusedModuleTime answers) (p .ensures)
 
@@ -30,7 +30,7 @@ unfolding moduleTimePair
 returns-2 c =
     let p = c .before .before .before .before .read-pair in
     let s = c .before .before .before .before .before .before .before in
-    let answers = moduleTimeOf (s .args .«module») (s .args .width .0) in
+    let answers = moduleTimeOf (s .args .«module») (s .args .width .0) (s .args .capture .0) in
     rw (c .module-time .ensures)
     (sym (of-accepted (p .result) refusedModuleTime answers (c .before .before .if1 .left))
     ∙ ap (λ r. ofPair r refusedModuleTime answers) (p .ensures))

@@ -18,7 +18,7 @@ unfolding testTimePair
 returns c =
     let p = c .before .before .before .read-pair in
     let s = c .before .before .before .before .before .before in
-    let answers = testTimeOf (s .args .«module») (s .args .test) (s .args .width .0) in
+    let answers = testTimeOf (s .args .«module») (s .args .test) (s .args .width .0) (s .args .capture .0) in
     c .refused-test-time .ensures ∙ sym (of-refused (p .result) refusedTestTime answers (c .before .if1 .taken))
     ∙ ap (λ r. ofPair r refusedTestTime answers) (p .ensures)
 
@@ -30,7 +30,7 @@ unfolding testTimePair
 returns-2 c =
     let p = c .before .before .before .before .read-pair in
     let s = c .before .before .before .before .before .before .before in
-    let answers = testTimeOf (s .args .«module») (s .args .test) (s .args .width .0) in
+    let answers = testTimeOf (s .args .«module») (s .args .test) (s .args .width .0) (s .args .capture .0) in
     rw (c .test-time .ensures)
     (sym (of-accepted (p .result) refusedTestTime answers (c .before .before .if1 .left))
     ∙ ap (λ r. ofPair r refusedTestTime answers) (p .ensures))

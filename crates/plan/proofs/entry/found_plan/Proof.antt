@@ -18,7 +18,8 @@ table : (c : tie.After-tables-of) → IsTable (c .tables-of .result .cycles) (c 
 table c =
     let e : c .before .args .p .count ≡ length (plannedOf (c .before .args .s)) = ap (λ x. x .count) (c .before .pre .0 .numbers) in
     let l : length (c .tables-of .result .cycles) ≡ tablePlaces = search needs in
-    rw e (table-is (c .tables-of .ensures) (c .before .pre .0 .good) refl l (c .before .pre .0 .most))
+    rw e (table-is (c .tables-of .ensures) (c .before .pre .0 .captures) (c .before .pre .0 .capturing) (c .before .pre .0 .good) refl l
+    (c .before .pre .0 .most))
 
 fits : (c : tie.After-search) → IsFound (c .search .result) (c .before .before .before .before .args .p .count)
 fits c =

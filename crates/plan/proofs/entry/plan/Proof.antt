@@ -8,7 +8,7 @@ use borrow.Author.Tests.{le-leb, lt-leb, not-true, not-false}
 use Rattle.units.proofs.TestLaws.{within-true, below-false, above-false}
 use Rattle.soc.specs.Rules.{goodSoc}
 use Rattle.soc.specs.Planned.{plannedOf}
-use Rattle.wrapper.specs.WrapperAnswers.{widthMax}
+use Rattle.wrapper.specs.WrapperAnswers.{widthMax, captureMax}
 use Rattle.plan.specs.PlanAnswers.{limitMax, plannedMax, planAnswer}
 use Rattle.plan.proofs.entry.plan.Statement.{statement}
 use Rattle.plan.proofs.entry.plan.Tie as tie
@@ -22,7 +22,15 @@ wide c = within-true 1 (c .before .before .before .before .before .before .args 
 limited : (c : tie.Else5) → let v = c .before .before .before .before .before .before .before .before .args .limit in (leb 1 v && leb v limitMax) ≡ true
 limited c = within-true 1 (c .before .before .before .before .before .before .before .before .args .limit) limitMax (c .before .if4 .left) (c .if5 .left)
 
-count-is : (c : tie.After-planned-modules) → c .planned-modules .result .count ≡ length (plannedOf (c .before .before .before .before .before .before .before .before .before .args .s))
+captured : (c : tie.Else7) →
+    let v = c .before .before .before .before .before .before .before .before .before .before .before .before .args .capture .0 in
+    (leb 1 v && leb v captureMax) ≡ true
+captured c =
+    let v = c .before .before .before .before .before .before .before .before .before .before .before .before .args .capture .0 in
+    within-true 1 v captureMax (c .before .before .if6 .left) (c .if7 .left)
+
+count-is : (c : tie.After-planned-modules) → c .planned-modules .result .count ≡ length (plannedOf
+    (c .before .before .before .before .before .before .before .before .before .before .before .before .before .args .s))
 count-is c = ap (λ p. p .count) (c .planned-modules .ensures)
 
 is-good-requires : tie.Need-is-good-requires
@@ -77,20 +85,17 @@ returns-5 c =
     let s = g .before .before in
     rw (good g, wide e, above-false 1 (s .args .limit) limitMax (c .before .if5 .taken)) (c .refused-plan5 .ensures)
 
-planned-modules-requires : tie.Need-planned-modules-requires
-planned-modules-requires c κs = search needs
-
 refused-plan-requires-6 : tie.Need-refused-plan-requires-6
 refused-plan-requires-6 c κs = search needs
 
 returns-6 : tie.Need-returns-6
 unfolding planAnswer
 returns-6 c =
-    let m = c .before .before .before in
-    let e = m .before .before .before in
+    let l = c .before .before .before in
+    let e = l .before .before in
     let g = e .before .before .before .before in
     let s = g .before .before in
-    rw (good g, wide e, limited (m .before), lt-leb 1 (length (plannedOf (s .args .s))) (rw (count-is m) at (c .before .if6 .taken))) (c .refused-plan6 .ensures)
+    rw (good g, wide e, limited l, below-false 1 (s .args .capture .0) captureMax (c .before .if6 .taken)) (c .refused-plan6 .ensures)
 
 refused-plan-requires-7 : tie.Need-refused-plan-requires-7
 refused-plan-requires-7 c κs = search needs
@@ -98,12 +103,52 @@ refused-plan-requires-7 c κs = search needs
 returns-7 : tie.Need-returns-7
 unfolding planAnswer
 returns-7 c =
+    let l = c .before .before .before .before .before in
+    let e = l .before .before in
+    let g = e .before .before .before .before in
+    let s = g .before .before in
+    rw (good g, wide e, limited l, above-false 1 (s .args .capture .0) captureMax (c .before .if7 .taken)) (c .refused-plan7 .ensures)
+
+planned-modules-requires : tie.Need-planned-modules-requires
+planned-modules-requires c κs = search needs
+
+refused-plan-requires-8 : tie.Need-refused-plan-requires-8
+refused-plan-requires-8 c κs = search needs
+
+returns-8 : tie.Need-returns-8
+unfolding planAnswer
+returns-8 c =
+    let m = c .before .before .before in
+    let k = m .before in
+    let l = k .before .before .before .before in
+    let e = l .before .before in
+    let g = e .before .before .before .before in
+    let s = g .before .before in
+    rw (good g, wide e, limited l, captured k, lt-leb 1 (length (plannedOf (s .args .s))) (rw (count-is m) at (c .before .if8 .taken)))
+    (c .refused-plan8 .ensures)
+
+refused-plan-requires-9 : tie.Need-refused-plan-requires-9
+refused-plan-requires-9 c κs = search needs
+
+returns-9 : tie.Need-returns-9
+unfolding planAnswer
+returns-9 c =
     let m = c .before .before .before .before .before in
-    let e = m .before .before .before in
+    let k = m .before in
+    let l = k .before .before .before .before in
+    let e = l .before .before in
     let g = e .before .before .before .before in
     let s = g .before .before in
     let n = length (plannedOf (s .args .s)) in
-    rw (good g, wide e, limited (m .before), le-leb 1 n (rw (count-is m) at (c .before .before .before .if6 .left)), lt-leb n plannedMax (rw (count-is m) at (c .before .if7 .taken))) (c .refused-plan7 .ensures)
+    rw (
+      good g,
+      wide e,
+      limited l,
+      captured k,
+      le-leb 1 n (rw (count-is m) at (c .before .before .before .if8 .left)),
+      lt-leb n plannedMax (rw (count-is m) at (c .before .if9 .taken)),
+    )
+    (c .refused-plan9 .ensures)
 
 none-requires : tie.Need-none-requires
 none-requires c κs = search needs
@@ -111,24 +156,30 @@ none-requires c κs = search needs
 found-plan-requires : tie.Need-found-plan-requires
 found-plan-requires c κs =
     let m = c .before .before .before .before .before in
-    let e = m .before .before .before in
+    let k = m .before in
+    let l = k .before .before .before .before in
+    let e = l .before .before in
     let g = e .before .before .before .before in (
       record {
         good = good g;
         numbers = m .planned-modules .ensures;
-        most = rw (count-is m) at (c .before .if7 .left);
+        most = rw (count-is m) at (c .before .if9 .left);
         low = e .before .before .if2 .left;
         narrow = e .if3 .left;
+        captures = k .before .before .if6 .left;
+        capturing = k .if7 .left;
       },
-      m .before .before .if4 .left,
-      m .before .if5 .left,
+      l .before .if4 .left,
+      l .if5 .left,
     )
 
-returns-8 : tie.Need-returns-8
+returns-10 : tie.Need-returns-10
 unfolding planAnswer
-returns-8 c =
+returns-10 c =
     let m = c .before .before .before .before .before .before in
-    let e = m .before .before .before in
+    let k = m .before in
+    let l = k .before .before .before .before in
+    let e = l .before .before in
     let g = e .before .before .before .before in
     let s = g .before .before in
     let n = length (plannedOf (s .args .s)) in
@@ -137,9 +188,10 @@ returns-8 c =
       c .found-plan .ensures,
       good g,
       wide e,
-      limited (m .before),
-      le-leb 1 n (rw (count-is m) at (c .before .before .before .before .if6 .left)),
-      le-leb n plannedMax (rw (count-is m) at (c .before .before .if7 .left)),
+      limited l,
+      captured k,
+      le-leb 1 n (rw (count-is m) at (c .before .before .before .before .if8 .left)),
+      le-leb n plannedMax (rw (count-is m) at (c .before .before .if9 .left)),
     )
 
 pub plan-spec : {M : Type 1} → statement M
@@ -157,11 +209,15 @@ plan-spec =
     returns-4
     refused-plan-requires-5
     returns-5
-    planned-modules-requires
     refused-plan-requires-6
     returns-6
     refused-plan-requires-7
     returns-7
+    planned-modules-requires
+    refused-plan-requires-8
+    returns-8
+    refused-plan-requires-9
+    returns-9
     none-requires
     found-plan-requires
-    returns-8)
+    returns-10)

@@ -16,10 +16,10 @@ use Rattle.plan.proofs.tables.tables_of.Statement.{statement}
 use Rattle.plan.proofs.tables.tables_of.Tie as tie
 
 abbrev Inv-loop : tie.InvT-loop
-Inv-loop s w p t₀ n k₀ t k = (k ≤ n) × TablesAre s (w .0) k t
+Inv-loop s w x p t₀ n k₀ t k = (k ≤ n) × TablesAre (x .0) s (w .0) k t
 
 abbrev μ-loop : tie.MeasureT-loop
-μ-loop s w p t₀ n k₀ t k = n - k
+μ-loop s w x p t₀ n k₀ t k = n - k
 
 -- there are as many places in use as planned modules
 count : (c : tie.Start Inv-loop μ-loop) → c .args .t2 .count ≡ length (plannedOf (c .args .s))
@@ -36,7 +36,7 @@ number-is c =
     ap (λ p. getD (p .numbers) (c .before .loop .k) 0) (a .pre .numbers) ∙ padded-at modulesMax 0 (plannedOf (a .args .s)) (c .before .loop .k)
 
 loop-holds : tie.Need-loop-holds Inv-loop μ-loop
-loop-holds c = (omega arith, tables-none (c .args .s) (c .args .w .0))
+loop-holds c = (omega arith, tables-none (c .args .capture .0) (c .args .s) (c .args .w .0))
 
 mul-number : tie.Need-mul-number Inv-loop μ-loop
 mul-number c = omega (arith, below c, c .before .before .pre .most)
@@ -68,11 +68,16 @@ loop-again c =
     let i = m .before .before in
     let a = i .before .before in
     let k = i .before .loop .k in
-    let e : m .module-times .result .times ≡ moduleTimesAnswer (a .args .s) (getD (plannedOf (a .args .s)) k 0) (a .args .w .0) .times =
+    let number = getD (plannedOf (a .args .s)) k 0 in
+    let e : m .module-times .result .times ≡ moduleTimesAnswer (a .args .s) number (a .args .w .0) (a .args .capture .0) .times =
     ap (λ r. r .times) (m .module-times .ensures) ∙ rw (number-is i)
     in
     let r = rw e at (c .with-times .ensures) in
-    (omega arith, tables-more (a .args .s) (a .args .w .0) k (a .pre .good) (below i) (a .pre .low) (a .pre .narrow) r (i .before .loop .inv .1))
+    let m =
+    tables-more (a .args .capture .0) (a .args .s) (a .args .w .0) k (a .pre .captures) (a .pre .capturing) (a .pre .good) (below i)
+    (a .pre .low) (a .pre .narrow) r
+    in
+    (omega arith, m (i .before .loop .inv .1))
 
 returns : tie.Need-returns Inv-loop μ-loop
 returns c =

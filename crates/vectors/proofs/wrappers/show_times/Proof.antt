@@ -6,10 +6,10 @@ use Rattle.vectors.proofs.wrappers.show_times.Statement.{statement}
 use Rattle.vectors.proofs.wrappers.show_times.Tie as tie
 
 abbrev Inv-loop : tie.InvT-loop
-Inv-loop i «module» from to s w₀ w = from ≤ w
+Inv-loop i «module» from to capture s w₀ w = from ≤ w
 
 abbrev μ-loop : tie.MeasureT-loop
-μ-loop i «module» from to s w₀ w = 100 - w
+μ-loop i «module» from to capture s w₀ w = 100 - w
 
 soc-in-requires : tie.Need-soc-in-requires Inv-loop μ-loop
 soc-in-requires c κs = search needs

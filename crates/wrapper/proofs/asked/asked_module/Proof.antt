@@ -11,7 +11,7 @@ use lib.ListN.{length, length-map, getD}
 use Rattle.units.proofs.TestLaws.{within-true, below-false, above-false}
 use Rattle.soc.specs.Record.{noModule}
 use Rattle.soc.specs.Rules.{goodSoc}
-use Rattle.wrapper.specs.WrapperAnswers.{widthMax, askedModule}
+use Rattle.wrapper.specs.WrapperAnswers.{widthMax, captureMax, askedModule}
 use Rattle.wrapper.specs.Held.{isAsked, foundModule}
 use Rattle.wrapper.proofs.KeptLaws.{good-count}
 use Rattle.wrapper.proofs.asked.asked_module.Statement.{statement}
@@ -34,6 +34,14 @@ within : (c : tie.Else3) → let v = c .before .before .before .before .before .
 within c =
     let v = c .before .before .before .before .before .before .args .w .0 in
     within-true 1 v widthMax (c .before .before .if2 .left) (c .if3 .left)
+
+-- and so is the number of capture cycles
+captured : (c : tie.Else5) →
+    let v = c .before .before .before .before .before .before .before .before .before .before .args .capture .0 in
+    (leb 1 v && leb v captureMax) ≡ true
+captured c =
+    let v = c .before .before .before .before .before .before .before .before .before .before .args .capture .0 in
+    within-true 1 v captureMax (c .before .before .if4 .left) (c .if5 .left)
 
 is-good-requires : tie.Need-is-good-requires
 is-good-requires c κs = search needs
@@ -72,29 +80,53 @@ no-asked-requires-4 c κs = search needs
 returns-4 : tie.Need-returns-4
 unfolding foundModule askedModule
 returns-4 c =
-    let e = c .before .before in
+    let e = c .before .before .before in
     let s = e .before .before .before .before .before .before in
-    rw (good (e .before .before .before .before), within e, le-ltb (s .args .m) (s .args .t1 .«module_count») (c .before .if4 .taken))
+    rw (good (e .before .before .before .before), within e, below-false 1 (s .args .capture .0) captureMax (c .before .if4 .taken))
     (c .no-asked4 .ensures)
+
+no-asked-requires-5 : tie.Need-no-asked-requires-5
+no-asked-requires-5 c κs = search needs
+
+returns-5 : tie.Need-returns-5
+unfolding foundModule askedModule
+returns-5 c =
+    let e = c .before .before .before .before .before in
+    let s = e .before .before .before .before .before .before in
+    rw (good (e .before .before .before .before), within e, above-false 1 (s .args .capture .0) captureMax (c .before .if5 .taken))
+    (c .no-asked5 .ensures)
+
+no-asked-requires-6 : tie.Need-no-asked-requires-6
+no-asked-requires-6 c κs = search needs
+
+returns-6 : tie.Need-returns-6
+unfolding foundModule askedModule
+returns-6 c =
+    let f = c .before .before in
+    let e = f .before .before .before .before in
+    let s = e .before .before .before .before .before .before in
+    let past = le-ltb (s .args .m) (s .args .t1 .«module_count») (c .before .if6 .taken) in
+    rw (good (e .before .before .before .before), within e, captured f, past) (c .no-asked6 .ensures)
 
 mul-module : tie.Need-mul-module
 mul-module c = search needs
 
 element-copy-out-module : tie.Need-element-copy-out-module
 element-copy-out-module c =
-    let g = c .before .before .before .before .before in
-    omega (arith, c .if4 .left, good-count (g .before .before .args .t1) (good g))
+    let g = c .before .before .before .before .before .before .before .before .before in
+    omega (arith, c .if6 .left, good-count (g .before .before .args .t1) (good g))
 
-returns-5 : tie.Need-returns-5
+returns-7 : tie.Need-returns-7
 unfolding foundModule askedModule
-returns-5 c =
-    let e = c .before .before in
+returns-7 c =
+    let f = c .before .before in
+    let e = f .before .before .before .before in
     let g = e .before .before .before .before in
     let s = g .before .before in
     let below : s .args .m < length (s .args .t1 .modules) =
-    omega (arith, c .before .if4 .left, good-count (s .args .t1) (good g), len s)
+    omega (arith, c .before .if6 .left, good-count (s .args .t1) (good g), len s)
     in
-    rw (good g, within e, lt-ltb (s .args .m) (s .args .t1 .«module_count») (c .before .if4 .left))
+    rw (good g, within e, captured f, lt-ltb (s .args .m) (s .args .t1 .«module_count») (c .before .if6 .left))
     (ap isAsked (any-default (s .args .t1 .modules) (s .args .m) _ noModule below))
 
 pub asked-module-spec : {M : Type 1} → statement M
@@ -110,6 +142,10 @@ asked-module-spec =
     returns-3
     no-asked-requires-4
     returns-4
+    no-asked-requires-5
+    returns-5
+    no-asked-requires-6
+    returns-6
     mul-module
     element-copy-out-module
-    returns-5)
+    returns-7)

@@ -15,19 +15,21 @@ use Rattle.wrapper.proofs.TimeLaws.{bests-last, module-refused, module-
 use Rattle.wrapper.proofs.asked.module_time.Statement.{statement}
 use Rattle.wrapper.proofs.asked.module_time.Tie as tie
 
-abbrev timed : ℕ → Module → ModuleTime
-timed w d = moduleTimeOf (moduleBest d w)
+abbrev timed : ℕ → ℕ → Module → ModuleTime
+timed w c d = moduleTimeOf (moduleBest c d w)
 
 found : (c : tie.Else1) → Found (c .before .before .asked-module .result .«module») (c .before .before .before .args .width .0)
+    (c .before .before .before .args .capture .0)
 found c =
     let a = c .before .before in
-    found-kept (a .before .args .s) (a .before .args .«module») (a .before .args .width .0) (a .asked-module .result)
+    found-kept (a .before .args .s) (a .before .args .«module») (a .before .args .width .0) (a .before .args .capture .0)
+    (a .asked-module .result)
     (a .asked-module .ensures) (c .if1 .left)
 
 -- what stands in the last place
-last : {A : Type 0} (f : Best → A) (z y : A) (d : Module) (w : ℕ) (l : List A) → Found d w → l ≡ padded widthMax z (map f (bestsFrom d w 1))
-    → getD l (w - 1) y ≡ f (moduleBest d w)
-last f z y d w l h e = rw e (bests-last f z d w (h .some) (h .most) y)
+last : {A : Type 0} (f : Best → A) (z y : A) (d : Module) (w c : ℕ) (l : List A) → Found d w c
+    → l ≡ padded widthMax z (map f (bestsFrom c d w 1)) → getD l (w - 1) y ≡ f (moduleBest c d w)
+last f z y d w c l h e = rw e (bests-last f z c d w (h .some) (h .most) y)
 
 asked-module-requires : tie.Need-asked-module-requires
 asked-module-requires c κs = search needs
@@ -41,14 +43,15 @@ returns c =
     let a = c .before .before .before in
     let s = a .before .args in
     c .no-module-time .ensures
-    ∙ module-refused (s .s) (s .«module») (s .width .0) noModuleTime (timed (s .width .0)) (a .asked-module .result)
+    ∙ module-refused (s .s) (s .«module») (s .width .0) (s .capture .0) noModuleTime (timed (s .width .0) (s .capture .0))
+    (a .asked-module .result)
     (a .asked-module .ensures) (c .before .if1 .taken)
 
 cast-w : tie.Need-cast-w
 cast-w c = search needs
 
 times-of-requires : tie.Need-times-of-requires
-times-of-requires c κs = let f = found (c .before .before) in (f .kept, f .some, f .most)
+times-of-requires c κs = let f = found (c .before .before) in (f .kept, f .some, f .most, f .capture)
 
 sub-last : tie.Need-sub-last
 sub-last c = omega (arith, found (c .before .before .before) .some)
@@ -77,13 +80,16 @@ returns-2 c =
     let s = a .before .args in
     let d = a .asked-module .result .«module» in
     let cs =
-    last cyclesIn (cycles 0) (cycles 0) d (s .width .0) (t .times-of .result .cycles) (found e) (ap (λ r. r .cycles) (t .times-of .ensures))
+    last cyclesIn (cycles 0) (cycles 0) d (s .width .0) (s .capture .0) (t .times-of .result .cycles) (found e)
+    (ap (λ r. r .cycles) (t .times-of .ensures))
     in
     let ws =
-    last wiresIn (wires 0) (wires 0) d (s .width .0) (t .times-of .result .wires) (found e) (ap (λ r. r .wires) (t .times-of .ensures))
+    last wiresIn (wires 0) (wires 0) d (s .width .0) (s .capture .0) (t .times-of .result .wires) (found e)
+    (ap (λ r. r .wires) (t .times-of .ensures))
     in
     rw (c .none .ensures, cs, ws)
-    (module-found (s .s) (s .«module») (s .width .0) noModuleTime (timed (s .width .0)) (a .asked-module .result) (a .asked-module .ensures)
+    (module-found (s .s) (s .«module») (s .width .0) (s .capture .0) noModuleTime (timed (s .width .0) (s .capture .0))
+    (a .asked-module .result) (a .asked-module .ensures)
     (e .if1 .left))
 
 pub module-time-spec : {M : Type 1} → statement M

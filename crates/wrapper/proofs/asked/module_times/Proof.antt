@@ -11,8 +11,8 @@ use Rattle.wrapper.proofs.TimeLaws.{module-refused, module-found, found
 use Rattle.wrapper.proofs.asked.module_times.Statement.{statement}
 use Rattle.wrapper.proofs.asked.module_times.Tie as tie
 
-abbrev timed : ℕ → Module → ModuleTimes
-timed w d = record { refusal = accepted; times = timesOf d w }
+abbrev timed : ℕ → ℕ → Module → ModuleTimes
+timed w c d = record { refusal = accepted; times = timesOf c d w }
 
 asked-module-requires : tie.Need-asked-module-requires
 asked-module-requires c κs = search needs
@@ -26,7 +26,8 @@ returns c =
     let a = c .before .before .before in
     let s = a .before .args in
     c .no-module-times .ensures
-    ∙ module-refused (s .s) (s .«module») (s .width .0) noModuleTimes (timed (s .width .0)) (a .asked-module .result)
+    ∙ module-refused (s .s) (s .«module») (s .width .0) (s .capture .0) noModuleTimes (timed (s .width .0) (s .capture .0))
+    (a .asked-module .result)
     (a .asked-module .ensures) (c .before .if1 .taken)
 
 none-requires : tie.Need-none-requires
@@ -40,8 +41,10 @@ times-of-requires c κs =
     let e = c .before .before .before in
     let a = e .before .before in
     let s = a .before .args in
-    let f = found-kept (s .s) (s .«module») (s .width .0) (a .asked-module .result) (a .asked-module .ensures) (e .if1 .left) in
-    (f .kept, f .some, f .most)
+    let f =
+    found-kept (s .s) (s .«module») (s .width .0) (s .capture .0) (a .asked-module .result) (a .asked-module .ensures) (e .if1 .left)
+    in
+    (f .kept, f .some, f .most, f .capture)
 
 returns-2 : tie.Need-returns-2
 unfolding moduleTimesAnswer
@@ -50,7 +53,8 @@ returns-2 c =
     let a = e .before .before in
     let s = a .before .args in
     rw (c .before .before .none .ensures, c .times-of .ensures)
-    (module-found (s .s) (s .«module») (s .width .0) noModuleTimes (timed (s .width .0)) (a .asked-module .result)
+    (module-found (s .s) (s .«module») (s .width .0) (s .capture .0) noModuleTimes (timed (s .width .0) (s .capture .0))
+    (a .asked-module .result)
     (a .asked-module .ensures) (e .if1 .left))
 
 pub module-times-spec : {M : Type 1} → statement M

@@ -16,27 +16,31 @@ use Rattle.wrapper.proofs.asked.test_time.Statement.{statement}
 use Rattle.wrapper.proofs.asked.test_time.Tie as tie
 
 -- the answer for a test, and for a module
-abbrev timed : ℕ → Module → Test → TestTime
-timed w d t = record { refusal = accepted; cycles = cycles (testTime d w t) }
+abbrev timed : ℕ → ℕ → Module → Test → TestTime
+timed w c d t = record { refusal = accepted; cycles = cycles (testTime c d w t) }
 
-abbrev tested : ℕ → ℕ → Module → TestTime
-tested i w d = askedTest d i noTestTime (timed w d)
+abbrev tested : ℕ → ℕ → ℕ → Module → TestTime
+tested i w c d = askedTest d i noTestTime (timed w c d)
 
 found : (c : tie.Else1) → Found (c .before .before .asked-module .result .«module») (c .before .before .before .args .width .0)
+    (c .before .before .before .args .capture .0)
 found c =
     let a = c .before .before in
-    found-kept (a .before .args .s) (a .before .args .«module») (a .before .args .width .0) (a .asked-module .result)
+    found-kept (a .before .args .s) (a .before .args .«module») (a .before .args .width .0) (a .before .args .capture .0)
+    (a .asked-module .result)
     (a .asked-module .ensures) (c .if1 .left)
 
 asked : (c : tie.Else1) →
     let a = c .before .before in
-    tested (a .before .args .test) (a .before .args .width .0) (a .asked-module .result .«module») ≡ testTimeAnswer (a .before .args .s)
-    (a .before .args .«module») (a .before .args .test) (a .before .args .width .0)
+    tested (a .before .args .test) (a .before .args .width .0) (a .before .args .capture .0)
+    (a .asked-module .result .«module»)
+    ≡ testTimeAnswer (a .before .args .s) (a .before .args .«module») (a .before .args .test) (a .before .args .width .0) (a .before .args .capture .0)
 unfolding testTimeAnswer
 asked c =
     let a = c .before .before in
     let s = a .before .args in
-    module-found (s .s) (s .«module») (s .width .0) noTestTime (tested (s .test) (s .width .0)) (a .asked-module .result)
+    module-found (s .s) (s .«module») (s .width .0) (s .capture .0) noTestTime (tested (s .test) (s .width .0) (s .capture .0))
+    (a .asked-module .result)
     (a .asked-module .ensures) (c .if1 .left)
 
 asked-module-requires : tie.Need-asked-module-requires
@@ -51,7 +55,8 @@ returns c =
     let a = c .before .before .before in
     let s = a .before .args in
     c .no-test-time .ensures
-    ∙ module-refused (s .s) (s .«module») (s .width .0) noTestTime (tested (s .test) (s .width .0)) (a .asked-module .result)
+    ∙ module-refused (s .s) (s .«module») (s .width .0) (s .capture .0) noTestTime (tested (s .test) (s .width .0) (s .capture .0))
+    (a .asked-module .result)
     (a .asked-module .ensures) (c .before .if1 .taken)
 
 asked-test-requires : tie.Need-asked-test-requires
@@ -81,7 +86,7 @@ test-cycles-requires : tie.Need-test-cycles-requires
 test-cycles-requires c κs =
     let t = c .before .before .before in
     let f = found (t .before .before .before .before) in
-    (f .kept, found-few _ _ _ (f .kept) (is t), f .some, f .most)
+    (f .kept, found-few _ _ _ (f .kept) (is t), f .some, f .most, f .capture)
 
 returns-2 : tie.Need-returns-2
 returns-2 c =
@@ -92,7 +97,7 @@ returns-2 c =
     let s = a .before .args in
     let d = a .asked-module .result .«module» in
     c .no-test-time2 .ensures
-    ∙ test-refused d (s .test) noTestTime (timed (s .width .0) d) _ (sym (t .asked-test .ensures) ∙ n .n .given .1)
+    ∙ test-refused d (s .test) noTestTime (timed (s .width .0) (s .capture .0) d) _ (sym (t .asked-test .ensures) ∙ n .n .given .1)
     ∙ asked e
 
 returns-3 : tie.Need-returns-3
@@ -103,7 +108,7 @@ returns-3 c =
     let s = a .before .args in
     let d = a .asked-module .result .«module» in
     rw (c .before .before .none .ensures, c .test-cycles .ensures)
-    (test-found d (s .test) noTestTime (timed (s .width .0) d) _ (is t) ∙ asked e)
+    (test-found d (s .test) noTestTime (timed (s .width .0) (s .capture .0) d) _ (is t) ∙ asked e)
 
 pub test-time-spec : {M : Type 1} → statement M
 test-time-spec =

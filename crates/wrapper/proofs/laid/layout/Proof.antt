@@ -20,20 +20,22 @@ abbrev tested : ℕ → ℕ → Module → WrapperLayout
 tested i w d = askedTest d i noLayout (laid w d)
 
 found : (c : tie.Else1) → Found (c .before .before .asked-module .result .«module») (c .before .before .before .args .width .0)
+    (c .before .before .before .args .capture .0)
 found c =
     let a = c .before .before in
-    found-kept (a .before .args .s) (a .before .args .«module») (a .before .args .width .0) (a .asked-module .result)
+    found-kept (a .before .args .s) (a .before .args .«module») (a .before .args .width .0) (a .before .args .capture .0)
+    (a .asked-module .result)
     (a .asked-module .ensures) (c .if1 .left)
 
 asked : (c : tie.Else1) →
     let a = c .before .before in
     tested (a .before .args .test) (a .before .args .width .0) (a .asked-module .result .«module») ≡ layoutAnswer (a .before .args .s)
-    (a .before .args .«module») (a .before .args .test) (a .before .args .width .0)
+    (a .before .args .«module») (a .before .args .test) (a .before .args .width .0) (a .before .args .capture .0)
 unfolding layoutAnswer
 asked c =
     let a = c .before .before in
     let s = a .before .args in
-    module-found (s .s) (s .«module») (s .width .0) noLayout (tested (s .test) (s .width .0)) (a .asked-module .result)
+    module-found (s .s) (s .«module») (s .width .0) (s .capture .0) noLayout (tested (s .test) (s .width .0)) (a .asked-module .result)
     (a .asked-module .ensures) (c .if1 .left)
 
 asked-module-requires : tie.Need-asked-module-requires
@@ -48,7 +50,7 @@ returns c =
     let a = c .before .before .before in
     let s = a .before .args in
     c .no-layout .ensures
-    ∙ module-refused (s .s) (s .«module») (s .width .0) noLayout (tested (s .test) (s .width .0)) (a .asked-module .result)
+    ∙ module-refused (s .s) (s .«module») (s .width .0) (s .capture .0) noLayout (tested (s .test) (s .width .0)) (a .asked-module .result)
     (a .asked-module .ensures) (c .before .if1 .taken)
 
 asked-test-requires : tie.Need-asked-test-requires

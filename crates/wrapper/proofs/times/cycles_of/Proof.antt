@@ -1,61 +1,68 @@
 -- `wrapper::times::cycles_of` meets its contract: the branch says which of the scan lengths is the longer, and no product wraps. Assumes
 -- nothing.
-use borrow.Author.Needs.{needs}
 use native.Mathlib.Omega.{arith}
-use Prim.Native.Nat.{max, min}
+use native.Mathlib.Nat.{add-mul}
+use Prim.Native.Nat.{_+_, _*_, _≤_, max, min}
 use mathlib.Core.Path.{_≡_}
 use Rattle.wrapper.specs.Times.{testCycles}
-use Rattle.wrapper.proofs.TimeLaws.{product-most}
+use Rattle.wrapper.proofs.TimeLaws.{parts-most}
 use Rattle.wrapper.proofs.times.cycles_of.Statement.{statement}
 use Rattle.wrapper.proofs.times.cycles_of.Tie as tie
 
-add-result : tie.Need-add-result
-add-result c = search needs
+-- the capture cycles and the longer scan, for each pattern
+with-out : (s : tie.Start) → s .args .capture * s .args .patterns + s .args .s .so * s .args .patterns ≤ 4672957693950
+with-out s = parts-most (s .args .capture) (s .args .s .so) (s .args .patterns) (s .pre .2) (s .pre .0 .so) (s .pre .1)
+
+with-in : (s : tie.Start) → s .args .capture * s .args .patterns + s .args .s .si * s .args .patterns ≤ 4672957693950
+with-in s = parts-most (s .args .capture) (s .args .s .si) (s .args .patterns) (s .pre .2) (s .pre .0 .si) (s .pre .1)
+
+mul-captured : tie.Need-mul-captured
+mul-captured c = omega (arith, with-out c)
 
 mul-result : tie.Need-mul-result
-mul-result c = let s = c .before .before .before in omega (arith, product-most (s .args .s .so) (s .args .p) (s .pre .0 .so) (s .pre .1))
+mul-result c = omega (arith, with-out (c .before .before .before))
+
+add-result : tie.Need-add-result
+add-result c = omega (arith, with-out (c .before .before .before))
 
 add-result-2 : tie.Need-add-result-2
-add-result-2 c =
-    let s = c .before .before .before .before in
-    omega (arith, s .pre .0 .si, product-most (s .args .s .so) (s .args .p) (s .pre .0 .so) (s .pre .1))
-
-add-result-3 : tie.Need-add-result-3
-add-result-3 c = search needs
+add-result-2 c = let s = c .before .before .before .before in omega (arith, s .pre .0 .si, with-out s)
 
 mul-result-2 : tie.Need-mul-result-2
-mul-result-2 c = let s = c .before .before .before in omega (arith, product-most (s .args .s .si) (s .args .p) (s .pre .0 .si) (s .pre .1))
+mul-result-2 c = omega (arith, with-in (c .before .before .before))
+
+add-result-3 : tie.Need-add-result-3
+add-result-3 c = omega (arith, with-in (c .before .before .before))
 
 add-result-4 : tie.Need-add-result-4
-add-result-4 c =
-    let s = c .before .before .before .before in
-    omega (arith, s .pre .0 .so, product-most (s .args .s .si) (s .args .p) (s .pre .0 .si) (s .pre .1))
+add-result-4 c = let s = c .before .before .before .before in omega (arith, s .pre .0 .so, with-in s)
 
 returns : tie.Need-returns
 unfolding testCycles
 returns c =
-    let s = c .before .before .before .before .args .s in
-    let a : max (s .si) (s .so) ≡ s .so = omega (arith, c .before .before .if1 .taken) in
-    let b : min (s .si) (s .so) ≡ s .si = omega (arith, c .before .before .if1 .taken) in
-    rw (a, b)
+    let s = c .before .before .before .before .args in
+    let a : max (s .s .si) (s .s .so) ≡ s .s .so = omega (arith, c .before .before .if1 .taken) in
+    let b : min (s .s .si) (s .s .so) ≡ s .s .si = omega (arith, c .before .before .if1 .taken) in
+    rw (a, b) (omega (arith, add-mul (s .capture) (s .s .so) (s .patterns)))
 
 returns-2 : tie.Need-returns-2
 unfolding testCycles
 returns-2 c =
-    let s = c .before .before .before .before .args .s in
-    let a : max (s .si) (s .so) ≡ s .si = omega (arith, c .before .before .if1 .left) in
-    let b : min (s .si) (s .so) ≡ s .so = omega (arith, c .before .before .if1 .left) in
-    rw (a, b)
+    let s = c .before .before .before .before .args in
+    let a : max (s .s .si) (s .s .so) ≡ s .s .si = omega (arith, c .before .before .if1 .left) in
+    let b : min (s .s .si) (s .s .so) ≡ s .s .so = omega (arith, c .before .before .if1 .left) in
+    rw (a, b) (omega (arith, add-mul (s .capture) (s .s .si) (s .patterns)))
 
 pub cycles-of-spec : {M : Type 1} → statement M
 cycles-of-spec =
     tie.close
     (tie.spec
-    add-result
+    mul-captured
     mul-result
+    add-result
     add-result-2
-    add-result-3
     mul-result-2
+    add-result-3
     add-result-4
     returns
     returns-2)

@@ -38,12 +38,14 @@ sum-of-requires c κs =
       s .pre .0,
       rw (with-is (c .before)) (short-scan-if _ (s .args .d) true (s .args .k) (s .pre .0)),
       rw (without-is c) (short-scan-if _ (s .args .d) false (s .args .k) (s .pre .0)),
+      s .pre .4,
     )
 
 returns : tie.Need-returns
 returns c =
     let s = c .before .before .before .before .before in
-    c .sum-of .ensures ∙ rw (with-is (c .before .before), without-is (c .before)) (figure-scans (s .args .d) (s .args .k))
+    c .sum-of .ensures ∙ rw (with-is (c .before .before), without-is (c .before))
+    (figure-scans (s .args .capture) (s .args .d) (s .args .k))
 
 pub figure-at-spec : {M : Type 1} → statement M
 figure-at-spec = tie.close (tie.spec scan-if-requires scan-if-requires-2 sum-of-requires returns)

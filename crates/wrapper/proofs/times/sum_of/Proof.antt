@@ -14,11 +14,12 @@ use Rattle.wrapper.proofs.times.sum_of.Statement.{statement}
 use Rattle.wrapper.proofs.times.sum_of.Tie as tie
 
 abbrev Inv-loop : tie.InvT-loop
-Inv-loop with without d n sum₀ i₀ sum i =
-    (i ≤ n) × (sum ≤ i * testTimeMax) × (sumScans with without (testsOf d) ≡ sum + sumScans with without (drop i (testsOf d)))
+Inv-loop with without capture d n sum₀ i₀ sum i =
+    (i ≤ n) × (sum ≤ i * testTimeMax)
+    × (sumScans capture with without (testsOf d) ≡ sum + sumScans capture with without (drop i (testsOf d)))
 
 abbrev μ-loop : tie.MeasureT-loop
-μ-loop with without d n sum₀ i₀ sum i = n - i
+μ-loop with without capture d n sum₀ i₀ sum i = n - i
 
 len : (c : tie.Start Inv-loop μ-loop) → length (c .args .t1 .tests) ≡ 8
 len c = simp length-map at (c .good .0 .1 .1 .1 .1 .1 .1 .1 .1 .1 .1 .1 .0 .1 .0 .1)
@@ -29,7 +30,8 @@ most c =
     let l = c .before .before .before in
     let s = l .before in
     rw (c .planned-cycles .ensures)
-    (planned-most (s .args .with) (s .args .without) (getD (s .args .t1 .tests) (l .loop .i) noTest) (s .pre .1) (s .pre .2)
+    (planned-most (s .args .capture) (s .args .with) (s .args .without) (getD (s .args .t1 .tests) (l .loop .i) noTest) (s .pre .3)
+    (s .pre .1) (s .pre .2)
     (s .pre .0 .patterns (l .loop .i)))
 
 loop-holds : tie.Need-loop-holds Inv-loop μ-loop
@@ -45,7 +47,7 @@ planned-cycles-requires : tie.Need-planned-cycles-requires Inv-loop μ-loop
 planned-cycles-requires c κs =
     let l = c .before .before in
     let s = l .before in
-    (s .pre .1, s .pre .2, s .pre .0 .patterns (l .loop .i))
+    (s .pre .1, s .pre .2, s .pre .0 .patterns (l .loop .i), s .pre .3)
 
 add-sum : tie.Need-add-sum Inv-loop μ-loop
 add-sum c = let l = c .before .before .before in omega (arith, most c, l .before .pre .0 .tests, l .loop .inv .1)
@@ -68,11 +70,11 @@ loop-again c =
     let at : getD (testsOf d) i noTest ≡ getD (d .tests) i noTest =
     getD-take (d .«test_count») (d .tests) i noTest (c .before .before .loop-test .taken)
     in
-    let e : c .planned-cycles .result ≡ plannedCycles (s .args .with) (s .args .without)
-    (getD (testsOf d) i noTest) = c .planned-cycles .ensures ∙ ap (plannedCycles (s .args .with) (s .args .without)) (sym at) in (
+    let cycles = plannedCycles (s .args .capture) (s .args .with) (s .args .without) in
+    let e : c .planned-cycles .result ≡ cycles (getD (testsOf d) i noTest) = c .planned-cycles .ensures ∙ ap cycles (sym at) in (
       omega arith,
       omega (arith, most c, l .loop .inv .1),
-      omega (arith, l .loop .inv .2, e, sum-step (s .args .with) (s .args .without) (testsOf d) i below),
+      omega (arith, l .loop .inv .2, e, sum-step (s .args .capture) (s .args .with) (s .args .without) (testsOf d) i below),
     )
 
 returns : tie.Need-returns Inv-loop μ-loop
@@ -83,7 +85,7 @@ returns c =
     omega (
       arith,
       l .loop .inv .2,
-      sum-end (s .args .with) (s .args .without) (testsOf d) (l .loop .i)
+      sum-end (s .args .capture) (s .args .with) (s .args .without) (testsOf d) (l .loop .i)
           (omega (arith, c .loop-test .left, length-take (d .«test_count») (d .tests))),
     )
 

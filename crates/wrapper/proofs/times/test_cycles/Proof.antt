@@ -26,13 +26,13 @@ scan-at-requires c κs =
 cycles-of-requires : tie.Need-cycles-of-requires
 cycles-of-requires c κs =
     let s = c .before .before in
-    (rw (scanned c) (short-scan (s .args .d) (s .args .t .«scan_use») (s .args .k) (s .pre .0)), s .pre .1)
+    (rw (scanned c) (short-scan (s .args .d) (s .args .t .«scan_use») (s .args .k) (s .pre .0)), s .pre .1, s .pre .4)
 
 returns : tie.Need-returns
 returns c =
     let s = c .before .before .before in
-    c .cycles-of .ensures ∙ ap (λ a. testCycles (a .si) (a .so) (s .args .t .patterns)) (scanned (c .before))
-    ∙ scan-time (s .args .d) (s .args .k) (s .args .t)
+    c .cycles-of .ensures ∙ ap (λ a. testCycles (s .args .capture) (a .si) (a .so) (s .args .t .patterns)) (scanned (c .before))
+    ∙ scan-time (s .args .capture) (s .args .d) (s .args .k) (s .args .t)
 
 pub test-cycles-spec : {M : Type 1} → statement M
 test-cycles-spec =
