@@ -8,7 +8,7 @@
  *
  * An answer is one number:
  *
- *   answer % 256   0, or the number of the refusal (1 to 16)
+ *   answer % 256   0, or the number of the refusal (1 to 17)
  *   answer / 256   of a refusal its line, counted from 1, or 0 where it has none; else the figure that the function gives
  *
  * A refused call leaves every lent byte as it was. One that is not refused writes its result at the front of the bytes lent for it and
@@ -32,6 +32,7 @@
  *   14 the SOC record breaks a limit or rule of the text, or a spare place in it is not 0
  *   15 the overlay does not fit the base: another name or options, a module that is not there, or another level
  *   16 the number of capture cycles is not from 1 to 4
+ *   17 a test of module 0 has TamUse 1: its terminals are the SOC's pins and need no access mechanism
  */
 #ifndef TALLOWWING_H
 #define TALLOWWING_H
@@ -73,12 +74,12 @@ extern "C" {
 #define TALLOWWING_PLAN_FILE_MAX 292
 #define TALLOWWING_LISTING_MAX 2048
 
-/* Reads a SOC text to its record. Refusals 1 to 6 with their line, then 11. The figure is 16,688, the bytes written. */
+/* Reads a SOC text to its record. Refusals 1 to 6 and 17 with their line, then 11. The figure is 16,688, the bytes written. */
 uint64_t tallowwing_read_soc(const uint8_t *text, size_t text_len, uint8_t *record, size_t record_len);
 
 /* Reads a SOC text, the base, and an overlay to the record of the combined description: each module is the overlay's where it has it,
- * otherwise the base's. Every function on a record takes it. Refusals 1 to 6 of the base, 1 to 6 of the overlay, 15, then 11. Of a refusal
- * answer / 256 is 4 times its line, and 1 more where the base is meant, 2 more where the overlay is. The figure is 16,688. */
+ * otherwise the base's. Every function on a record takes it. Refusals 1 to 6 and 17 of the base, the same of the overlay, 15, then 11. Of a
+ * refusal answer / 256 is 4 times its line, and 1 more where the base is meant, 2 more where the overlay is. The figure is 16,688. */
 uint64_t tallowwing_read_pair(
     const uint8_t *base, size_t base_len, const uint8_t *overlay, size_t overlay_len, uint8_t *record, size_t record_len);
 

@@ -25,6 +25,15 @@ static const char overlay[] =
     "Module\t1 TotalTests 1 \n"
     "Module 1 Test 1 ScanUse 1 TamUse 1 Patterns 5 ";
 
+/* A test of module 0 with TamUse 1, in a text and in an overlay, which does not fit t1 either. */
+static const char top[] =
+    "SocName t2\nTotalModules 1\nOptions Power 0 XY 0\nModule 0 Level 0 Inputs 0 Outputs 0 Bidirs 0 ScanChains 0 :\n"
+    "Module 0 TotalTests 1\nModule 0 Test 1 ScanUse 0 TamUse 1";
+
+static const char top_overlay[] =
+    "Overlay t2\nOptions Power 0 XY 0\nModule 0 Level 0 Inputs 0 Outputs 0 Bidirs 0 ScanChains 0 :\n"
+    "Module 0 TotalTests 1\nModule 0 Test 1 ScanUse 0 TamUse 1";
+
 static const char listing[] =
     "soc t1 wires 4 limit 2 time 65\n"
     "bus 1 width 1 busy 65\n"
@@ -87,6 +96,9 @@ int main(void)
     expect("pair, overlay", tallowwing_read_pair(base, length, base, length, pair, sizeof pair), 3, 4 * 1 + 2);
     expect("pair, unfit", tallowwing_read_pair(short_base, sizeof other - 1, late, over, pair, sizeof pair), 15, 2);
     expect("pair, chain", pair[48 + 416 + 20], 20, 0);
+    expect("read, module 0 on the TAM", tallowwing_read_soc((const uint8_t *)top, sizeof top - 1, pair, sizeof pair), 17, 6);
+    expect("pair, module 0 on the TAM",
+           tallowwing_read_pair(base, length, (const uint8_t *)top_overlay, sizeof top_overlay - 1, pair, sizeof pair), 17, 4 * 5 + 2);
     expect("lines", tallowwing_module_lines(base, length, late, over, 1), 0,
            131072ul * 36 + 2ul * (over - 1) + 1);
     expect("lines of the base", tallowwing_module_lines(base, length, late, over, 0), 0,
@@ -136,6 +148,10 @@ int main(void)
     expect("read a plan of 12-byte records", tallowwing_read_plan(old, sizeof old, again, sizeof again), 12, 0);
     expect("plan on one bus", tallowwing_plan(soc, sizeof soc, 4, 1, 1, again, sizeof again), 0, TALLOWWING_PLAN_BYTES);
     expect_bytes("start of the second module", again + 60 + 28 + 20, start, sizeof start);
+    file[0] = 0;
+    expect("plan file of module 0", tallowwing_read_plan(file, 80, again, sizeof again), 12, 0);
+    plan[60] = 0;
+    expect("plan record of module 0", tallowwing_write_plan(plan, sizeof plan, file, sizeof file), 12, 0);
     memcpy(input, "Plan 4 2\n", 9);
     memcpy(input + 9, text, length);
     expect("listing", tallowwing_listing(input, 9 + length, listed, sizeof listed), 0, sizeof listing - 1);
@@ -144,6 +160,12 @@ int main(void)
     memcpy(input + 11, text, length);
     expect("listing, four capture cycles", tallowwing_listing(input, 11 + length, listed, sizeof listed), 0, sizeof listing + 1);
     expect_bytes("listing, four capture cycles", listed + 28, "80\n", 3);
+    soc[48 + 284] = soc[48 + 288 + 8] = 1;
+    memset(soc + 48 + 288 + 12, 255, 4);
+    expect("test time of module 0", tallowwing_test_time(soc, sizeof soc, 0, 1, 4, 1), 0, 1);
+    soc[48 + 288 + 4] = 1;
+    expect("module 0 on the TAM", tallowwing_test_time(soc, sizeof soc, 0, 1, 4, 1), 14, 0);
+    soc[48 + 288 + 4] = 0;
     soc[36] = 2;
     expect("bad flag", tallowwing_module_time(soc, sizeof soc, 2, 4, 1), 14, 0);
 

@@ -87,9 +87,9 @@ position-fits option x y e =
     e
 
 -- a test, in use or spare
-good-test : (power : Bool) (t : Test) → goodTest power t ≡ true → FitTest t
-good-test power t e =
-    let f = test-figures power t e in
+good-test : (m : ℕ) (power : Bool) (t : Test) → goodTest m power t ≡ true → FitTest t
+good-test m power t e =
+    let f = test-figures m power t e in
     record { patterns = omega (arith, f .patterns); power = power-fits power (t .power) (f .power-kept) }
 
 spare-test : (t : Test) → spareTest t ≡ true → FitTest t
@@ -110,14 +110,14 @@ spare-length f e = none-small (f .0) e
 -- the places of a good module: its chains and its tests, and the spare ones
 good-places : (power xy : Bool) (m last : ℕ) (d : Module) → goodModule power xy m last d ≡ true
     → (filled (d .«chain_count») goodLength spareLength (d .chains) ≡ true)
-    × (filled (d .«test_count») (goodTest power) spareTest (d .tests) ≡ true)
+    × (filled (d .«test_count») (goodTest m power) spareTest (d .tests) ≡ true)
 unfolding goodModule goodChains goodTests
 good-places power xy m last d e =
     let a = and-both (leb (d .level) levelMax) _ e in
     let b = and-both (levelRule m last (d .level)) _ (a .1) in
     let c = and-both (goodTerminals d) _ (b .1) in
     let f = and-both (goodChains d) _ (c .1) in
-    let g = and-both (goodPosition xy (d .x) (d .y)) (goodTests power d) (f .1) in
+    let g = and-both (goodPosition xy (d .x) (d .y)) (goodTests m power d) (f .1) in
     (and-both (leb (d .«chain_count») chainsMax) _ (f .0) .1, and-both (leb (d .«test_count») testsMax) _ (g .1) .1)
 
 -- a module, in use or spare
@@ -136,7 +136,7 @@ good-module power xy m last d e =
       x = p .0;
       y = p .1;
       test-count = omega (arith, f .test-count);
-      tests = filled-each (goodTest power) spareTest FitTest (good-test power) spare-test noTest (d .«test_count») (d .tests) (k .1);
+      tests = filled-each (goodTest m power) spareTest FitTest (good-test m power) spare-test noTest (d .«test_count») (d .tests) (k .1);
     }
 
 spare-module : (d : Module) → spareModule d ≡ true → FitModule d

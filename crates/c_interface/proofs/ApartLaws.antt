@@ -45,7 +45,7 @@ record Small (r : Refusal) : Type 0 where
   number : r .number < 256
   line : r .line < aboveMax
 
-told-small : (r : Refusal) → r .number ≤ 16 → r .line ≡ 0 → Small r
+told-small : (r : Refusal) → r .number ≤ 17 → r .line ≡ 0 → Small r
 told-small r h e = record { number = omega arith; line = omega arith }
 
 code-says : (r : Refusal) (v : ℕ) → Small r → v < aboveMax → Says (code r v) r v
@@ -112,7 +112,7 @@ module _ (buf : List ℕ) (short : length buf < aboveMax) where
   layout-says b m i w c =
       let l = layout-told (socIn b) m i w c in
       given-says (layoutAnswer (socIn b) m i w c .refusal) (layoutBytes (layoutAnswer (socIn b) m i w c))
-      (told-small (layoutAnswer (socIn b) m i w c .refusal) (l .0) (l .1))
+      (told-small (layoutAnswer (socIn b) m i w c .refusal) (omega (arith, l .0)) (l .1))
 
   pub plan-says : (b : List ℕ) (W B c : ℕ) →
       let a = planAnswer (socIn b) W B c in
@@ -120,7 +120,7 @@ module _ (buf : List ℕ) (short : length buf < aboveMax) where
   plan-says b W B c =
       let l = answer-told (socIn b) W B c in
       given-says (planAnswer (socIn b) W B c .refusal) (planBytes (planAnswer (socIn b) W B c .plan))
-      (told-small (planAnswer (socIn b) W B c .refusal) (l .0) (l .1))
+      (told-small (planAnswer (socIn b) W B c .refusal) (omega (arith, l .0)) (l .1))
 
 -- times and wires
 module _ (b : List ℕ) (m : ℕ) where
@@ -128,17 +128,17 @@ module _ (b : List ℕ) (m : ℕ) where
   test-time-says i w c =
       let l = test-time-told (socIn b) m i w c in
       let a = testTimeAnswer (socIn b) m i w c in
-      code-says (a .refusal) (a .cycles .0) (told-small (a .refusal) (l .0) (l .1)) (omega (arith, l .2))
+      code-says (a .refusal) (a .cycles .0) (told-small (a .refusal) (omega (arith, l .0)) (l .1)) (omega (arith, l .2))
 
   module _ (w c : ℕ) where
     pub module-time-says : let a = moduleTimeAnswer (socIn b) m w c in Says (moduleTimeCode b m w c) (a .refusal) (a .cycles .0)
     module-time-says =
         let l = module-time-told (socIn b) m w c in
         let a = moduleTimeAnswer (socIn b) m w c in
-        code-says (a .refusal) (a .cycles .0) (told-small (a .refusal) (l .0) (l .1)) (omega (arith, l .2))
+        code-says (a .refusal) (a .cycles .0) (told-small (a .refusal) (omega (arith, l .0)) (l .1)) (omega (arith, l .2))
 
     pub module-wires-says : let a = moduleTimeAnswer (socIn b) m w c in Says (moduleWiresCode b m w c) (a .refusal) (a .wires .0)
     module-wires-says =
         let l = module-time-told (socIn b) m w c in
         let a = moduleTimeAnswer (socIn b) m w c in
-        code-says (a .refusal) (a .wires .0) (told-small (a .refusal) (l .0) (l .1)) (omega (arith, l .3))
+        code-says (a .refusal) (a .wires .0) (told-small (a .refusal) (omega (arith, l .0)) (l .1)) (omega (arith, l .3))

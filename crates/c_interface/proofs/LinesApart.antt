@@ -65,7 +65,7 @@ module _ (from to k : ℕ) (low : from < 65536) (high : to < 65536) (bit : k ≤
   middle = rw half (omega arith)
 
 module _ (base overlay : List ℕ) (m : ℕ) where
-  shown-told : (linesShown base overlay m .refusal .number ≤ 16) × (linesShown base overlay m .refusal .line ≤ textMax + 1)
+  shown-told : (linesShown base overlay m .refusal .number ≤ 17) × (linesShown base overlay m .refusal .line ≤ textMax + 1)
   unfolding linesShown shownOf shownIn
   shown-told = go (eqb (readPair base overlay .refusal .number) 0) (ltb m (readPair base overlay .soc .«module_count»))
       (getD (readPair base overlay .has) m false)
@@ -73,7 +73,7 @@ module _ (base overlay : List ℕ) (m : ℕ) where
       go : (t u v : Bool) →
           let s = cond t (cond u (shownIn base overlay m v) (noneShown (refused 13 0) meant.Neither))
           (noneShown (readPair base overlay .refusal) (readPair base overlay .meant)) in
-          (s .refusal .number ≤ 16) × (s .refusal .line ≤ textMax + 1)
+          (s .refusal .number ≤ 17) × (s .refusal .line ≤ textMax + 1)
       go true true true = (omega arith, omega arith)
       go true true false = (omega arith, omega arith)
       go true false v = (omega arith, omega arith)

@@ -31,7 +31,7 @@ use Rattle.c_interface.specs.Apart.{roomed, roomedMeant, PairSays}
 use Rattle.c_interface.proofs.ApartLaws.{above-number, above-figure}
 use Rattle.c_interface.proofs.CodeLaws.{meant-most}
 
-module _ (r : Refusal) (m : Meant) (number : r .number ≤ 16) (line : r .line ≤ textMax + 1) where
+module _ (r : Refusal) (m : Meant) (number : r .number ≤ 17) (line : r .line ≤ textMax + 1) where
   cut : 4 * (r .line % lineMax) + meantNumber m < aboveMax
   cut = omega (arith, meant-most m)
 

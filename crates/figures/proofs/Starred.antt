@@ -3,7 +3,7 @@
 use mathlib.Core.Path.{_≡_, refl, ap}
 use mathlib.Core.List.{_++_}
 use Rattle.fields.specs.Names.{nameBytes}
-use Rattle.soc.specs.Rules.{goodPower, goodPosition, goodTest, spareTest, levelRule, goodTerminals, goodChains, goodTests, goodModule, goodModules, spareModule, goodName, goodSoc}
+use Rattle.soc.specs.Rules.{goodPower, goodPosition, pinsRule, goodTest, spareTest, levelRule, goodTerminals, goodChains, goodTests, goodModule, goodModules, spareModule, goodName, goodSoc}
 use Rattle.soc.specs.Planned.{isPlanned, plannedFrom}
 use Rattle.units.specs.Places.{padded, allOf, anyOf}
 use Rattle.wrapper.specs.Fit.{longest, total, better, bestFrom, goes, placed, withCells, longestAfter}
@@ -24,7 +24,7 @@ use Rattle.figures.specs.Figures.{wrapperFigures, captureFigures, planFi
 records-hold :
     let l = wrapperFigures ++ captureFigures ++ planFigures t1 twoCopies ++ startFigures t1 twoCopies in
     computedOf l ≡ statedOf l
-unfolding isPlanned plannedFrom padded allOf anyOf longest total better bestFrom goes placed withCells longestAfter numberedFrom insert ordered sumOver howMany usedChains thread threaded scanIn scanOut testCycles testTime sumTimes figure bestTo moduleBest sum busyFrom busies largest timeOf upward widthLists placements plansOn plans firstLeast firstOf bestOf cyclesOn busRecords moduleRecords planRecord timeIn wiresIn bestFor planAnswer computedOf statedOf goodPower goodPosition goodTest spareTest levelRule goodTerminals goodChains goodTests goodModule goodModules spareModule goodName goodSoc nameBytes
+unfolding isPlanned plannedFrom padded allOf anyOf longest total better bestFrom goes placed withCells longestAfter numberedFrom insert ordered sumOver howMany usedChains thread threaded scanIn scanOut testCycles testTime sumTimes figure bestTo moduleBest sum busyFrom busies largest timeOf upward widthLists placements plansOn plans firstLeast firstOf bestOf cyclesOn busRecords moduleRecords planRecord timeIn wiresIn bestFor planAnswer computedOf statedOf goodPower goodPosition goodTest spareTest levelRule goodTerminals goodChains goodTests goodModule goodModules spareModule goodName goodSoc nameBytes pinsRule
 records-hold = refl
 
 -- and of the texts

@@ -35,6 +35,7 @@ use Rattle.overlay.specs.Overlay.{Block, block, goesOn, blocks, blocksMax, Plac
 use Rattle.overlay.specs.Overlay.{puts, places, withBlocks, behindName, overlay, refusedOverlay, answer, unlessBad, readOverlay}
 use Rattle.overlay.specs.declared.read.Overlay.{Overlay}
 use Rattle.overlay.proofs.BlockLaws.{block-within}
+use Rattle.text.proofs.Acceptance.{text-number-some}
 use Rattle.late_changes.specs.Together.{Lines, ofModule, StandsBut}
 use Rattle.late_changes.proofs.BlockAs.{number-due, block-as}
 use Rattle.late_changes.proofs.OverlayRefused.{overlay-refuses}
@@ -248,6 +249,6 @@ blocks-stand t m z h = go (leb (length t) textMax) (badByte 1 t) (overlay (lines
         a .refusal .number ≡ 0 → getD (a .overlay .has) m false ≡ true
         → StandsBut (a .overlay .power) (a .overlay .xy) m (getD (a .overlay .modules) m noModule) (fieldLines t)
     go true Nowhere (got v ls) e z h = overlay-stands (linesFrom 1 t 0) v ls m e h
-    go true Nowhere (no r) e z h = let k = overlay-refuses (linesFrom 1 t 0) r e in absurd (omega (arith, z, k))
+    go true Nowhere (no r) e z h = absurd (omega (arith, z, text-number-some (r .number) (overlay-refuses (linesFrom 1 t 0) r e)))
     go true (OnLine n) g e z h = absurd (omega (arith, z))
     go false b g e z h = absurd (omega (arith, z))

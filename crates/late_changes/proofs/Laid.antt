@@ -34,7 +34,7 @@ place-fits n m o b e =
 pub rule-of : (power xy : Bool) (m last : ℕ) (d : Module) → goodModule power xy m last d ≡ true → levelRule m last (d .level) ≡ true
 unfolding goodModule
 rule-of power xy m last d g =
-    let r = goodTerminals d && (goodChains d && (goodPosition xy (d .x) (d .y) && goodTests power d)) in
+    let r = goodTerminals d && (goodChains d && (goodPosition xy (d .x) (d .y) && goodTests m power d)) in
     and-both (levelRule m last (d .level)) r (and-both (leb (d .level) levelMax) (levelRule m last (d .level) && r) g .1) .0
 
 -- the combined modules keep the limits and rules, as the base's do

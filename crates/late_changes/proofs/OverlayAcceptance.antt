@@ -19,6 +19,8 @@ use Rattle.fields.specs.Readers.{no, got}
 use Rattle.soc.specs.Limits.{textMax}
 use Rattle.text_reader.specs.Lines.{LinesRead}
 use Rattle.text.specs.Describes.{fieldLines}
+use Rattle.text.specs.Numbers.{TextNumber}
+use Rattle.text.proofs.Acceptance.{text-number-some}
 use Rattle.overlay.specs.Overlay.{overlay, refusedOverlay, acceptedOverlay, answer, unlessBad, readOverlay}
 use Rattle.overlay.specs.declared.read.Overlay.{Overlay}
 use Rattle.overlay.specs.declared.read.OverlayRead.{OverlayRead}
@@ -33,21 +35,20 @@ Right t a = (v : Overlay) × (a ≡ acceptedOverlay v) × (length t ≤ textMax)
 
 -- the answer refuses, with this refusal
 abbrev Wrong : OverlayRead → Type 0
-Wrong a = (r : Refusal) × (a ≡ refusedOverlay r) × (1 ≤ r .number) × (r .number ≤ 6)
+Wrong a = (r : Refusal) × (a ≡ refusedOverlay r) × TextNumber (r .number)
 
 module _ (t : List ℕ) where
   lines-outcome : length t ≤ textMax → badByte 1 t ≡ Nowhere → (g : LinesRead Overlay) → overlay (linesFrom 1 t 0) ≡ g
       → Right t (answer g) ⊎ Wrong (answer g)
   unfolding answer
   lines-outcome h k (no r) e =
-      let f = overlay-refuses (linesFrom 1 t 0) r e in
-      inr (r, refl, omega arith, omega arith)
+      inr (r, refl, overlay-refuses (linesFrom 1 t 0) r e)
   lines-outcome h k (got v ls) e = inl (v, refl, h, k, overlay-only (linesFrom 1 t 0) v ls e .0)
 
   bytes-outcome : length t ≤ textMax → (b : BadByte) → badByte 1 t ≡ b
       → Right t (unlessBad b (answer (overlay (linesFrom 1 t 0)))) ⊎ Wrong (unlessBad b (answer (overlay (linesFrom 1 t 0))))
   unfolding unlessBad
-  bytes-outcome h (OnLine n) e = inr (refused 2 n, refl, omega arith, omega arith)
+  bytes-outcome h (OnLine n) e = inr (refused 2 n, refl, inl (omega arith, omega arith))
   bytes-outcome h Nowhere e = lines-outcome h e (overlay (linesFrom 1 t 0)) refl
 
   outcome : Right t (readOverlay t) ⊎ Wrong (readOverlay t)
@@ -60,11 +61,11 @@ module _ (t : List ℕ) where
       go : (b : Bool) → leb (length t) textMax ≡ b
           → Right t (cond b read (refusedOverlay (refused 1 0))) ⊎ Wrong (cond b read (refusedOverlay (refused 1 0)))
       go true e = bytes-outcome (leb-true (length t) textMax e) (badByte 1 t) refl
-      go false e = inr (refused 1 0, refl, omega arith, omega arith)
+      go false e = inr (refused 1 0, refl, inl (omega arith, omega arith))
 
-  -- it accepts, or it refuses with a number from 1 to 6
+  -- it accepts, or it refuses with a number from 1 to 6, or with 17
   pub overlay-accepts-or-refuses : ((v : Overlay) × (readOverlay t ≡ acceptedOverlay v))
-      ⊎ ((r : Refusal) × (readOverlay t ≡ refusedOverlay r) × (1 ≤ r .number) × (r .number ≤ 6))
+      ⊎ ((r : Refusal) × (readOverlay t ≡ refusedOverlay r) × TextNumber (r .number))
   overlay-accepts-or-refuses = go outcome
     where
       go : Right t (readOverlay t) ⊎ Wrong (readOverlay t) → ((v : Overlay) × (readOverlay t ≡ acceptedOverlay v)) ⊎ Wrong (readOverlay t)
@@ -80,9 +81,9 @@ module _ (t : List ℕ) where
         go (inl (q, e, h, k, l)) =
             let i : q ≡ v = ap (λ (r : OverlayRead). r .overlay) (sym e ∙ a) in
             (h, k, rw i at l)
-        go (inr (r, e, h, k)) =
+        go (inr (r, e, n)) =
             let i : r .number ≡ 0 = ap (λ (r : OverlayRead). r .refusal .number) (sym e ∙ a) in
-            absurd (omega arith)
+            absurd (omega (arith, text-number-some (r .number) n))
 
     pub overlay-short : length t ≤ textMax
     overlay-short = accepted-is .0

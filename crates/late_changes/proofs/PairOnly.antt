@@ -16,7 +16,8 @@ use Rattle.soc.specs.declared.record.Soc.{Soc}
 use Rattle.text_reader.specs.Reading.{acceptedSoc, refusedSoc, readSoc}
 use Rattle.text_reader.specs.declared.read.SocRead.{SocRead}
 use Rattle.text_writer.specs.WrittenSoc.{writtenSoc}
-use Rattle.text.proofs.Acceptance.{accepts-or-refuses, accepted-good, accepted-sized}
+use Rattle.text.specs.Numbers.{TextNumber}
+use Rattle.text.proofs.Acceptance.{accepts-or-refuses, accepted-good, accepted-sized, text-number-some}
 use Rattle.text.proofs.TextLaws.{round-trip}
 use Rattle.overlay.specs.Overlay.{readOverlay}
 use Rattle.overlay.specs.declared.read.Overlay.{Overlay}
@@ -39,11 +40,11 @@ pub record Accepted (base overlay : List ℕ) : Type 0 where
 base-accepted : (t : List ℕ) → readSoc t .refusal .number ≡ 0 → readSoc t ≡ acceptedSoc (readSoc t .soc)
 base-accepted t h = go (accepts-or-refuses t)
   where
-    go : ((s : Soc) × (readSoc t ≡ acceptedSoc s)) ⊎ ((r : Refusal) × (readSoc t ≡ refusedSoc r) × (1 ≤ r .number) × (r .number ≤ 6)) → readSoc t ≡ acceptedSoc (readSoc t .soc)
+    go : ((s : Soc) × (readSoc t ≡ acceptedSoc s)) ⊎ ((r : Refusal) × (readSoc t ≡ refusedSoc r) × TextNumber (r .number)) → readSoc t ≡ acceptedSoc (readSoc t .soc)
     go (inl (s, e)) = e ∙ ap (λ (a : SocRead). acceptedSoc (a .soc)) (sym e)
-    go (inr (r, e, l, m)) =
+    go (inr (r, e, n)) =
         let z : r .number ≡ 0 = sym (ap (λ (a : SocRead). a .refusal .number) e) ∙ h in
-        absurd (omega arith)
+        absurd (omega (arith, text-number-some (r .number) n))
 
 joined-only : (s : Soc) (o : Overlay) → joined s o .refusal .number ≡ 0 → (fits s o ≡ true) × (joined s o ≡ acceptedPair (combined s o) (o .has))
 unfolding joined

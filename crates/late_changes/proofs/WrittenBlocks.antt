@@ -35,7 +35,7 @@ use Rattle.late_changes.specs.WrittenOverlay.{blockLinesFrom, overlayLin
 use Rattle.late_changes.proofs.OtherLevel.{withLevel, ruled, good-back}
 
 -- a module's figures do not rest on the level rule
-block-figures : (power xy : Bool) (m : ℕ) (d : Module) → goodBlock power xy m d ≡ true → ModuleFigures power xy d
+block-figures : (power xy : Bool) (m : ℕ) (d : Module) → goodBlock power xy m d ≡ true → ModuleFigures power xy m d
 unfolding goodBlock
 block-figures power xy m d g =
     let f = module-figures power xy m 0 (withLevel (ruled m) d) (good-back power xy m d g) in

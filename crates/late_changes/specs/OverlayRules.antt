@@ -19,7 +19,7 @@ use Rattle.late_changes.specs.DescribesOverlay.{headOf}
 -- module m, with any level from 0 to 40
 unfoldable pub goodBlock : Bool → Bool → ℕ → Module → Bool
 goodBlock power xy m d =
-    leb (d .level) levelMax && (goodTerminals d && (goodChains d && (goodPosition xy (d .x) (d .y) && goodTests power d)))
+    leb (d .level) levelMax && (goodTerminals d && (goodChains d && (goodPosition xy (d .x) (d .y) && goodTests m power d)))
 
 -- of the modules from number m on those that the overlay has; the other places are spare
 unfoldable pub goodBlocks : Bool → Bool → ℕ → List Bool → List Module → Bool

@@ -129,6 +129,6 @@ unfoldable pub unlessBad : BadByte → OverlayRead → OverlayRead
 unlessBad (OnLine n) a = refusedOverlay (refused 2 n)
 unlessBad Nowhere a = a
 
--- "overlay faults as 1 to 6 with the overlay's line"
+-- "overlay faults as 1 to 6 with the overlay's line", and 17 "in overlays too"
 unfoldable pub readOverlay : List ℕ → OverlayRead
 readOverlay t = cond (leb (length t) textMax) (unlessBad (badByte 1 t) (answer (overlay (linesFrom 1 t 0)))) (refusedOverlay (refused 1 0))

@@ -15,7 +15,7 @@ use Rattle.wrapper.proofs.WrapperAnswerLaws.{layout-told, test-time-told, modul
 use Rattle.plan.proofs.PlannerLaws.{answer-told}
 use Rattle.pair.specs.Pair.{readPair}
 use Rattle.late_changes.proofs.PairOnly.{pair-good}
-use Rattle.late_changes.proofs.PairRefused.{pair-told}
+use Rattle.late_changes.proofs.PairRefused.{PairNumber, pair-told}
 use Rattle.pair_entries.specs.LaidPair.{emptyLayout, refusedLayout, layoutOf, layoutPair}
 use Rattle.pair_entries.specs.PlannedPair.{refusedPlan, planOf, planPair}
 use Rattle.pair_entries.specs.TimedPair.{refusedTestTime, testTimeOf, testTimePair, refusedModuleTime, moduleTimeOf, moduleTimePair}
@@ -82,9 +82,11 @@ module _ (base overlay : List ℕ) where
   refused-not-14 : readPair base overlay .refusal .number ≡ 14 → ⊥
   refused-not-14 e = go (pair-told base overlay .0)
     where
-      go : (readPair base overlay .refusal .number ≤ 6) ⊎ (readPair base overlay .refusal .number ≡ 15) → ⊥
+      go : PairNumber (readPair base overlay .refusal .number) → ⊥
       go (inl k) = omega arith
-      go (inr k) = omega arith
+      go (inr (inl (inl k))) = omega (arith, k .1)
+      go (inr (inl (inr k))) = omega arith
+      go (inr (inr k)) = omega arith
 
   pub write-pair-not-14 : (buf : List ℕ) → writePair base overlay buf .answer .refusal .number ≡ 14 → ⊥
   unfolding writePair
@@ -121,62 +123,63 @@ module _ (base overlay : List ℕ) where
       (λ h. refused-not-14)
       (λ h. good.plan-not-14 (readPair base overlay .soc) (pair-good base overlay h) W B c)
 
-  -- a number is at most 15, a line at most as many as a text may have, and a figure keeps its maximum
-  pub told-number : readPair base overlay .refusal .number ≤ 16
+  -- a number is at most 17, a line at most as many as a text may have, and a figure keeps its maximum
+  pub told-number : readPair base overlay .refusal .number ≤ 17
   told-number = go (pair-told base overlay .0)
     where
-      go : (readPair base overlay .refusal .number ≤ 6) ⊎ (readPair base overlay .refusal .number ≡ 15)
-          → readPair base overlay .refusal .number ≤ 16
+      go : PairNumber (readPair base overlay .refusal .number) → readPair base overlay .refusal .number ≤ 17
       go (inl k) = omega arith
-      go (inr k) = omega arith
+      go (inr (inl (inl k))) = omega (arith, k .1)
+      go (inr (inl (inr k))) = omega arith
+      go (inr (inr k)) = omega arith
 
   pub write-pair-told : (buf : List ℕ) →
       let a = writePair base overlay buf .answer in
-      (a .refusal .number ≤ 16) × (a .refusal .line ≤ textMax + 1) × (a .len ≤ length buf)
+      (a .refusal .number ≤ 17) × (a .refusal .line ≤ textMax + 1) × (a .len ≤ length buf)
   unfolding writePair
   write-pair-told buf =
       of-either (readPair base overlay) refusedWrite (writeOf buf)
-      (λ a. (a .answer .refusal .number ≤ 16) × (a .answer .refusal .line ≤ textMax + 1) × (a .answer .len ≤ length buf))
+      (λ a. (a .answer .refusal .number ≤ 17) × (a .answer .refusal .line ≤ textMax + 1) × (a .answer .len ≤ length buf))
       (λ h. (told-number, pair-told base overlay .1, omega arith))
       (λ h. let f = write-fits (readPair base overlay .soc) buf in (omega (arith, f .number), omega (arith, f .line), f .len))
 
   pub layout-pair-told : (m i w c : ℕ) →
       let a = layoutPair base overlay m i w c .answer in
-      (a .refusal .number ≤ 16) × (a .refusal .line ≤ textMax + 1)
+      (a .refusal .number ≤ 17) × (a .refusal .line ≤ textMax + 1)
   unfolding layoutPair emptyLayout
   layout-pair-told m i w c =
       of-either (readPair base overlay) refusedLayout (layoutOf m i w c)
-      (λ a. (a .answer .refusal .number ≤ 16) × (a .answer .refusal .line ≤ textMax + 1))
+      (λ a. (a .answer .refusal .number ≤ 17) × (a .answer .refusal .line ≤ textMax + 1))
       (λ h. (told-number, pair-told base overlay .1))
       (λ h. let l = layout-told (readPair base overlay .soc) m i w c in (omega (arith, l .0), omega (arith, l .1)))
 
   pub test-time-pair-told : (m i w c : ℕ) →
       let a = testTimePair base overlay m i w c .answer in
-      (a .refusal .number ≤ 16) × (a .refusal .line ≤ textMax + 1) × (a .cycles .0 ≤ testTimeMax)
+      (a .refusal .number ≤ 17) × (a .refusal .line ≤ textMax + 1) × (a .cycles .0 ≤ testTimeMax)
   unfolding testTimePair
   test-time-pair-told m i w c =
       of-either (readPair base overlay) refusedTestTime (testTimeOf m i w c)
-      (λ a. (a .answer .refusal .number ≤ 16) × (a .answer .refusal .line ≤ textMax + 1) × (a .answer .cycles .0 ≤ testTimeMax))
+      (λ a. (a .answer .refusal .number ≤ 17) × (a .answer .refusal .line ≤ textMax + 1) × (a .answer .cycles .0 ≤ testTimeMax))
       (λ h. (told-number, pair-told base overlay .1, omega arith))
       (λ h. let l = test-time-told (readPair base overlay .soc) m i w c in (omega (arith, l .0), omega (arith, l .1), l .2))
 
   pub module-time-pair-told : (m w c : ℕ) →
       let a = moduleTimePair base overlay m w c .answer in
-      (a .refusal .number ≤ 16) × (a .refusal .line ≤ textMax + 1) × (a .cycles .0 ≤ moduleTimeMax) × (a .wires .0 ≤ widthMax)
+      (a .refusal .number ≤ 17) × (a .refusal .line ≤ textMax + 1) × (a .cycles .0 ≤ moduleTimeMax) × (a .wires .0 ≤ widthMax)
   unfolding moduleTimePair
   module-time-pair-told m w c =
       of-either (readPair base overlay) refusedModuleTime (moduleTimeOf m w c)
-      (λ a. (a .answer .refusal .number ≤ 16) × (a .answer .refusal .line ≤ textMax + 1) × (a .answer .cycles .0 ≤ moduleTimeMax)
+      (λ a. (a .answer .refusal .number ≤ 17) × (a .answer .refusal .line ≤ textMax + 1) × (a .answer .cycles .0 ≤ moduleTimeMax)
       × (a .answer .wires .0 ≤ widthMax))
       (λ h. (told-number, pair-told base overlay .1, omega arith, omega arith))
       (λ h. let l = module-time-told (readPair base overlay .soc) m w c in (omega (arith, l .0), omega (arith, l .1), l .2, l .3))
 
   pub plan-pair-told : (W B c : ℕ) →
       let a = planPair base overlay W B c .answer in
-      (a .refusal .number ≤ 16) × (a .refusal .line ≤ textMax + 1)
+      (a .refusal .number ≤ 17) × (a .refusal .line ≤ textMax + 1)
   unfolding planPair
   plan-pair-told W B c =
       of-either (readPair base overlay) refusedPlan (planOf W B c)
-      (λ a. (a .answer .refusal .number ≤ 16) × (a .answer .refusal .line ≤ textMax + 1))
+      (λ a. (a .answer .refusal .number ≤ 17) × (a .answer .refusal .line ≤ textMax + 1))
       (λ h. (told-number, pair-told base overlay .1))
       (λ h. let l = answer-told (readPair base overlay .soc) W B c in (omega (arith, l .0), omega (arith, l .1)))

@@ -1,6 +1,6 @@
 -- What document 01 demands of the planner's answer ("The plan"), of the answer itself: the plan that its record holds is the first of least
 -- time, there is no other, its time is what its own buses come to, and its modules are the planned ones; and when these run (document 02,
--- item 1). Assumes nothing.
+-- item 1); none is module 0 (item 6). Assumes nothing.
 use Prim.Native.Nat.{ℕ, suc, _≤_, _<_}
 use mathlib.Core.Path.{_≡_, refl, sym, ap, _∙_}
 use mathlib.Core.Bool.{true}
@@ -15,7 +15,7 @@ use Rattle.plan_record.specs.Good.{goodPlan}
 use Rattle.plan_record.specs.Starts.{endOf, RunsAt, moduleOf, busOf, IsLast}
 use Rattle.plan_record.specs.Whole.{Whole}
 use Rattle.plan_record.proofs.RecordLaws.{record-plan, record-numbers, record-time, record-busy, record-bus-places, record-module-places}
-use Rattle.plan_record.proofs.StartLaws.{good-start, good-alone, good-last, good-end}
+use Rattle.plan_record.proofs.StartLaws.{good-number, good-start, good-alone, good-last, good-end}
 use Rattle.plan.specs.PlanAnswers.{timeIn, wiresIn, bestFor, recordOf, planAnswer}
 use Rattle.plan.specs.declared.answer.PlanAnswer.{PlanAnswer}
 use Rattle.plan.proofs.PlannerLaws.{Answered, answered, best-for-first, planner-answers-good}
@@ -73,6 +73,10 @@ module _ (s : Soc) (W B c : ℕ) (h : planAnswer s W B c .refusal .number ≡ 0)
         buses = record-bus-places (plannedOf s) (timeIn c s) (wiresIn c s) W B p (best .is-plan) (told .few);
         modules = record-module-places (plannedOf s) (timeIn c s) (wiresIn c s) W B p (best .is-plan) (told .most);
       })
+
+  -- "the top module's terminals are the SOC's pins and need no access mechanism": it names no module 0
+  pub answer-number : (i : ℕ) → let r = planAnswer s W B c .plan in i < r .«module_count» → 1 ≤ moduleOf r i .number
+  answer-number = good-number (planAnswer s W B c .plan) whole good
 
   -- "a module starts at the sum of the cycles of lower-numbered modules on its bus"
   pub answer-start : (i : ℕ) → i < planAnswer s W B c .plan .«module_count» →

@@ -6,7 +6,7 @@ use mathlib.Core.Bool.{Bool, true, false, cond, _&&_}
 use mathlib.Core.List.{List, [], _∷_}
 use native.Mathlib.Omega.{arith}
 use borrow.Author.Tests.{leb-true, le-leb}
-use lib.ListN.{length, getD, length-take}
+use lib.ListN.{length, getD, drop, length-take, length-drop}
 use lib.Seq.{getD-take}
 use lib.Dec.{leb}
 use Rattle.units.specs.Refusals.{accepted}
@@ -16,6 +16,7 @@ use Rattle.soc.specs.Record.{noModule, modulesOf}
 use Rattle.soc.specs.Rules.{goodSoc}
 use Rattle.soc.specs.Planned.{isPlanned, plannedFrom, plannedOf}
 use Rattle.soc.proofs.GoodSocLaws.{soc-figures}
+use Rattle.soc.proofs.PinsLaws.{planned-from-one}
 use Rattle.soc.specs.declared.record.Module.{Module}
 use Rattle.soc.specs.declared.record.Soc.{Soc}
 use Rattle.wrapper.specs.Maxima.{moduleTimeMax}
@@ -87,8 +88,12 @@ ascending-planned low m (d ∷ ds) h k =
     go true f g = rw (le-leb low m h, le-leb m (modulesMax - 1) (omega arith)) f
     go false f g = g
 
-pub planned-ascends : (s : Soc) → goodSoc s ≡ true → ascendingFrom 0 (plannedOf s) ≡ true
-planned-ascends s good = ascending-planned 0 0 (modulesOf s) (omega arith) (omega (arith, soc-figures s good .module-count, length-take (s .«module_count») (s .modules)))
+-- and the first is at least 1
+pub planned-ascends : (s : Soc) → goodSoc s ≡ true → ascendingFrom 1 (plannedOf s) ≡ true
+planned-ascends s good =
+    rw (planned-from-one s good)
+    (ascending-planned 1 1 (drop 1 (modulesOf s)) (omega arith)
+    (omega (arith, soc-figures s good .module-count, length-drop 1 (modulesOf s), length-take (s .«module_count») (s .modules))))
 
 -- "The answer is the first plan of least time."
 pub best-for-first : (c : ℕ) (s : Soc) (W B : ℕ) → 1 ≤ W → 1 ≤ B

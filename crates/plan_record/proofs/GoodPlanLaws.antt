@@ -196,17 +196,17 @@ pub plan-order : (p : BusPlan) →
     let ms = modulesOf p in
     goodPlan p
     ≡ (goodCounts p
-    && (goodBuses p && (ascendingFrom 0 (numbersOf ms) && (allOf (goodPlaced p) ms && (goodTimes p && (goodStarts ms && spareRest p))))))
+    && (goodBuses p && (ascendingFrom 1 (numbersOf ms) && (allOf (goodPlaced p) ms && (goodTimes p && (goodStarts ms && spareRest p))))))
 unfolding goodPlan
 plan-order p =
     let ms = modulesOf p in
     ap (λ (r : Bool). goodCounts p && r)
-    (and-third (ascendingFrom 0 (numbersOf ms)) (allOf (goodPlaced p) ms) (goodBuses p) (goodTimes p && (goodStarts ms && spareRest p)))
+    (and-third (ascendingFrom 1 (numbersOf ms)) (allOf (goodPlaced p) ms) (goodBuses p) (goodTimes p && (goodStarts ms && spareRest p)))
 
 -- the parts of a good plan
 pub record GoodParts (p : BusPlan) : Type 0 where
   pub counts : goodCounts p ≡ true
-  pub ascending : ascendingFrom 0 (numbersOf (modulesOf p)) ≡ true
+  pub ascending : ascendingFrom 1 (numbersOf (modulesOf p)) ≡ true
   pub placed : allOf (goodPlaced p) (modulesOf p) ≡ true
   pub buses : goodBuses p ≡ true
   pub times : goodTimes p ≡ true
@@ -238,7 +238,7 @@ good-figures p e =
       buses-high = omega arith;
       modules-low = n .modules-low;
       modules-high = n .modules-high;
-      number = λ i h. rw getD-take at (ascending-at 0 (modulesOf p) (g .ascending) i);
+      number = λ i h. rw getD-take at (ascending-at 1 (modulesOf p) (g .ascending) i);
       bus = λ i h. let f = placed-front p (g .placed) i h in omega arith;
       wires = λ i h. let f = placed-front p (g .placed) i h in omega (arith, good-width p (g .buses) (getD (p .modules) i noPlaced .bus - 1) (omega arith));
       cycles = λ i h. placed-front p (g .placed) i h .cycles;

@@ -122,7 +122,7 @@ busy-sums ms b (x ∷ bs) h =
 pub record Recordable (numbers : List ℕ) (time used : ℕ → ℕ → ℕ) : Type 0 where
   pub some : 1 ≤ length numbers
   pub few : length numbers ≤ modulePlaces
-  pub ascending : ascendingFrom 0 numbers ≡ true
+  pub ascending : ascendingFrom 1 numbers ≡ true
   pub times : (i w : ℕ) → i < length numbers → 1 ≤ w → (1 ≤ time i w) × (time i w ≤ moduleTimeMax)
   pub wires : (i w : ℕ) → 1 ≤ w → (1 ≤ used i w) × (used i w ≤ w)
 
@@ -214,13 +214,13 @@ module _ (numbers : List ℕ) (time used : ℕ → ℕ → ℕ) (W B : ℕ) (p :
     record-times = and-holds (busy-sums (modulesOf r) 1 (busesOf r) busy-at) (eq-eqb (r .time .0) (largest (busiesOf (busesOf r))) record-time)
 
     -- "a module starts at the sum of the cycles of lower-numbered modules on its bus"
-    module _ (ascending : ascendingFrom 0 numbers ≡ true) where
+    module _ (ascending : ascendingFrom 1 numbers ≡ true) where
       record-start : (i : ℕ) → i < length numbers → getD placed i noPlaced .start .0 ≡ startOf placed (getD placed i noPlaced)
       record-start i h =
           let n : i < length (p .buses) = omega (arith, is .placed) in
           let k : i < length placed = omega (arith, placed-length) in
           let all = numbers-are numbers time used (p .widths) (p .buses) 0 (p .buses) (omega (arith, is .placed)) in
-          let a : ascendingFrom 0 (numbersOf placed) ≡ true = rw all ascending in
+          let a : ascendingFrom 1 (numbersOf placed) ≡ true = rw all ascending in
           let m = record-at numbers time used (p .widths) (p .buses) 0 i (p .buses) n in
           let b = getD (p .buses) i 0 in
           let s : suc (b - 1) ≡ b = omega (arith, is .low i h) in
@@ -228,7 +228,7 @@ module _ (numbers : List ℕ) (time used : ℕ → ℕ → ℕ) (W B : ℕ) (p :
           let t : cyclesOn b (take i placed) ≡ busyFrom time 0 b (getD (p .widths) (b - 1) 0) (take i (p .buses)) =
           rw (take-records numbers time used (p .widths) (p .buses) i 0 (p .buses))
           (rw s at (cycles-busy numbers time used (p .widths) (p .buses) 0 (b - 1) (take i (p .buses)))) in
-          rw e at (m .1) ∙ sym (start-front 0 placed a i k ∙ ap (λ x. cyclesOn x (take i placed)) (m .0) ∙ t)
+          rw e at (m .1) ∙ sym (start-front 1 placed a i k ∙ ap (λ x. cyclesOn x (take i placed)) (m .0) ∙ t)
 
       record-starts : goodStarts (modulesOf r) ≡ true
       unfolding goodStarts
@@ -291,7 +291,7 @@ module _ (numbers : List ℕ) (time used : ℕ → ℕ → ℕ) (W B : ℕ) (p :
         unfolding goodPlan spareRest
         record-good =
             and-holds record-counts
-            (and-holds (ap (ascendingFrom 0) record-numbers ∙ fit .ascending)
+            (and-holds (ap (ascendingFrom 1) record-numbers ∙ fit .ascending)
             (and-holds record-placed
             (and-holds record-buses-good
             (and-holds record-times (and-holds (record-starts (fit .ascending)) (and-holds spare-buses spare-modules))))))

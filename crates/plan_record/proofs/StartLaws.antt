@@ -229,7 +229,11 @@ module _ (p : BusPlan) (w : Whole p) (good : goodPlan p ≡ true) where
   good-order : (i j : ℕ) → i < j → j < p .«module_count» → moduleOf p i .number < moduleOf p j .number
   good-order i j l h =
       rw (in-use i (omega arith), in-use j h) at
-      (ascending-places 0 (modulesOf p) (parts .ascending) i j l (omega (arith, count-is)))
+      (ascending-places 1 (modulesOf p) (parts .ascending) i j l (omega (arith, count-is)))
+
+  -- "a plan record or plan file that names module 0 is 12"
+  pub good-number : (i : ℕ) → i < p .«module_count» → 1 ≤ moduleOf p i .number
+  good-number i h = rw (in-use i h) at (ascending-low 1 (modulesOf p) (parts .ascending) i (omega (arith, count-is)))
 
   -- "A good file or record has exactly these starts."
   pub good-start : (i : ℕ) → i < p .«module_count» → moduleOf p i .start .0 ≡ startOf (modulesOf p) (moduleOf p i)
@@ -292,7 +296,7 @@ module _ (p : BusPlan) (w : Whole p) (good : goodPlan p ≡ true) where
     -- the last module of a bus ends at its busy figure
     pub good-last : IsLast p i → endOf (moduleOf p i) ≡ busOf p i .busy .0
     good-last l =
-        let e = rw (in-use i h) at (start-last 0 (modulesOf p) (parts .ascending) i (omega (arith, count-is))) in
+        let e = rw (in-use i h) at (start-last 1 (modulesOf p) (parts .ascending) i (omega (arith, count-is))) in
         let a = e (λ j k. let m : j < p .«module_count» = omega (arith, count-is) in rw (in-use j m) (l j m)) in
         omega (arith, good-start i h, busy-cycles, a)
 

@@ -1,5 +1,5 @@
--- When a plan record is good (document 01, "The plan file"; document 02, item 1): its counts keep the limits, its buses and widths obey the
--- plan rules, busy and time are the sums and the maximum, starts are the sums before them, and spare places are 0.
+-- When a plan record is good (document 01, "The plan file"; document 02, items 1 and 6): its counts keep the limits, its buses and widths
+-- obey the plan rules, busy and time are the sums and the maximum, starts are the sums before them, and spare places are 0.
 use Prim.Native.Nat.{ℕ, suc, _-_}
 use mathlib.Core.Bool.{Bool, true, _&&_}
 use mathlib.Core.List.{List, [], _∷_}
@@ -23,7 +23,8 @@ within low high n = leb low n && leb n high
 unfoldable pub goodCounts : BusPlan → Bool
 goodCounts p = within 1 widthMax (p .wires .0) && (within 1 busPlaces (p .limit) && within 1 modulePlaces (p .«module_count»))
 
--- "numbers 0 to 39 strictly ascending": each at least low, and the next one above it
+-- "numbers 0 to 39 strictly ascending", from 1 on since "a plan record or plan file that names module 0 is 12": each at least low, and the
+-- next one above it
 unfoldable pub ascendingFrom : ℕ → List ℕ → Bool
 ascendingFrom low [] = true
 ascendingFrom low (n ∷ ns) = leb low n && (leb n (modulesMax - 1) && ascendingFrom (suc n) ns)
@@ -70,5 +71,5 @@ spareRest p = allOf spareBus (drop (p .«bus_count») (p .buses)) && allOf spare
 unfoldable pub goodPlan : BusPlan → Bool
 goodPlan p =
     goodCounts p
-    && (ascendingFrom 0 (numbersOf (modulesOf p))
+    && (ascendingFrom 1 (numbersOf (modulesOf p))
     && (allOf (goodPlaced p) (modulesOf p) && (goodBuses p && (goodTimes p && (goodStarts (modulesOf p) && spareRest p)))))

@@ -43,10 +43,10 @@ fn has_good_counts(p: BusPlan) -> bool
 
 fn is_ascending(p: BusPlan) -> bool
     requires { ⌜ p .«module_count» ≤ modulePlaces ⌝ }
-    ensures { λ r. ⌜ r ≡ ascendingFrom 0 (numbersOf (modulesOf p)) ⌝ }
+    ensures { λ r. ⌜ r ≡ ascendingFrom 1 (numbersOf (modulesOf p)) ⌝ }
 {
     let n = p.module_count;
-    let mut low: usize = 0;
+    let mut low: usize = 1;
     let mut i: usize = 0;
     while i < n {
         let m = p.modules[i];

@@ -12,7 +12,7 @@ use Rattle.units.proofs.TestLaws.{and-both}
 use Rattle.fields.specs.Names.{isName, nameMax}
 use Rattle.soc.specs.Limits.{modulesMax, levelMax, terminalsMax, chainsMax, testsMax, patternsMax}
 use Rattle.soc.specs.Record.{noModule, nameOf, modulesOf, chainsOf, testsOf}
-use Rattle.soc.specs.Rules.{none, goodLength, spareLength, goodPower, goodPosition, goodTest, spareTest, levelRule, goodTerminals, goodChains, goodTests, goodModule, goodModules, spareModule, goodName, goodSoc}
+use Rattle.soc.specs.Rules.{none, goodLength, spareLength, goodPower, goodPosition, pinsRule, goodTest, spareTest, levelRule, goodTerminals, goodChains, goodTests, goodModule, goodModules, spareModule, goodName, goodSoc}
 use Rattle.soc.specs.declared.record.Test.{Test}
 use Rattle.soc.specs.declared.record.Module.{Module}
 use Rattle.soc.specs.declared.record.Soc.{Soc}
@@ -21,14 +21,15 @@ pub record TestFigures (power : Bool) (t : Test) : Type 0 where
   pub patterns : t .patterns ≤ patternsMax
   pub power-kept : goodPower power (t .power) ≡ true
 
-pub test-figures : (power : Bool) (t : Test) → goodTest power t ≡ true → TestFigures power t
+pub test-figures : (m : ℕ) (power : Bool) (t : Test) → goodTest m power t ≡ true → TestFigures power t
 unfolding goodTest
-test-figures power t h =
-    let a = and-both (leb 1 (t .patterns)) (leb (t .patterns) patternsMax && goodPower power (t .power)) h .1 in
+test-figures m power t h =
+    let r = and-both (pinsRule m (t .«tam_use»)) _ h .1 in
+    let a = and-both (leb 1 (t .patterns)) (leb (t .patterns) patternsMax && goodPower power (t .power)) r .1 in
     let b = and-both (leb (t .patterns) patternsMax) (goodPower power (t .power)) a in
     record { patterns = leb-true _ _ (b .0); power-kept = b .1 }
 
-pub record ModuleFigures (power xy : Bool) (d : Module) : Type 0 where
+pub record ModuleFigures (power xy : Bool) (m : ℕ) (d : Module) : Type 0 where
   pub level : d .level ≤ levelMax
   pub inputs : d .inputs ≤ terminalsMax
   pub outputs : d .outputs ≤ terminalsMax
@@ -37,20 +38,20 @@ pub record ModuleFigures (power xy : Bool) (d : Module) : Type 0 where
   pub lengths : allOf goodLength (chainsOf d) ≡ true
   pub position : goodPosition xy (d .x) (d .y) ≡ true
   pub test-count : d .«test_count» ≤ testsMax
-  pub tests : allOf (goodTest power) (testsOf d) ≡ true
+  pub tests : allOf (goodTest m power) (testsOf d) ≡ true
 
-pub module-figures : (power xy : Bool) (m last : ℕ) (d : Module) → goodModule power xy m last d ≡ true → ModuleFigures power xy d
+pub module-figures : (power xy : Bool) (m last : ℕ) (d : Module) → goodModule power xy m last d ≡ true → ModuleFigures power xy m d
 unfolding goodModule goodTerminals goodChains goodTests
 module-figures power xy m last d h =
-    let a = and-both (leb (d .level) levelMax) (levelRule m last (d .level) && (goodTerminals d && (goodChains d && (goodPosition xy (d .x) (d .y) && goodTests power d)))) h in
-    let b = and-both (levelRule m last (d .level)) (goodTerminals d && (goodChains d && (goodPosition xy (d .x) (d .y) && goodTests power d))) (a .1) .1 in
-    let e = and-both (goodTerminals d) (goodChains d && (goodPosition xy (d .x) (d .y) && goodTests power d)) b in
-    let f = and-both (goodChains d) (goodPosition xy (d .x) (d .y) && goodTests power d) (e .1) in
-    let g = and-both (goodPosition xy (d .x) (d .y)) (goodTests power d) (f .1) in
+    let a = and-both (leb (d .level) levelMax) (levelRule m last (d .level) && (goodTerminals d && (goodChains d && (goodPosition xy (d .x) (d .y) && goodTests m power d)))) h in
+    let b = and-both (levelRule m last (d .level)) (goodTerminals d && (goodChains d && (goodPosition xy (d .x) (d .y) && goodTests m power d))) (a .1) .1 in
+    let e = and-both (goodTerminals d) (goodChains d && (goodPosition xy (d .x) (d .y) && goodTests m power d)) b in
+    let f = and-both (goodChains d) (goodPosition xy (d .x) (d .y) && goodTests m power d) (e .1) in
+    let g = and-both (goodPosition xy (d .x) (d .y)) (goodTests m power d) (f .1) in
     let i = and-both (leb (d .inputs) terminalsMax) (leb (d .outputs) terminalsMax && leb (d .bidirs) terminalsMax) (e .0) in
     let o = and-both (leb (d .outputs) terminalsMax) (leb (d .bidirs) terminalsMax) (i .1) in
     let k = and-both (leb (d .«chain_count») chainsMax) (allOf goodLength (chainsOf d) && allOf spareLength (drop (d .«chain_count») (d .chains))) (f .0) in
-    let n = and-both (leb (d .«test_count») testsMax) (allOf (goodTest power) (testsOf d) && allOf spareTest (drop (d .«test_count») (d .tests))) (g .1) in
+    let n = and-both (leb (d .«test_count») testsMax) (allOf (goodTest m power) (testsOf d) && allOf spareTest (drop (d .«test_count») (d .tests))) (g .1) in
     record {
       level = leb-true _ _ (a .0);
       inputs = leb-true _ _ (i .0);
@@ -60,7 +61,7 @@ module-figures power xy m last d h =
       lengths = and-both (allOf goodLength (chainsOf d)) (allOf spareLength (drop (d .«chain_count») (d .chains))) (k .1) .0;
       position = g .0;
       test-count = leb-true _ _ (n .0);
-      tests = and-both (allOf (goodTest power) (testsOf d)) (allOf spareTest (drop (d .«test_count») (d .tests))) (n .1) .0;
+      tests = and-both (allOf (goodTest m power) (testsOf d)) (allOf spareTest (drop (d .«test_count») (d .tests))) (n .1) .0;
     }
 
 pub record SocFigures (s : Soc) : Type 0 where

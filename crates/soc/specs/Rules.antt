@@ -1,5 +1,5 @@
 -- When a SOC record keeps the limits and rules of the text, under an option 0 has its figures not given, and has 0 in every spare place:
--- what refusal 14 asks of a handed record (document 01, "The SOC text" and "Refusal numbers").
+-- what refusal 14 asks of a handed record (document 01, "The SOC text" and "Refusal numbers"; document 02, item 6).
 use Prim.Native.Nat.{ℕ, suc, _+_}
 use mathlib.Core.Bool.{Bool, true, false, cond, not, _&&_, _||_}
 use mathlib.Core.List.{List, [], _∷_}
@@ -48,9 +48,13 @@ goodPower option w = isNotGiven w || option && upTo powerMax w
 unfoldable pub goodPosition : Bool → ℤ → ℤ → Bool
 goodPosition option x y = isNotGiven x && isNotGiven y || option && (upTo positionMax x && upTo positionMax y)
 
--- "p 1 to 16,777,215"
-unfoldable pub goodTest : Bool → Test → Bool
-goodTest power t = leb 1 (t .patterns) && (leb (t .patterns) patternsMax && goodPower power (t .power))
+-- "By document 003 the top module's terminals are the SOC's pins and need no access mechanism.": no test of module 0 has TamUse 1
+unfoldable pub pinsRule : ℕ → Bool → Bool
+pinsRule m tam = not (eqb m 0 && tam)
+
+-- a test of module m: "p 1 to 16,777,215"
+unfoldable pub goodTest : ℕ → Bool → Test → Bool
+goodTest m power t = pinsRule m (t .«tam_use») && (leb 1 (t .patterns) && (leb (t .patterns) patternsMax && goodPower power (t .power)))
 
 unfoldable pub spareTest : Test → Bool
 spareTest t = not (t .«scan_use») && (not (t .«tam_use») && (none (t .patterns) && noneZ (t .power)))
@@ -65,13 +69,14 @@ goodTerminals d = leb (d .inputs) terminalsMax && (leb (d .outputs) terminalsMax
 unfoldable pub goodChains : Module → Bool
 goodChains d = leb (d .«chain_count») chainsMax && filled (d .«chain_count») goodLength spareLength (d .chains)
 
-unfoldable pub goodTests : Bool → Module → Bool
-goodTests power d = leb (d .«test_count») testsMax && filled (d .«test_count») (goodTest power) spareTest (d .tests)
+unfoldable pub goodTests : ℕ → Bool → Module → Bool
+goodTests m power d = leb (d .«test_count») testsMax && filled (d .«test_count») (goodTest m power) spareTest (d .tests)
 
 -- module m, where the previous one has level last
 unfoldable pub goodModule : Bool → Bool → ℕ → ℕ → Module → Bool
 goodModule power xy m last d =
-    leb (d .level) levelMax && (levelRule m last (d .level) && (goodTerminals d && (goodChains d && (goodPosition xy (d .x) (d .y) && goodTests power d))))
+    leb (d .level) levelMax
+    && (levelRule m last (d .level) && (goodTerminals d && (goodChains d && (goodPosition xy (d .x) (d .y) && goodTests m power d))))
 
 -- the modules from number m on
 unfoldable pub goodModules : Bool → Bool → ℕ → ℕ → List Module → Bool

@@ -28,3 +28,4 @@ pub use record::no_module;
 pub use record::no_soc;
 pub use record::no_test;
 pub use rules::is_good;
+pub use test_rules::keeps_pins_rule;

@@ -116,15 +116,15 @@ fn has_good_chains(d: Module) -> bool
     are_spare_lengths(chains, n)
 }
 
-fn has_good_tests(power: bool, d: Module) -> bool
-    ensures { λ r. ⌜ r ≡ goodTests power d ⌝ }
+fn has_good_tests(m: usize, power: bool, d: Module) -> bool
+    ensures { λ r. ⌜ r ≡ goodTests m power d ⌝ }
 {
     let n = d.test_count;
     if n > TESTS_MAX {
         return false;
     }
     let tests = d.tests;
-    if !are_good_tests(power, tests, n) {
+    if !are_good_tests(m, power, tests, n) {
         return false;
     }
     are_spare_tests(tests, n)
@@ -148,7 +148,7 @@ pub(crate) fn is_good_module(power: bool, xy: bool, m: usize, last: u32, d: Modu
     if !is_good_position(xy, d.x, d.y) {
         return false;
     }
-    has_good_tests(power, d)
+    has_good_tests(m, power, d)
 }
 
 pub(crate) fn is_spare_module(d: Module) -> bool

@@ -1,4 +1,4 @@
-// The rules of one test of a record: its figures within their limits, and a spare one 0 throughout (refusal 14).
+// The rules of one test of a record: its figures within their limits, no TamUse 1 in module 0, and a spare one 0 throughout (refusal 14).
 use super::NOT_GIVEN;
 use super::PATTERNS_MAX;
 use super::POWER_MAX;
@@ -9,7 +9,7 @@ ghost use Prim.Native.Nat.{_≤_};
 ghost use lib.ListN.{take, drop};
 ghost use Rattle.soc.specs.Limits.{powerMax, testsMax};
 ghost use Rattle.units.specs.Places.{allOf};
-ghost use Rattle.soc.specs.Rules.{noneZ, isNotGiven, upTo, goodPower, goodTest, spareTest};
+ghost use Rattle.soc.specs.Rules.{noneZ, isNotGiven, upTo, goodPower, pinsRule, goodTest, spareTest};
 
 pub(crate) fn is_not_given(z: i32) -> bool
     ensures { λ r. ⌜ r ≡ isNotGiven z ⌝ }
@@ -42,9 +42,23 @@ fn is_good_power(option: bool, w: i32) -> bool
     if option { is_power(w) } else { false }
 }
 
-fn is_good_test(power: bool, t: Test) -> bool
-    ensures { λ r. ⌜ r ≡ goodTest power t ⌝ }
+// The terminals of module 0 are the SOC's pins: none of its tests has TamUse 1.
+pub fn keeps_pins_rule(m: usize, tam: bool) -> bool
+    ensures { λ r. ⌜ r ≡ pinsRule m tam ⌝ }
 {
+    if m == 0 {
+        return !tam;
+    }
+    true
+}
+
+// A test of module m.
+fn is_good_test(m: usize, power: bool, t: Test) -> bool
+    ensures { λ r. ⌜ r ≡ goodTest m power t ⌝ }
+{
+    if !keeps_pins_rule(m, t.tam_use) {
+        return false;
+    }
     if t.patterns < 1 {
         return false;
     }
@@ -69,14 +83,14 @@ fn is_spare_test(t: Test) -> bool
     is_none(t.power)
 }
 
-pub(crate) fn are_good_tests(power: bool, tests: [Test; TESTS_MAX], n: usize) -> bool
+pub(crate) fn are_good_tests(m: usize, power: bool, tests: [Test; TESTS_MAX], n: usize) -> bool
     requires { ⌜ n ≤ testsMax ⌝ }
-    ensures { λ r. ⌜ r ≡ allOf (goodTest power) (take n tests) ⌝ }
+    ensures { λ r. ⌜ r ≡ allOf (goodTest m power) (take n tests) ⌝ }
 {
     let mut i: usize = 0;
     while i < n {
         let t = tests[i];
-        if !is_good_test(power, t) {
+        if !is_good_test(m, power, t) {
             return false;
         }
         i += 1;

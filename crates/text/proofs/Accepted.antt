@@ -70,7 +70,7 @@ pub record TestsRead (power : Bool) (m i n : ℕ) (ls : List Line) (ts : List Te
   pub lines : map fieldsIn ls ≡ fields ++ map fieldsIn rest
   pub are : TestLines power m i ts fields
   pub count : n ≡ length ts
-  pub good : allOf (goodTest power) ts ≡ true
+  pub good : allOf (goodTest m power) ts ≡ true
 
 pub tests-read : (power : Bool) (m i n : ℕ) (ls : List Line) (ts : List Test) (rest : List Line) → each n (λ j. line (testLine m j power)) i ls ≡ got ts rest
     → TestsRead power m i n ls ts rest
@@ -173,8 +173,9 @@ module _ (o : Options) (m last : ℕ) where
       let r : length ts ≤ testsMax = omega (arith, t .count, p .most) in
       let g : filled (s .chains .count) goodLength spareLength (s .chains .lengths) ≡ true =
       filled-good goodLength spareLength chainsMax (flipFlops 0) (s .chains .count) (v .chains) (s .chains .lengths) (v .count) (v .places) refl (v .good) in
-      let q : filled (b .tests) (goodTest (o .power)) spareTest (padded testsMax noTest ts) ≡ true =
-      filled-good (goodTest (o .power)) spareTest testsMax noTest (b .tests) ts (padded testsMax noTest ts) (t .count) refl refl (t .good) in
+      let q : filled (b .tests) (goodTest m (o .power)) spareTest (padded testsMax noTest ts) ≡ true =
+      filled-good (goodTest m (o .power)) spareTest testsMax noTest (b .tests) ts (padded testsMax noTest ts) (t .count) refl refl
+      (t .good) in
       record {
         fields = l .fields ∷ p .position ++ countFields m (b .tests) ∷ t .fields;
         lines =

@@ -73,16 +73,16 @@ made-passes p f fs a h ls gs e =
 
 -- a module's tests
 
-test-said : (power : Bool) (m i : ℕ) (t : Test) (fs : List (List ℕ)) → TestLine power m i t fs → goodTest power t ≡ true → whole (kinds.testLine m i power) fs ≡ says t
+test-said : (power : Bool) (m i : ℕ) (t : Test) (fs : List (List ℕ)) → TestLine power m i t fs → goodTest m power t ≡ true → whole (kinds.testLine m i power) fs ≡ says t
 test-said power m i t fs (ps, (inl w), e) h = rw (e, w .2, w .0) (test-back m i true t (rw (w .0) at h))
 test-said power m i t fs (ps, (inr w), e) h = rw (e, w .1) (test-back-out m i power t h (w .0))
 
-pub tests-pass : {power : Bool} {m i : ℕ} {ts : List Test} {ls : List (List (List ℕ))} → TestLines power m i ts ls → allOf (goodTest power) ts ≡ true
+pub tests-pass : {power : Bool} {m i : ℕ} {ts : List Test} {ls : List (List (List ℕ))} → TestLines power m i ts ls → allOf (goodTest m power) ts ≡ true
     → Passes (each (length ts) (λ j. line (kinds.testLine m j power)) i) ls ts
 unfolding each allOf
 tests-pass TestLines.none h = give-passes []
 tests-pass {power = power} {m = m} (TestLines.more {i} {t} {ts} {fs} {ls} l r) h =
-    let q = and-both (goodTest power t) (allOf (goodTest power) ts) h in
+    let q = and-both (goodTest m power t) (allOf (goodTest m power) ts) h in
     then-passes (line (kinds.testLine m i power)) (λ x. each (length ts) (λ j. line (kinds.testLine m j power)) (suc i) >>= (λ xs. give (x ∷ xs))) (fs ∷ []) ls t (t ∷ ts)
     (line-passes (kinds.testLine m i power) fs t (test-said power m i t fs l (q .0)))
     (made-passes (each (length ts) (λ j. line (kinds.testLine m j power)) (suc i)) (λ xs. t ∷ xs) ls ts (tests-pass r (q .1)))

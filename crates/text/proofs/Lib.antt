@@ -9,6 +9,7 @@ pub mod LineRefuses
 pub mod NotGiven
 pub mod Once
 pub mod PartOnly
+pub mod PinsFirst
 pub mod Refused
 pub mod RefusedLine
 pub mod RoundTrip

@@ -22,11 +22,11 @@ use Rattle.fields.proofs.WrittenLaws.{allDigits, decimal-back, decimal-plain}
 use Rattle.soc.specs.Limits.{modulesMax, levelMax, terminalsMax, chainsMax, lengthMax, testsMax, patternsMax, positionMax, powerMax}
 use Rattle.units.specs.Places.{padded, allOf, filled}
 use Rattle.soc.specs.Record.{nameOf, chainsOf, flipFlops, notGiven}
-use Rattle.soc.specs.Rules.{none, isNotGiven, upTo, goodLength, spareLength, goodPower, goodPosition, goodTest, levelRule, goodTerminals, goodChains, goodName}
+use Rattle.soc.specs.Rules.{none, isNotGiven, upTo, goodLength, spareLength, goodPower, goodPosition, pinsRule, goodTest, levelRule, goodTerminals, goodChains, goodName}
 use Rattle.soc.specs.declared.record.Test.{Test}
 use Rattle.soc.specs.declared.record.Module.{Module}
 use Rattle.soc.specs.declared.record.Soc.{Soc}
-use Rattle.text_lines.specs.Parts.{whole, closed, says, due, dueIs, flag, givenIs, orNotGiven, name, rule, isNext}
+use Rattle.text_lines.specs.Parts.{whole, closed, says, due, dueIs, flag, givenIs, orNotGiven, name, rule, pins, isNext}
 use Rattle.text_lines.specs.Kinds.{Second, namePart, nameLine, totalLine, optionsPart, optionsLine, level, terminals, chainLength, lengthsPart, chainsPart, levelLine, pairRule, positionPart, totalTests, testsPart, secondPart, secondLine, testsLine, powerPart, uses, testDue, patternsPart, testLine}
 use Rattle.text_lines.specs.LineFields.{flagField, givenField, lengthField, nameFields, totalFields, optionsFields, levelFields, positionFields, testsFields, powerFields, testFields}
 use Rattle.text.specs.Describes.{Sayable}
@@ -204,33 +204,36 @@ pub second-back : (m : ℕ) (xy : Bool) (d : Module) → d .«test_count» ≤ t
 unfolding secondLine testsPart totalTests testsFields after closed
 second-back m xy d h = simp (word-back, due-back, second-tests, up-to-back testsMax (d .«test_count») (le-leb (d .«test_count») testsMax h))
 
-pub good-test : (power : Bool) (t : Test) → goodTest power t ≡ true → (1 ≤ t .patterns) × (t .patterns ≤ patternsMax) × (goodPower power (t .power) ≡ true)
+pub good-test : (m : ℕ) (power : Bool) (t : Test) → goodTest m power t ≡ true
+    → (pinsRule m (t .«tam_use») ≡ true) × (1 ≤ t .patterns) × (t .patterns ≤ patternsMax) × (goodPower power (t .power) ≡ true)
 unfolding goodTest
-good-test power t h =
-    let p = and-both (leb 1 (t .patterns)) (leb (t .patterns) patternsMax && goodPower power (t .power)) h in
+good-test m power t h =
+    let r = and-both (pinsRule m (t .«tam_use»)) (leb 1 (t .patterns) && (leb (t .patterns) patternsMax && goodPower power (t .power))) h in
+    let p = and-both (leb 1 (t .patterns)) (leb (t .patterns) patternsMax && goodPower power (t .power)) (r .1) in
     let q = and-both (leb (t .patterns) patternsMax) (goodPower power (t .power)) (p .1) in
-    (leb-true 1 (t .patterns) (p .0), leb-true (t .patterns) patternsMax (q .0), q .1)
+    (r .0, leb-true 1 (t .patterns) (p .0), leb-true (t .patterns) patternsMax (q .0), q .1)
 
-pub power-says : (t : Test) → goodTest true t ≡ true → Sayable (t .power)
+pub power-says : (m : ℕ) (t : Test) → goodTest m true t ≡ true → Sayable (t .power)
 unfolding goodPower
-power-says t h = may-say powerMax (t .power) (good-test true t h .2)
+power-says m t h = may-say powerMax (t .power) (good-test m true t h .3)
 
 -- what a test line's power field, or its end, says of it
-test-power : (m i : ℕ) (power : Bool) (t : Test) (ps : List (List ℕ)) → goodTest power t ≡ true → powerPart power ps ≡ got (t .power) [] → whole (testLine m i power) (testFields m i t ps) ≡ says t
-unfolding testLine testDue uses patternsPart testFields after closed
+test-power : (m i : ℕ) (power : Bool) (t : Test) (ps : List (List ℕ)) → goodTest m power t ≡ true → powerPart power ps ≡ got (t .power) [] → whole (testLine m i power) (testFields m i t ps) ≡ says t
+unfolding testLine testDue uses pins patternsPart testFields after closed
 test-power m i power t ps h e =
-    let g = good-test power t h in
-    simp (word-back, due-back, flag-back, between-back 1 patternsMax (t .patterns) (g .0) (g .1), e)
+    let g = good-test m power t h in
+    simp (word-back, due-back, flag-back, g .0, between-back 1 patternsMax (t .patterns) (g .1) (g .2), e)
 
 power-out : (power : Bool) → powerPart power [] ≡ got notGiven []
 unfolding powerPart
 power-out false = refl
 power-out true = refl
 
-pub test-back-out : (m i : ℕ) (power : Bool) (t : Test) → goodTest power t ≡ true → t .power ≡ notGiven → whole (testLine m i power) (testFields m i t []) ≡ says t
+pub test-back-out : (m i : ℕ) (power : Bool) (t : Test) → goodTest m power t ≡ true → t .power ≡ notGiven → whole (testLine m i power) (testFields m i t []) ≡ says t
 test-back-out m i power t h e = test-power m i power t [] h (power-out power ∙ ap (λ w. got w []) (sym e))
 
-pub test-back : (m i : ℕ) (power : Bool) (t : Test) → goodTest power t ≡ true → whole (testLine m i power) (testFields m i t (cond power (powerFields t) [])) ≡ says t
+pub test-back : (m i : ℕ) (power : Bool) (t : Test) → goodTest m power t ≡ true → whole (testLine m i power) (testFields m i t (cond power (powerFields t) [])) ≡ says t
 unfolding powerPart powerFields goodPower after
-test-back m i false t h = test-back-out m i false t h (not-given (t .power) (simp or-false at (good-test false t h .2)))
-test-back m i true t h = test-power m i true t (powerFields t) h (simp (word-back, given-back powerMax (t .power) (good-test true t h .2)))
+test-back m i false t h = test-back-out m i false t h (not-given (t .power) (simp or-false at (good-test m false t h .3)))
+test-back m i true t h =
+    test-power m i true t (powerFields t) h (simp (word-back, given-back powerMax (t .power) (good-test m true t h .3)))

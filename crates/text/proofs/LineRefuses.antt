@@ -1,10 +1,11 @@
--- Laws of lines that are refused: every reader of a line refuses with a number from 3 to 5. What it is for a reading to do so, that readings
--- made of such readings do so too, then one law for each part of a line, and one for each kind of line. Assumes nothing.
+-- Laws of lines that are refused: every reader of a line refuses with a number from 3 to 5, or with 17. What it is for a reading to do so,
+-- that readings made of such readings do so too, then one law for each part of a line, and one for each kind of line. Assumes nothing.
 use Prim.Native.Nat.{ℕ, zero, suc, _≤_}
-use mathlib.Core.Path.{_≡_, ap}
+use mathlib.Core.Path.{_≡_, sym, ap}
 use mathlib.Core.Bool.{Bool, true, false, cond, _&&_}
 use mathlib.Core.List.{List, [], _∷_}
 use mathlib.Core.Option.{Option, some, none}
+use mathlib.Core.Logic.{_⊎_, inl, inr}
 use native.Mathlib.Omega.{arith}
 use lib.Dec.{eqb, leb}
 use lib.IntN.{pos}
@@ -15,20 +16,27 @@ use Rattle.fields.specs.Numbers.{decimalOf}
 use Rattle.fields.specs.Readers.{no, got, FieldsGot, Reader, _>>=_, _>>_, after, each, bytesDue, within, between, keyBetween}
 use Rattle.soc.specs.Limits.{modulesMax, levelMax, terminalsMax, chainsMax, lengthMax, testsMax, patternsMax, positionMax, powerMax}
 use Rattle.soc.specs.Record.{notGiven}
-use Rattle.soc.specs.Rules.{levelRule}
-use Rattle.text_lines.specs.Parts.{whole, closed, refuses, due, dueIs, keyDue, flag, keyFlag, givenIs, orNotGiven, keyGiven, name, rule, isNext}
+use Rattle.soc.specs.Rules.{levelRule, pinsRule}
+use Rattle.text_lines.specs.Parts.{whole, closed, refuses, due, dueIs, keyDue, flag, keyFlag, givenIs, orNotGiven, keyGiven, name, rule, pins, isNext}
 use Rattle.text_lines.specs.Kinds.{Terminals, Uses, namePart, nameLine, totalLine, optionsPart, optionsLine, moduleDue, level, terminals, chainLength, lengthsPart, chainsPart, levelLine, pairRule, positionPart, totalTests, testsPart, secondPart, secondLine, testsLine, powerPart, uses, testDue, patternsPart, testLine}
 
--- a reading refuses only with a number from 3 to 5
+-- what the fields of a line are refused with
+abbrev pub LineNumber : ℕ → Type 0
+LineNumber c = ((3 ≤ c) × (c ≤ 5)) ⊎ (c ≡ 17)
+
+-- a reading refuses only with such a number
 pub record Fair {A : Type 0} (g : FieldsGot A) : Type 0 where
-  pub fair : (c : ℕ) → g ≡ no c → (3 ≤ c) × (c ≤ 5)
+  pub fair : (c : ℕ) → g ≡ no c → LineNumber c
 
 abbrev pub FairReader : {A : Type 0} → Reader A → Type 0
 FairReader p = (fs : List (List ℕ)) → Fair (p fs)
 
 module _ {A : Type 0} where
   pub fair-no : (n : ℕ) → 3 ≤ n → n ≤ 5 → Fair {A = A} (no n)
-  fair-no n h k = record { fair = λ c e. let q : n ≡ c = cc in (omega arith, omega arith) }
+  fair-no n h k = record { fair = λ c e. let q : n ≡ c = cc in inl (omega arith, omega arith) }
+
+  fair-seventeen : Fair {A = A} (no 17)
+  fair-seventeen = record { fair = λ c e. let q : _≡_ {A = ℕ} 17 c = cc in inr (sym q) }
 
   pub fair-got : (a : A) (fs : List (List ℕ)) → Fair (got a fs)
   fair-got a fs = record { fair = λ c e. clash cc }
@@ -37,11 +45,11 @@ module _ {A : Type 0} where
   fair-if true p q = p
   fair-if false p q = q
 
-  pub fair-closed : (g : FieldsGot A) → Fair g → (c : ℕ) → closed g ≡ refuses c → (3 ≤ c) × (c ≤ 5)
+  pub fair-closed : (g : FieldsGot A) → Fair g → (c : ℕ) → closed g ≡ refuses c → LineNumber c
   unfolding closed
   fair-closed (no n) f c h = let q : n ≡ c = cc in f .fair c (ap no q)
   fair-closed (got a []) f c h = clash cc
-  fair-closed (got a (g ∷ gs)) f c h = let q : _≡_ {A = ℕ} 3 c = cc in (omega arith, omega arith)
+  fair-closed (got a (g ∷ gs)) f c h = let q : _≡_ {A = ℕ} 3 c = cc in inl (omega arith, omega arith)
 
 pub fair-after : {A B : Type 0} {g : FieldsGot A} {k : A → Reader B} → Fair g → ((a : A) → FairReader (k a)) → Fair (after g k)
 unfolding after
@@ -120,6 +128,11 @@ unfolding rule
 fair-rule false fs = five
 fair-rule true fs = fair-got tt fs
 
+fair-pins : (b : Bool) → FairReader (pins b)
+unfolding pins
+fair-pins false fs = fair-seventeen
+fair-pins true fs = fair-got tt fs
+
 module _ (w : List ℕ) where
   pub fair-keyed : (low high : ℕ) → FairReader (keyBetween w low high)
   fair-keyed low high = fair-then (fair-word w) (fair-between low high)
@@ -135,15 +148,15 @@ module _ (w : List ℕ) where
 
 -- the lines
 
-pub name-refuses : (fs : List (List ℕ)) (c : ℕ) → whole nameLine fs ≡ refuses c → (3 ≤ c) × (c ≤ 5)
+pub name-refuses : (fs : List (List ℕ)) (c : ℕ) → whole nameLine fs ≡ refuses c → LineNumber c
 unfolding nameLine namePart
 name-refuses fs = fair-closed (nameLine fs) (fair-then (fair-word (bytes "SocName")) (fair-bind fair-name (λ f. fair-got _)) fs)
 
-pub total-refuses : (fs : List (List ℕ)) (c : ℕ) → whole totalLine fs ≡ refuses c → (3 ≤ c) × (c ≤ 5)
+pub total-refuses : (fs : List (List ℕ)) (c : ℕ) → whole totalLine fs ≡ refuses c → LineNumber c
 unfolding totalLine
 total-refuses fs = fair-closed (totalLine fs) (fair-keyed (bytes "TotalModules") 1 modulesMax fs)
 
-pub options-refuses : (fs : List (List ℕ)) (c : ℕ) → whole optionsLine fs ≡ refuses c → (3 ≤ c) × (c ≤ 5)
+pub options-refuses : (fs : List (List ℕ)) (c : ℕ) → whole optionsLine fs ≡ refuses c → LineNumber c
 unfolding optionsLine optionsPart
 options-refuses fs =
     fair-closed (optionsLine fs) (fair-then (fair-word (bytes "Options")) (fair-bind (fair-key-flag (bytes "Power")) (λ p. fair-bind (fair-key-flag (bytes "XY")) (λ x. fair-got _))) fs)
@@ -173,7 +186,7 @@ pub fair-chains : (v : ℕ) (t : Terminals) → FairReader (chainsPart v t)
 unfolding chainsPart
 fair-chains v t = fair-bind (fair-keyed (bytes "ScanChains") 0 chainsMax) (λ s. fair-then (fair-word (bytes ":")) (fair-lengths s v t))
 
-pub level-refuses : (m last : ℕ) (fs : List (List ℕ)) (c : ℕ) → whole (levelLine m last) fs ≡ refuses c → (3 ≤ c) × (c ≤ 5)
+pub level-refuses : (m last : ℕ) (fs : List (List ℕ)) (c : ℕ) → whole (levelLine m last) fs ≡ refuses c → LineNumber c
 unfolding levelLine
 level-refuses m last fs = fair-closed (levelLine m last fs) (fair-bind (fair-level m last) (λ v. fair-bind fair-terminals (λ t. fair-chains v t)) fs)
 
@@ -196,11 +209,11 @@ unfolding secondPart
 fair-second false fs = fair-tests fs
 fair-second true fs = fair-if (isNext (bytes "X") fs) (fair-position fs) (fair-tests fs)
 
-pub second-refuses : (m : ℕ) (xy : Bool) (fs : List (List ℕ)) (c : ℕ) → whole (secondLine m xy) fs ≡ refuses c → (3 ≤ c) × (c ≤ 5)
+pub second-refuses : (m : ℕ) (xy : Bool) (fs : List (List ℕ)) (c : ℕ) → whole (secondLine m xy) fs ≡ refuses c → LineNumber c
 unfolding secondLine
 second-refuses m xy fs = fair-closed (secondLine m xy fs) (fair-then (fair-module m) (fair-second xy) fs)
 
-pub tests-refuses : (m : ℕ) (fs : List (List ℕ)) (c : ℕ) → whole (testsLine m) fs ≡ refuses c → (3 ≤ c) × (c ≤ 5)
+pub tests-refuses : (m : ℕ) (fs : List (List ℕ)) (c : ℕ) → whole (testsLine m) fs ≡ refuses c → LineNumber c
 unfolding testsLine
 tests-refuses m fs = fair-closed (testsLine m fs) (fair-then (fair-module m) fair-total-tests fs)
 
@@ -214,14 +227,17 @@ fair-test-due : (m i : ℕ) → FairReader (testDue m i)
 unfolding testDue
 fair-test-due m i = fair-then (fair-module m) (fair-key-due (bytes "Test") i)
 
-fair-uses : FairReader uses
+fair-uses : (m : ℕ) → FairReader (uses m)
 unfolding uses
-fair-uses = fair-bind (fair-key-flag (bytes "ScanUse")) (λ s. fair-bind (fair-key-flag (bytes "TamUse")) (λ t. fair-got _))
+fair-uses m =
+    fair-bind (fair-key-flag (bytes "ScanUse"))
+    (λ s. fair-bind (fair-key-flag (bytes "TamUse")) (λ t. fair-then (fair-pins (pinsRule m t)) (fair-got _)))
 
 fair-patterns : (power : Bool) (u : Uses) → FairReader (patternsPart power u)
 unfolding patternsPart
 fair-patterns power u = fair-bind (fair-keyed (bytes "Patterns") 1 patternsMax) (λ p. fair-bind (fair-power power) (λ w. fair-got _))
 
-pub test-refuses : (m i : ℕ) (power : Bool) (fs : List (List ℕ)) (c : ℕ) → whole (testLine m i power) fs ≡ refuses c → (3 ≤ c) × (c ≤ 5)
+pub test-refuses : (m i : ℕ) (power : Bool) (fs : List (List ℕ)) (c : ℕ) → whole (testLine m i power) fs ≡ refuses c → LineNumber c
 unfolding testLine
-test-refuses m i power fs = fair-closed (testLine m i power fs) (fair-then (fair-test-due m i) (fair-bind fair-uses (λ u. fair-patterns power u)) fs)
+test-refuses m i power fs =
+    fair-closed (testLine m i power fs) (fair-then (fair-test-due m i) (fair-bind (fair-uses m) (λ u. fair-patterns power u)) fs)

@@ -94,7 +94,7 @@ module _ (m i : ℕ) (t u : Test) where
   power-out s = go (s .behind) (same-front m i t u powerOut (s .last) [] (s .fields) .0)
     where
       go : PowerPart true u (s .last) → powerOut ≡ s .last → u .power ≡ notGiven
-      go (inl (o, y, e)) k = minus-out (u .power) (good-test true u (s .good) .2) cc
+      go (inl (o, y, e)) k = minus-out (u .power) (good-test m true u (s .good) .3) cc
       go (inr (e, n)) k = e
 
   power-none : TestSays m i true (testFields m i t []) u → u .power ≡ notGiven

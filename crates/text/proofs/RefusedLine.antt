@@ -1,7 +1,7 @@
--- Laws of a refusal's line (document 01, "Refusal numbers"): "Number 1 and 6 come with line 0, 2 to 5 with the line, counted from 1."
--- Assumes nothing.
+-- Laws of a refusal's line (document 01, "Refusal numbers"; document 02, item 6): "Number 1 and 6 come with line 0, 2 to 5 with the line,
+-- counted from 1", and "17 with the line". Assumes nothing.
 use Prim.Native.Nat.{ℕ, suc, _+_, _≤_, _<_}
-use mathlib.Core.Path.{_≡_, refl, ap}
+use mathlib.Core.Path.{_≡_, refl, sym, ap, subst}
 use mathlib.Core.Bool.{Bool, true, false, cond, _&&_}
 use mathlib.Core.List.{List, [], _∷_}
 use mathlib.Core.Logic.{_⊎_, inl, inr}
@@ -24,7 +24,9 @@ use Rattle.text_reader.specs.Lines.{LinesRead}
 use Rattle.text_reader.specs.Reading.{refusedSoc, acceptedSoc, soc, answer, unlessBad, readSoc}
 use Rattle.text_reader.specs.declared.read.SocRead.{SocRead}
 use Rattle.text.specs.LineCount.{linesBehind, lineCount}
+use Rattle.text.specs.Numbers.{NumberWithLine, TextNumber}
 use Rattle.text.proofs.Acceptance.{accepts-or-refuses}
+use Rattle.text.proofs.LineRefuses.{LineNumber}
 use Rattle.text.proofs.Refused.{SameFields, none, more, Refuses, soc-refuses-so}
 
 -- a line that has begun is one, whatever byte comes next
@@ -87,7 +89,31 @@ numbered-within low high n (l ∷ ls) h k = go (fieldsOf l) (numbered-within low
 -- a number and a line that go together in text t
 pub record Lined (t : List ℕ) (r : Refusal) : Type 0 where
   pub none : (r .number ≡ 1) ⊎ (r .number ≡ 6) → r .line ≡ 0
-  pub counted : 2 ≤ r .number → r .number ≤ 5 → (1 ≤ r .line) × (r .line ≤ lineCount t)
+  pub counted : NumberWithLine (r .number) → (1 ≤ r .line) × (r .line ≤ lineCount t)
+
+-- 0 and 1 come with no line
+pub low-none : (c : ℕ) → c ≤ 1 → NumberWithLine c → ⊥
+low-none c h (inl k) = omega (arith, h, k .0)
+low-none c h (inr e) = omega (arith, h, e)
+
+-- what a refusal says by its number: 6 comes with line 0, and the others with a line, where 1 and 2 are said before any line is read
+module _ {P : ℕ → Type 0} {r : Refusal} (w : Refuses P r) where
+  pub refuses-none : (r .number ≡ 1) ⊎ (r .number ≡ 6) → r .line ≡ 0
+  refuses-none = go (w .numbers)
+    where
+      go : (r .number ≡ 6) ⊎ LineNumber (r .number) → (r .number ≡ 1) ⊎ (r .number ≡ 6) → r .line ≡ 0
+      go (inl e) (inl k) = absurd (omega arith)
+      go (inr (inl h)) (inl k) = absurd (omega (arith, h .0))
+      go (inr (inr e)) (inl k) = absurd (omega arith)
+      go n (inr k) = w .last k
+
+  pub refuses-counted : NumberWithLine (r .number) → P (r .line)
+  refuses-counted h = w .others (go (w .numbers) h)
+    where
+      go : (r .number ≡ 6) ⊎ LineNumber (r .number) → NumberWithLine (r .number) → LineNumber (r .number)
+      go (inl e) (inl h) = absurd (omega (arith, h .1))
+      go (inl e) (inr h) = absurd (omega arith)
+      go (inr n) h = n
 
 module _ (t : List ℕ) where
   abbrev Within : ℕ → Type 0
@@ -95,21 +121,17 @@ module _ (t : List ℕ) where
 
   lines-lined : (g : LinesRead Soc) → soc (linesFrom 1 t 0) ≡ g → Lined t (answer g .refusal)
   unfolding answer
-  lines-lined (got s ls) e = record { none = λ k. refl; counted = λ h k. absurd (omega arith) }
+  lines-lined (got s ls) e = record { none = λ k. refl; counted = λ h. absurd (low-none 0 (omega arith) h) }
   lines-lined (no r) e =
       let k = numbered-within 1 (lineCount t) 1 (linesOf t) (omega arith) (omega (arith, lines-within false t)) in
       let w = soc-refuses-so Within (linesFrom 1 t 0) r k e in
-      record { none = last w; counted = λ h k. w .others k }
-    where
-      last : Refuses Within r → (r .number ≡ 1) ⊎ (r .number ≡ 6) → r .line ≡ 0
-      last w (inl k) = absurd (omega (arith, w .least))
-      last w (inr k) = w .last k
+      record { none = refuses-none w; counted = refuses-counted w }
 
   bytes-lined : (b : BadByte) → badByte 1 t ≡ b → Lined t (unlessBad b (answer (soc (linesFrom 1 t 0))) .refusal)
   unfolding unlessBad
   bytes-lined (OnLine n) e =
       let w = bad-within 1 false t n e in
-      record { none = none-2; counted = λ h k. (w .0, omega (arith, w .1)) }
+      record { none = none-2; counted = λ h. (w .0, omega (arith, w .1)) }
     where
       none-2 : _⊎_ (_≡_ {A = ℕ} 2 1) (_≡_ {A = ℕ} 2 6) → n ≡ 0
       none-2 (inl k) = absurd (omega arith)
@@ -125,14 +147,14 @@ module _ (t : List ℕ) where
 
       go : (b : Bool) → Lined t (cond b read (refusedSoc (refused 1 0)) .refusal)
       go true = bytes-lined (badByte 1 t) refl
-      go false = record { none = λ k. refl; counted = λ h k. absurd (omega arith) }
+      go false = record { none = λ k. refl; counted = λ h. absurd (low-none 1 (omega arith) h) }
 
   -- "Number 1 and 6 come with line 0"
   pub refused-line-none : (readSoc t .refusal .number ≡ 1) ⊎ (readSoc t .refusal .number ≡ 6) → readSoc t .refusal .line ≡ 0
   refused-line-none = lined .none
 
-  -- "2 to 5 with the line, counted from 1"
-  pub refused-line-counted : 2 ≤ readSoc t .refusal .number → readSoc t .refusal .number ≤ 5
+  -- "2 to 5 with the line, counted from 1", and "17 with the line"
+  pub refused-line-counted : NumberWithLine (readSoc t .refusal .number)
       → (1 ≤ readSoc t .refusal .line) × (readSoc t .refusal .line ≤ lineCount t)
   refused-line-counted = lined .counted
 
@@ -148,6 +170,30 @@ lines-most begun (b ∷ bs) = go (eqb b lf) (lines-most false bs) (lines-most tr
     go true h k = omega arith
     go false h k = omega arith
 
+-- a number is 1 or 6, or has a line
+number-parts : (n : ℕ) → TextNumber n → ((n ≡ 1) ⊎ (n ≡ 6)) ⊎ NumberWithLine n
+number-parts n (inr e) = inr (inr e)
+number-parts n (inl h) = go (leb n 1) refl (leb n 5) refl
+  where
+    go : (u : Bool) → leb n 1 ≡ u → (v : Bool) → leb n 5 ≡ v → ((n ≡ 1) ⊎ (n ≡ 6)) ⊎ NumberWithLine n
+    go true e v f = inl (inl (omega (arith, h .0, leb-true n 1 e)))
+    go false e true f = inr (inl (omega (arith, leb-false n 1 e), omega (arith, leb-true n 5 f)))
+    go false e false f = inl (inr (omega (arith, h .1, leb-false n 5 f)))
+
+-- a refusal of a text that is not too long, or 1: its number and its line
+pub lined-most : (t : List ℕ) (r : Refusal) → Lined t r → TextNumber (r .number) → length t ≤ textMax ⊎ (r .number ≡ 1)
+    → (r .number ≤ 17) × (r .line ≤ textMax + 1)
+lined-most t r d n l = (most n, line (number-parts (r .number) n) l)
+  where
+    most : TextNumber (r .number) → r .number ≤ 17
+    most (inl h) = omega (arith, h .1)
+    most (inr e) = omega arith
+
+    line : ((r .number ≡ 1) ⊎ (r .number ≡ 6)) ⊎ NumberWithLine (r .number) → length t ≤ textMax ⊎ (r .number ≡ 1) → r .line ≤ textMax + 1
+    line (inl h) l = omega (arith, d .none h)
+    line (inr h) (inl l) = omega (arith, d .counted h .1, lines-most false t)
+    line (inr h) (inr l) = absurd (low-none (r .number) (omega (arith, l)) h)
+
 -- so a refusal's line is at most as many as a text may have
 module _ (t : List ℕ) where
   long-line : length t ≤ textMax ⊎ (readSoc t .refusal .number ≡ 1)
@@ -160,27 +206,12 @@ module _ (t : List ℕ) where
       go true e = inl (leb-true (length t) textMax e)
       go false e = inr refl
 
-  pub refused-line-most : (readSoc t .refusal .number ≤ 6) × (readSoc t .refusal .line ≤ textMax + 1)
+  pub refused-line-most : (readSoc t .refusal .number ≤ 17) × (readSoc t .refusal .line ≤ textMax + 1)
   refused-line-most = go (accepts-or-refuses t)
     where
-      low : (n : ℕ) → 1 ≤ n → n ≤ 6 → ((n ≡ 1) ⊎ (n ≡ 6)) ⊎ ((2 ≤ n) × (n ≤ 5))
-      low n h k = at (leb n 1) refl (leb n 5) refl
-        where
-          at : (u : Bool) → leb n 1 ≡ u → (v : Bool) → leb n 5 ≡ v → ((n ≡ 1) ⊎ (n ≡ 6)) ⊎ ((2 ≤ n) × (n ≤ 5))
-          at true e v f = inl (inl (omega (arith, leb-true n 1 e)))
-          at false e true f = inr (omega (arith, leb-false n 1 e), omega (arith, leb-true n 5 f))
-          at false e false f = inl (inr (omega (arith, leb-false n 5 f)))
-
-      line : ((readSoc t .refusal .number ≡ 1) ⊎ (readSoc t .refusal .number ≡ 6))
-          ⊎ ((2 ≤ readSoc t .refusal .number) × (readSoc t .refusal .number ≤ 5))
-          → length t ≤ textMax ⊎ (readSoc t .refusal .number ≡ 1) → readSoc t .refusal .line ≤ textMax + 1
-      line (inl h) l = omega (arith, lined t .none h)
-      line (inr h) (inl l) = omega (arith, lined t .counted (h .0) (h .1) .1, lines-most false t)
-      line (inr h) (inr l) = absurd (omega (arith, h .0, l))
-
-      go : ((s : Soc) × (readSoc t ≡ acceptedSoc s)) ⊎ ((r : Refusal) × (readSoc t ≡ refusedSoc r) × (1 ≤ r .number) × (r .number ≤ 6))
-          → (readSoc t .refusal .number ≤ 6) × (readSoc t .refusal .line ≤ textMax + 1)
+      go : ((s : Soc) × (readSoc t ≡ acceptedSoc s)) ⊎ ((r : Refusal) × (readSoc t ≡ refusedSoc r) × TextNumber (r .number))
+          → (readSoc t .refusal .number ≤ 17) × (readSoc t .refusal .line ≤ textMax + 1)
       go (inl (s, e)) = rw e (omega arith, omega arith)
-      go (inr (r, e, h, k)) =
-          let n : readSoc t .refusal .number ≡ r .number = ap (λ (q : SocRead). q .refusal .number) e in
-          (omega arith, line (low (readSoc t .refusal .number) (omega arith) (omega arith)) long-line)
+      go (inr (r, e, k)) =
+          let n : TextNumber (readSoc t .refusal .number) = subst TextNumber (ap (λ (q : SocRead). q .refusal .number) (sym e)) k in
+          lined-most t (readSoc t .refusal) (lined t) n long-line

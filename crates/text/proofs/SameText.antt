@@ -40,7 +40,7 @@ Same a b = (a .soc ≡ b .soc) × (a .refusal .number ≡ b .refusal .number)
 alike-same : {g h : LinesRead Soc} → Alike (λ i j. Unit {0}) g h → Same (answer g) (answer h)
 unfolding answer
 alike-same ended = (refl, refl)
-alike-same (stopped p q r) = (refl, refl)
+alike-same (stopped p r) = (refl, refl)
 alike-same (going s) = (refl, refl)
 
 -- "Blank lines are skipped but counted": two texts whose lines that are not blank have the same fields say the same, up to the line of

@@ -33,7 +33,7 @@ pub record GoodModule (power xy : Bool) (m last : ℕ) (d : Module) : Type 0 whe
   pub terminals : goodTerminals d ≡ true
   pub chains : goodChains d ≡ true
   pub spare : allOf spareTest (drop (d .«test_count») (d .tests)) ≡ true
-  pub figures : ModuleFigures power xy d
+  pub figures : ModuleFigures power xy m d
 
 pub good-module : (power xy : Bool) (m last : ℕ) (d : Module) → goodModule power xy m last d ≡ true → GoodModule power xy m last d
 unfolding goodModule goodTests
@@ -44,7 +44,7 @@ good-module power xy m last d h =
     let e = and-both _ _ (c .1) in
     let f = and-both (goodPosition xy (d .x) (d .y)) _ (e .1) in
     let g = and-both (leb (d .«test_count») testsMax) _ (f .1) in
-    let k = and-both (allOf (goodTest power) (testsOf d)) _ (g .1) in
+    let k = and-both (allOf (goodTest m power) (testsOf d)) _ (g .1) in
     record { level = a .0; rule = b .0; terminals = c .0; chains = e .0; spare = k .1; figures = module-figures power xy m last d h }
 
 -- what a good record keeps besides the limits of its figures

@@ -8,14 +8,15 @@ use mathlib.Core.Logic.{_⊎_, inl, inr}
 use native.Mathlib.Omega.{arith}
 use borrow.Author.Tests.{le-leb}
 use lib.IntN.{ℤ}
+use Rattle.units.proofs.TestLaws.{clash}
 use Rattle.fields.specs.Bytes.{bytes}
 use Rattle.fields.specs.Readers.{got, FieldsGot}
 use Rattle.fields.specs.WrittenLines.{decimal}
 use Rattle.soc.specs.Limits.{patternsMax, powerMax}
 use Rattle.soc.specs.Record.{notGiven}
-use Rattle.soc.specs.Rules.{goodPower, goodTest}
+use Rattle.soc.specs.Rules.{goodPower, pinsRule, goodTest}
 use Rattle.soc.specs.declared.record.Test.{Test}
-use Rattle.text_lines.specs.Parts.{whole, says}
+use Rattle.text_lines.specs.Parts.{whole, says, pins}
 use Rattle.text_lines.specs.Kinds.{Uses, powerPart, uses, testDue, patternsPart, testLine}
 use Rattle.text_lines.specs.LineFields.{flagField, givenField, moduleFields, powerFields, testFields}
 use Rattle.text.specs.Describes.{Sayable, PowerPart}
@@ -32,17 +33,26 @@ test-due-part m i fs u gs h =
     let t = key-due-only (bytes "Test") (a .left) gs i u (a .second) in
     cc
 
-uses-part : (fs : List (List ℕ)) (u : Uses) (gs : List (List ℕ)) → uses fs ≡ got u gs → fs ≡ bytes "ScanUse" ∷ flagField (u .scan) ∷ bytes "TamUse" ∷ flagField (u .tam) ∷ gs
+pins-part : (t : Bool) (fs : List (List ℕ)) (u : Unit {0}) (gs : List (List ℕ)) → pins t fs ≡ got u gs → (t ≡ true) × (fs ≡ gs)
+unfolding pins
+pins-part true fs u gs h = (refl, cc)
+pins-part false fs u gs h = clash cc
+
+uses-part : (m : ℕ) (fs : List (List ℕ)) (u : Uses) (gs : List (List ℕ)) → uses m fs ≡ got u gs
+    → (pinsRule m (u .tam) ≡ true) × (fs ≡ bytes "ScanUse" ∷ flagField (u .scan) ∷ bytes "TamUse" ∷ flagField (u .tam) ∷ gs)
 unfolding uses
-uses-part fs u gs h =
+uses-part m fs u gs h =
     let a = after-only h in
     let b = after-only (a .second) in
+    let r = after-only (b .second) in
+    let p = pins-part (pinsRule m (b .value)) (b .left) (r .value) (r .left) (r .first) in
     let s = key-flag-only (bytes "ScanUse") fs (a .left) (a .value) (a .first) in
     let t = key-flag-only (bytes "TamUse") (a .left) (b .left) (b .value) (b .first) in
+    let q : b .left ≡ r .left = p .1 in
     let e : u ≡ record { scan = a .value; tam = b .value } = cc in
     let x : u .scan ≡ a .value = ap (λ (r : Uses). r .scan) e in
     let y : u .tam ≡ b .value = ap (λ (r : Uses). r .tam) e in
-    cc
+    (ap (pinsRule m) y ∙ p .0, cc)
 
 record PowerSays (power : Bool) (fs : List (List ℕ)) (w : ℤ) : Type 0 where
   good : goodPower power w ≡ true
@@ -62,17 +72,18 @@ power-part true (f ∷ fs) w h =
     let k = key-given-only (bytes "Power") (f ∷ fs) [] powerMax w h in
     record { good = k .may; fields = inl (refl, may-say powerMax w (k .may), k .fields) }
 
-record PatternsSay (power : Bool) (u : Uses) (fs : List (List ℕ)) (t : Test) : Type 0 where
+record PatternsSay (m : ℕ) (power : Bool) (u : Uses) (fs : List (List ℕ)) (t : Test) : Type 0 where
   left : List (List ℕ)
   fields : fs ≡ bytes "Patterns" ∷ decimal (t .patterns) ∷ left
   scan : t .«scan_use» ≡ u .scan
   tam : t .«tam_use» ≡ u .tam
-  good : goodTest power t ≡ true
+  good : goodTest m power t ≡ true
   behind : PowerSays power left (t .power)
 
-patterns-part : (power : Bool) (u : Uses) (fs : List (List ℕ)) (t : Test) → patternsPart power u fs ≡ got t [] → PatternsSay power u fs t
+patterns-part : (m : ℕ) (power : Bool) (u : Uses) (fs : List (List ℕ)) (t : Test) → pinsRule m (u .tam) ≡ true
+    → patternsPart power u fs ≡ got t [] → PatternsSay m power u fs t
 unfolding patternsPart goodTest
-patterns-part power u fs t h =
+patterns-part m power u fs t r h =
     let a = after-only h in
     let b = after-only (a .second) in
     let k = keyed-only (bytes "Patterns") fs (a .left) 1 patternsMax (a .value) (a .first) in
@@ -82,14 +93,16 @@ patterns-part power u fs t h =
     let n : a .value ≡ t .patterns = ap (λ (r : Test). r .patterns) e in
     let q : b .value ≡ t .power = ap (λ (r : Test). r .power) e in
     let v : PowerSays power (a .left) (t .power) = rw q at w in
+    let y : t .«tam_use» ≡ u .tam = ap (λ (r : Test). r .«tam_use») (sym e) in
+    let g : pinsRule m (t .«tam_use») ≡ true = ap (pinsRule m) y ∙ r in
     let l : 1 ≤ t .patterns = omega (arith, k .least) in
-    let m : t .patterns ≤ patternsMax = omega (arith, k .most) in
+    let x : t .patterns ≤ patternsMax = omega (arith, k .most) in
     record {
       left = a .left;
       fields = cc;
       scan = ap (λ (r : Test). r .«scan_use») (sym e);
-      tam = ap (λ (r : Test). r .«tam_use») (sym e);
-      good = simp (le-leb 1 (t .patterns) l, le-leb (t .patterns) patternsMax m, v .good);
+      tam = y;
+      good = simp (g, le-leb 1 (t .patterns) l, le-leb (t .patterns) patternsMax x, v .good);
       behind = v;
     }
 
@@ -98,7 +111,7 @@ patterns-part power u fs t h =
 pub record TestSays (m i : ℕ) (power : Bool) (fs : List (List ℕ)) (t : Test) : Type 0 where
   pub last : List (List ℕ)
   pub fields : fs ≡ testFields m i t last
-  pub good : goodTest power t ≡ true
+  pub good : goodTest m power t ≡ true
   pub behind : PowerPart power t last
 
 pub test-only : (m i : ℕ) (power : Bool) (fs : List (List ℕ)) (t : Test) → whole (testLine m i power) fs ≡ says t → TestSays m i power fs t
@@ -107,8 +120,9 @@ test-only m i power fs t h =
     let a = after-only (closed-only (testLine m i power fs) t h) in
     let b = after-only (a .second) in
     let d = test-due-part m i fs (a .value) (a .left) (a .first) in
-    let u = uses-part (a .left) (b .value) (b .left) (b .first) in
-    let p = patterns-part power (b .value) (b .left) t (b .second) in
+    let u = uses-part m (a .left) (b .value) (b .left) (b .first) in
+    let g : a .left ≡ bytes "ScanUse" ∷ flagField (b .value .scan) ∷ bytes "TamUse" ∷ flagField (b .value .tam) ∷ b .left = u .1 in
+    let p = patterns-part m power (b .value) (b .left) t (u .0) (b .second) in
     let x : t .«scan_use» ≡ b .value .scan = p .scan in
     let y : t .«tam_use» ≡ b .value .tam = p .tam in
     record { last = p .left; fields = cc; good = p .good; behind = p .behind .fields }

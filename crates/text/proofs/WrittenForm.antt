@@ -35,17 +35,17 @@ use Rattle.soc.proofs.GoodSocLaws.{module-figures, soc-figures}
 
 -- the lines of the written form describe the record
 
-power-described : (power : Bool) (t : Test) → goodTest power t ≡ true → PowerPart power t (cond power (powerFields t) [])
+power-described : (m : ℕ) (power : Bool) (t : Test) → goodTest m power t ≡ true → PowerPart power t (cond power (powerFields t) [])
 unfolding goodPower
-power-described false t h = inr (not-given (t .power) (simp or-false at (good-test false t h .2)), refl)
-power-described true t h = inl (refl, power-says t h, refl)
+power-described m false t h = inr (not-given (t .power) (simp or-false at (good-test m false t h .3)), refl)
+power-described m true t h = inl (refl, power-says m t h, refl)
 
-pub tests-described : (power : Bool) (m i : ℕ) (ts : List Test) → allOf (goodTest power) ts ≡ true → TestLines power m i ts (testLines power m i ts)
+pub tests-described : (power : Bool) (m i : ℕ) (ts : List Test) → allOf (goodTest m power) ts ≡ true → TestLines power m i ts (testLines power m i ts)
 unfolding testLines allOf
 tests-described power m i [] h = TestLines.none
 tests-described power m i (t ∷ ts) h =
-    let q = and-both (goodTest power t) (allOf (goodTest power) ts) h in
-    TestLines.more (cond power (powerFields t) [], power-described power t (q .0), refl) (tests-described power m (suc i) ts (q .1))
+    let q = and-both (goodTest m power t) (allOf (goodTest m power) ts) h in
+    TestLines.more (cond power (powerFields t) [], power-described m power t (q .0), refl) (tests-described power m (suc i) ts (q .1))
 
 pub position-described : (xy : Bool) (m : ℕ) (d : Module) → goodPosition xy (d .x) (d .y) ≡ true → PositionPart xy m d (positionLines xy m d)
 unfolding positionLines goodPosition

@@ -13,7 +13,7 @@ use Rattle.fields.specs.Fields.{blank}
 use Rattle.fields.specs.Numbers.{cap, cut}
 use Rattle.fields.specs.Readers.{no, got}
 use Rattle.fields.specs.declared.number.Number.the-variants.{Bad, Value}
-use Rattle.text_lines.specs.Parts.{dueIs, givenIs, rule, refuses, says, closed}
+use Rattle.text_lines.specs.Parts.{dueIs, givenIs, rule, pins, refuses, says, closed}
 
 -- the field is no number
 module _ (n : ℕ) (fs : List (List ℕ)) where
@@ -68,6 +68,14 @@ module _ (t : Bool) (fs : List (List ℕ)) where
   pub rule-kept : t ≡ true → rule t fs ≡ got tt fs
   unfolding rule
   rule-kept e = rw e
+
+  pub pins-broken : t ≡ false → pins t fs ≡ no 17
+  unfolding pins
+  pins-broken e = rw e
+
+  pub pins-kept : t ≡ true → pins t fs ≡ got tt fs
+  unfolding pins
+  pins-kept e = rw e
 
 -- nothing is left of the line, or a field that is one too many
 module _ {A : Type 0} (a : A) where

@@ -1,4 +1,4 @@
--- The lines of a SOC text (document 01, "The SOC text"), each a reading of its fields from the left.
+-- The lines of a SOC text (document 01, "The SOC text"; document 02, item 6), each a reading of its fields from the left.
 use Prim.Native.Nat.{ℕ, _-_}
 use mathlib.Core.Bool.{Bool, true, false, cond, not}
 use mathlib.Core.List.{List, [], _∷_}
@@ -12,9 +12,9 @@ use Rattle.fields.specs.Readers.{Reader, got, _>>=_, _>>_, give, each, word, be
 use Rattle.soc.specs.Limits.{modulesMax, levelMax, terminalsMax, chainsMax, lengthMax, testsMax, patternsMax, positionMax, powerMax}
 use Rattle.units.specs.Places.{padded}
 use Rattle.soc.specs.Record.{flipFlops, notGiven}
-use Rattle.soc.specs.Rules.{levelRule, isNotGiven}
+use Rattle.soc.specs.Rules.{levelRule, pinsRule, isNotGiven}
 use Rattle.soc.specs.declared.record.Test.{Test}
-use Rattle.text_lines.specs.Parts.{keyed, keyDue, keyFlag, keyGiven, name, rule, isNext}
+use Rattle.text_lines.specs.Parts.{keyed, keyDue, keyFlag, keyGiven, name, rule, pins, isNext}
 
 -- "`SocName` name"
 pub record Name : Type 0 where
@@ -201,10 +201,12 @@ pub record Uses : Type 0 where
   pub scan : Bool
   pub tam : Bool
 
-unfoldable pub uses : Reader Uses
-uses = do
+-- of a test of module m: "17 .. once TamUse has passed 3 on that line and before Patterns is looked at"
+unfoldable pub uses : ℕ → Reader Uses
+uses m = do
   s ← keyFlag (bytes "ScanUse")
   t ← keyFlag (bytes "TamUse")
+  pins (pinsRule m t)
   give (record { scan = s; tam = t })
 
 -- "`Module` m `Test` i"
@@ -223,5 +225,5 @@ patternsPart power u = do
 unfoldable pub testLine : ℕ → ℕ → Bool → Reader Test
 testLine m i power = do
   testDue m i
-  u ← uses
+  u ← uses m
   patternsPart power u

@@ -1,4 +1,5 @@
--- The parts that lines of a SOC text are made of: fields of one kind, read left to right (document 01, "The SOC text", "Refusal numbers").
+-- The parts that lines of a SOC text are made of: fields of one kind, read left to right (document 01, "The SOC text", "Refusal numbers";
+-- document 02, item 6).
 use Prim.Native.Nat.{ℕ}
 use Prim.Native.String.{String}
 use mathlib.Core.Bool.{Bool, true, false, cond}
@@ -65,6 +66,11 @@ name (f ∷ fs) = cond (isName f) (got f fs) (no 3)
 unfoldable pub rule : Bool → Reader (Unit {0})
 rule false fs = no 5
 rule true fs = got tt fs
+
+-- the rule on module 0's pins: broken, it is "17 with the line"
+unfoldable pub pins : Bool → Reader (Unit {0})
+pins false fs = no 17
+pins true fs = got tt fs
 
 -- is the keyword w next?
 unfoldable pub isNext : List ℕ → List (List ℕ) → Bool

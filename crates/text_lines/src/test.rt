@@ -35,15 +35,21 @@ fn test_due(l: &[u8], m: u32, i: u32) -> Past
     }
 }
 
-// `ScanUse` 0/1 `TamUse` 0/1.
-fn uses_at(l: &[u8], at: usize) -> Used
-    ensures { λ r. ⌜ usesIs (now (l .entry)) r ≡ uses (fieldsOf (drop at (now (l .entry)))) ⌝ }
+// `ScanUse` 0/1 `TamUse` 0/1 of a test of module m.
+fn uses_at(l: &[u8], at: usize, m: u32) -> Used
+    ensures { λ r. ⌜ usesIs (now (l .entry)) r ≡ uses m (fieldsOf (drop at (now (l .entry)))) ⌝ }
 {
     match super::part::key_flag(l, at, b"ScanUse") {
         Flag::No(c) => Used::No(c),
         Flag::Is(scan, e1) => match super::part::key_flag(l, e1, b"TamUse") {
             Flag::No(c) => Used::No(c),
-            Flag::Is(tam, e2) => Used::Are(scan, tam, e2),
+            Flag::Is(tam, e2) => {
+                if soc::keeps_pins_rule(m as usize, tam) {
+                    Used::Are(scan, tam, e2)
+                } else {
+                    Used::No(17)
+                }
+            }
         },
     }
 }
@@ -90,7 +96,7 @@ pub fn test_line(l: &[u8], m: u32, i: u32, power: bool) -> TestLine
 {
     match test_due(l, m, i) {
         Past::No(c) => TestLine::No(c),
-        Past::At(e1) => match uses_at(l, e1) {
+        Past::At(e1) => match uses_at(l, e1, m) {
             Used::No(c) => TestLine::No(c),
             Used::Are(scan, tam, e2) => patterns_to_end(l, e2, power, scan, tam),
         },

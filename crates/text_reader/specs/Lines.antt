@@ -13,7 +13,7 @@ LinesRead A = Got Refusal (List Line) A
 abbrev pub LinesReader : Type 0 → Type 0
 LinesReader A = Reads Refusal (List Line) A
 
--- "2 to 5 with the line"
+-- "2 to 5 with the line", and "17 with the line"
 unfoldable pub judged : {A : Type 0} → ℕ → List Line → Whole A → LinesRead A
 judged n ls (refuses c) = no (refused c n)
 judged n ls (says a) = got a ls

@@ -82,7 +82,7 @@ front-length : {A : Type 0} (n : ℕ) (xs : List A) → length (take n xs) ≤ n
 front-length n xs = rw length-take (omega arith)
 
 -- the lines of a module
-level-size : (power xy : Bool) (m : ℕ) (d : Module) → m < 100 → ModuleFigures power xy d → size (levelFields m d) ≤ 392
+level-size : (power xy : Bool) (m : ℕ) (d : Module) → m < 100 → ModuleFigures power xy m d → size (levelFields m d) ≤ 392
 unfolding levelFields size
 level-size power xy m d h f =
     omega (
@@ -97,14 +97,14 @@ level-size power xy m d h f =
       front-length (d .«chain_count») (d .chains),
     )
 
-position-lines-size : (power xy : Bool) (m : ℕ) (d : Module) → m < 100 → ModuleFigures power xy d → linesSize (positionLines xy m d) ≤ 31
+position-lines-size : (power xy : Bool) (m : ℕ) (d : Module) → m < 100 → ModuleFigures power xy m d → linesSize (positionLines xy m d) ≤ 31
 unfolding positionLines positionFields linesSize size
 position-lines-size power true m d h f =
     let p = position-size true (d .x) (d .y) (f .position) in
     omega (arith, decimal-size 1 m (omega arith))
 position-lines-size power false m d h f = omega arith
 
-tests-size : (power xy : Bool) (m : ℕ) (d : Module) → m < 100 → ModuleFigures power xy d → size (testsFields m d) ≤ 23
+tests-size : (power xy : Bool) (m : ℕ) (d : Module) → m < 100 → ModuleFigures power xy m d → size (testsFields m d) ≤ 23
 unfolding testsFields size
 tests-size power xy m d h f = omega (arith, decimal-size 1 m (omega arith), decimal-size 0 (d .«test_count») (omega arith))
 
@@ -126,14 +126,14 @@ test-size power m i t h k f =
       power-fields-size power t f,
     )
 
-test-lines-size : (power : Bool) (m i : ℕ) (ts : List Test) → m < 100 → i + length ts < 100 → allOf (goodTest power) ts ≡ true → linesSize (testLines power m i ts) ≤ 72 * length ts
+test-lines-size : (power : Bool) (m i : ℕ) (ts : List Test) → m < 100 → i + length ts < 100 → allOf (goodTest m power) ts ≡ true → linesSize (testLines power m i ts) ≤ 72 * length ts
 unfolding testLines linesSize allOf
 test-lines-size power m i [] h k e = omega arith
 test-lines-size power m i (t ∷ ts) h k e =
-    let a = and-both (goodTest power t) (allOf (goodTest power) ts) e in
-    omega (arith, test-size power m i t h (omega arith) (test-figures power t (a .0)), test-lines-size power m (suc i) ts h (omega arith) (a .1))
+    let a = and-both (goodTest m power t) (allOf (goodTest m power) ts) e in
+    omega (arith, test-size power m i t h (omega arith) (test-figures m power t (a .0)), test-lines-size power m (suc i) ts h (omega arith) (a .1))
 
-pub module-size : (power xy : Bool) (m : ℕ) (d : Module) → m < 100 → ModuleFigures power xy d → linesSize (moduleLinesOf power xy m d) ≤ 1024
+pub module-size : (power xy : Bool) (m : ℕ) (d : Module) → m < 100 → ModuleFigures power xy m d → linesSize (moduleLinesOf power xy m d) ≤ 1024
 unfolding moduleLinesOf linesSize
 module-size power xy m d h f =
     let n = front-length (d .«test_count») (d .tests) in

@@ -78,7 +78,8 @@ fn show_texts() {
     show_padded(T1, 1, TEXT_MAX + 1);
 }
 
-// Core A and Core 6 of p93791 of document 000, a core whose figure rises with the width, small cores, the largest core, no record.
+// Core A and Core 6 of p93791 of document 000, a core whose figure rises with the width, small cores, the largest core, the SOC
+// itself, no record.
 fn show_wrappers() {
     show_times(CORE_A, 1, 0, 6, 1);
     show_layout(CORE_A, 1, 1, 4, 1);
@@ -94,7 +95,8 @@ fn show_wrappers() {
     show_times(SMALL, 2, 1, 4, 1);
     show_times(SMALL, 3, 1, 2, 1);
     show_times(SMALL, 4, 1, 2, 1);
-    show_times(LARGEST, 0, 1, 3, 1);
+    show_times(LARGEST, 1, 1, 3, 1);
+    show_times(LARGEST, 1, 64, 64, 1);
     show_times(LARGEST, 0, 64, 64, 1);
     show_times(REFUSED, 0, 1, 1, 1);
 }
@@ -166,7 +168,7 @@ fn show_captures(c: u32) {
     show_times(CORE_A, 1, 4, 4, c);
     show_times(CORE_A, 1, 65, 65, c);
     show_times(CORE_A, 2, 4, 4, c);
-    show_times(LARGEST, 0, 1, 1, c);
+    show_times(LARGEST, 1, 1, 1, c);
     show_layout(CORE_A, 1, 1, 4, c);
     show_plan(T1, 4, 2, c);
     show_plan(D695, 32, 3, c);

@@ -15,7 +15,7 @@ use Rattle.soc.specs.Limits.{testsMax}
 use Rattle.units.specs.Places.{allOf, anyOf, filled}
 use Rattle.soc.specs.Record.{noTest, testsOf}
 use Rattle.soc.specs.Planned.{onTam, isPlanned}
-use Rattle.soc.specs.Rules.{goodTest, spareTest, goodTests}
+use Rattle.soc.specs.Rules.{pinsRule, goodTest, spareTest, goodTests}
 use Rattle.soc.specs.declared.record.Test.{Test}
 use Rattle.soc.specs.declared.record.Module.{Module}
 use Rattle.wrapper.specs.Times.{scanIn, scanOut, testCycles, testTime, sumTimes, figure, Best, bestTo, moduleBest}
@@ -156,20 +156,23 @@ pub planned-least : (c : ℕ) → 1 ≤ c → (d : Module) (w : ℕ) → isPlann
 planned-least c l d w e p h = rw (← time-at c d w h) (figure-least c l d (moduleBest c d w .wires) e p)
 
 -- the tests of a good module have patterns
-good-least : (power : Bool) (ts : List Test) (i : ℕ) → allOf (goodTest power) ts ≡ true → i < length ts → 1 ≤ getD ts i noTest .patterns
+good-least : (m : ℕ) (power : Bool) (ts : List Test) (i : ℕ) → allOf (goodTest m power) ts ≡ true → i < length ts
+    → 1 ≤ getD ts i noTest .patterns
 unfolding allOf goodTest
-good-least power [] i e h = absurd (omega arith)
-good-least power (t ∷ ts) zero e h =
-    leb-true 1 (t .patterns) (and-left (leb 1 (t .patterns)) _ (and-left (goodTest power t) (allOf (goodTest power) ts) e))
-good-least power (t ∷ ts) (suc i) e h = good-least power ts i (and-right (goodTest power t) (allOf (goodTest power) ts) e) (omega arith)
+good-least m power [] i e h = absurd (omega arith)
+good-least m power (t ∷ ts) zero e h =
+    let r = and-right (pinsRule m (t .«tam_use»)) _ (and-left (goodTest m power t) (allOf (goodTest m power) ts) e) in
+    leb-true 1 (t .patterns) (and-left (leb 1 (t .patterns)) _ r)
+good-least m power (t ∷ ts) (suc i) e h =
+    good-least m power ts i (and-right (goodTest m power t) (allOf (goodTest m power) ts) e) (omega arith)
 
-pub good-patterns : (power : Bool) (d : Module) → goodTests power d ≡ true → (i : ℕ) → i < length (testsOf d)
+pub good-patterns : (m : ℕ) (power : Bool) (d : Module) → goodTests m power d ≡ true → (i : ℕ) → i < length (testsOf d)
     → 1 ≤ getD (testsOf d) i noTest .patterns
 unfolding goodTests
-good-patterns power d e i h =
-    good-least power (testsOf d) i
-    (and-left (allOf (goodTest power) (testsOf d)) (allOf spareTest (drop (d .«test_count») (d .tests)))
-    (and-right (leb (d .«test_count») testsMax) (filled (d .«test_count») (goodTest power) spareTest (d .tests)) e)) h
+good-patterns m power d e i h =
+    good-least m power (testsOf d) i
+    (and-left (allOf (goodTest m power) (testsOf d)) (allOf spareTest (drop (d .«test_count») (d .tests)))
+    (and-right (leb (d .«test_count») testsMax) (filled (d .«test_count») (goodTest m power) spareTest (d .tests)) e)) h
 
 -- a module that is not planned takes no cycles, on one wire
 sum-none : (c : ℕ) (d : Module) (k : ℕ) (ts : List Test) → anyOf onTam ts ≡ false → sumTimes c d k ts ≡ 0

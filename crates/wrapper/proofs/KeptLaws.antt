@@ -15,8 +15,8 @@ use Rattle.units.proofs.TestLaws.{and-both}
 use Rattle.soc.specs.Limits.{terminalsMax, chainsMax, lengthMax, testsMax, patternsMax, modulesMax, levelMax}
 use Rattle.units.specs.Places.{allOf, filled}
 use Rattle.soc.specs.Record.{chainsOf, modulesOf, flipFlops, noTest, noModule}
-use Rattle.soc.specs.Rules.{none, goodLength, spareLength, goodTest, spareTest, levelRule, goodTerminals, goodChains, goodPosition}
-use Rattle.soc.specs.Rules.{goodTests, goodModule, goodModules, goodName, goodSoc}
+use Rattle.soc.specs.Rules.{none, goodLength, spareLength, pinsRule, goodTest, spareTest, levelRule, goodTerminals, goodChains}
+use Rattle.soc.specs.Rules.{goodPosition, goodTests, goodModule, goodModules, goodName, goodSoc}
 use Rattle.soc.specs.declared.record.Test.{Test}
 use Rattle.soc.specs.declared.record.Module.{Module}
 use Rattle.soc.specs.declared.record.Soc.{Soc}
@@ -80,10 +80,11 @@ length-short f h = leb-true (f .0) lengthMax (and-both (leb 1 (f .0)) (leb (f .0
 spare-short : (f : FlipFlops) → spareLength f ≡ true → f .0 ≤ lengthMax
 spare-short f h = omega (arith, eqb-true (f .0) 0 h)
 
-test-few : (power : Bool) (t : Test) → goodTest power t ≡ true → t .patterns ≤ patternsMax
+test-few : (m : ℕ) (power : Bool) (t : Test) → goodTest m power t ≡ true → t .patterns ≤ patternsMax
 unfolding goodTest
-test-few power t h =
-    let w = and-both (leb 1 (t .patterns)) _ h in
+test-few m power t h =
+    let v = and-both (pinsRule m (t .«tam_use»)) _ h in
+    let w = and-both (leb 1 (t .patterns)) _ (v .1) in
     leb-true (t .patterns) patternsMax (and-both (leb (t .patterns) patternsMax) _ (w .1) .0)
 
 spare-few : (t : Test) → spareTest t ≡ true → t .patterns ≤ patternsMax
@@ -103,8 +104,8 @@ module-kept power xy m last d h =
     let i = and-both (leb (d .inputs) terminalsMax) _ (f .0) in
     let o = and-both (leb (d .outputs) terminalsMax) (leb (d .bidirs) terminalsMax) (i .1) in
     let c = and-both (leb (d .«chain_count») chainsMax) (filled (d .«chain_count») goodLength spareLength (d .chains)) (g .0) in
-    let p = and-both (goodPosition xy (d .x) (d .y)) (goodTests power d) (g .1) in
-    let t = and-both (leb (d .«test_count») testsMax) (filled (d .«test_count») (goodTest power) spareTest (d .tests)) (p .1) in
+    let p = and-both (goodPosition xy (d .x) (d .y)) (goodTests m power d) (g .1) in
+    let t = and-both (leb (d .«test_count») testsMax) (filled (d .«test_count») (goodTest m power) spareTest (d .tests)) (p .1) in
     record {
       chains = leb-true (d .«chain_count») chainsMax (c .0);
       lengths =
@@ -112,7 +113,7 @@ module-kept power xy m last d h =
           (d .chains) (c .1);
       tests = leb-true (d .«test_count») testsMax (t .0);
       patterns =
-          filled-at (λ x. x .patterns ≤ patternsMax) noTest (omega arith) (goodTest power) spareTest (test-few power) spare-few
+          filled-at (λ x. x .patterns ≤ patternsMax) noTest (omega arith) (goodTest m power) spareTest (test-few m power) spare-few
           (d .«test_count») (d .tests) (t .1);
       inputs = leb-true (d .inputs) terminalsMax (i .0);
       outputs = leb-true (d .outputs) terminalsMax (o .0);

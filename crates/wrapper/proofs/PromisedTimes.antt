@@ -50,34 +50,37 @@ module _ {A : Type 0} (f : Best → A) (z : A) (c : ℕ) (d : Module) where
   held-past W j h = padded-at widthMax z (map f (bestsFrom c d W 1)) j ∙ bests-past W 1 j h
 
 -- the tests of each module in use of a good record are good
-module-tests : (power xy : Bool) (m last : ℕ) (d : Module) → goodModule power xy m last d ≡ true → goodTests power d ≡ true
+module-tests : (power xy : Bool) (m last : ℕ) (d : Module) → goodModule power xy m last d ≡ true → goodTests m power d ≡ true
 unfolding goodModule
 module-tests power xy m last d h =
     let a = and-both (leb (d .level) levelMax) _ h in
     let b = and-both (levelRule m last (d .level)) _ (a .1) in
     let f = and-both (goodTerminals d) _ (b .1) in
     let g = and-both (goodChains d) _ (f .1) in
-    and-both (goodPosition xy (d .x) (d .y)) (goodTests power d) (g .1) .1
+    and-both (goodPosition xy (d .x) (d .y)) (goodTests m power d) (g .1) .1
 
-none-tests : (power : Bool) → goodTests power noModule ≡ true
+none-tests : (m : ℕ) (power : Bool) → goodTests m power noModule ≡ true
 unfolding goodTests allOf spareTest
-none-tests power = refl
+none-tests m power = refl
 
 modules-tests : (power xy : Bool) (m last : ℕ) (ds : List Module) → goodModules power xy m last ds ≡ true → (i : ℕ)
-    → goodTests power (getD ds i noModule) ≡ true
+    → goodTests (m + i) power (getD ds i noModule) ≡ true
 unfolding goodModules
-modules-tests power xy m last [] h i = none-tests power
+modules-tests power xy m last [] h i = none-tests (m + i) power
 modules-tests power xy m last (d ∷ ds) h zero =
-    module-tests power xy m last d (and-both (goodModule power xy m last d) (goodModules power xy (suc m) (d .level) ds) h .0)
+    let e : m + 0 ≡ m = omega arith in
+    rw e (module-tests power xy m last d (and-both (goodModule power xy m last d) (goodModules power xy (suc m) (d .level) ds) h .0))
 modules-tests power xy m last (d ∷ ds) h (suc i) =
     let rest = and-both (goodModule power xy m last d) (goodModules power xy (suc m) (d .level) ds) h .1 in
-    modules-tests power xy (suc m) (d .level) ds rest i
+    let e : m + suc i ≡ suc m + i = omega arith in
+    rw e (modules-tests power xy (suc m) (d .level) ds rest i)
 
 -- of a module of a good SOC, with c capture cycles
 module _ (c : ℕ) (first : 1 ≤ c) (last : c ≤ captureMax) (s : Soc) (m : ℕ) (good : goodSoc s ≡ true) (there : m < s .«module_count») where
-  good-tests : goodTests (s .power) (moduleAt s m) ≡ true
+  good-tests : goodTests m (s .power) (moduleAt s m) ≡ true
   good-tests =
-      rw (getD-take (s .«module_count») (s .modules) m noModule there)
+      let e : 0 + m ≡ m = omega arith in
+      rw (e, getD-take (s .«module_count») (s .modules) m noModule there)
       at (modules-tests (s .power) (s .xy) 0 0 (modulesOf s) (good-parts s good .1) m)
 
   -- its time is at most the module maximum, and at least 1 where it is planned
@@ -87,7 +90,7 @@ module _ (c : ℕ) (first : 1 ≤ c) (last : c ≤ captureMax) (s : Soc) (m : �
       (module-most c (moduleAt s m) (moduleBest c (moduleAt s m) w .wires) last (good-kept s m good there))
 
   pub time-some : (w : ℕ) → 1 ≤ w → isPlanned (moduleAt s m) ≡ true → 1 ≤ moduleBest c (moduleAt s m) w .cycles
-  time-some w h p = planned-least c first (moduleAt s m) w p (good-patterns (s .power) (moduleAt s m) good-tests) h
+  time-some w h p = planned-least c first (moduleAt s m) w p (good-patterns m (s .power) (moduleAt s m) good-tests) h
 
   -- what is answered for widths up to W
   module _ (W : ℕ) (low : 1 ≤ W) (high : W ≤ widthMax) where

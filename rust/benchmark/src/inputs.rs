@@ -21,7 +21,7 @@ pub struct Module {
     pub planned: bool,
 }
 
-/// A text of modules, all but the first at level 1.
+/// A text of modules: the SOC itself, which is not planned, and the others at level 1.
 pub fn text(name: &str, modules: &[Module]) -> String {
     let mut text = format!("SocName {name}\nTotalModules {}\nOptions Power 1 XY 1\n", modules.len());
     for (m, module) in modules.iter().enumerate() {
@@ -44,9 +44,15 @@ pub fn largest() -> String {
         chains: (0..64).map(|j| 4096 - (j * 7 + m) % 64).collect(),
         tests: 8,
         patterns: 16_777_215,
-        planned: m < 12,
+        planned: (1..=12).contains(&m),
     };
     text("largest", &(0..40).map(module).collect::<Vec<_>>())
+}
+
+/// A SOC without pins, and modules below it.
+fn below_top(modules: impl Iterator<Item = Module>) -> Vec<Module> {
+    let top = Module { terminals: 0, chains: Vec::new(), tests: 0, patterns: 1, planned: false };
+    std::iter::once(top).chain(modules).collect()
 }
 
 /// The largest text with its blanks doubled from the top, until it has some 60,000 bytes.
@@ -72,16 +78,16 @@ pub fn mixed(count: u32) -> String {
         patterns: 20 + 31 * m % 200,
         planned: true,
     };
-    text("mixed", &(0..count).map(module).collect::<Vec<_>>())
+    text("mixed", &below_top((0..count).map(module)))
 }
 
 pub fn twelve_equal() -> String {
     let module = |_| Module { terminals: 60, chains: vec![45; 16], tests: 1, patterns: 100, planned: true };
-    text("equal", &(0..12).map(module).collect::<Vec<_>>())
+    text("equal", &below_top((0..12).map(module)))
 }
 
 /// One chain each and no cells: no wire but the first helps.
 pub fn twelve_that_never_fall() -> String {
     let module = |m: u32| Module { terminals: 0, chains: vec![100 + 17 * m % 90], tests: 1, patterns: 50 + 23 * m % 60, planned: true };
-    text("flat", &(0..12).map(module).collect::<Vec<_>>())
+    text("flat", &below_top((0..12).map(module)))
 }

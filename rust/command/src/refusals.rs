@@ -8,7 +8,7 @@ pub struct Words {
     pub arguments: &'static [&'static str],
 }
 
-pub const REFUSALS: [Words; 16] = [
+pub const REFUSALS: &[Words] = &[
     of_file(1, "the text is longer than 61,440 bytes"),
     of_file(FORBIDDEN_BYTE, "a byte is none of tab, LF, CR before LF, or 32 to 126"),
     of_file(3, "a wrong keyword, 0/1 flag, name or form, too few or too many fields, or a line after the last one due"),
@@ -25,6 +25,7 @@ pub const REFUSALS: [Words; 16] = [
     of_file(14, "the SOC record breaks a limit or rule of the text, or a spare place in it is not 0"),
     of_file(15, "the overlay does not fit the base: another name or options, a module that is not there, or another level"),
     Words { number: 16, words: "the number of capture cycles is not from 1 to 4", arguments: &["C"] },
+    of_file(MODULE_0_ON_TAM, "a test of module 0 has TamUse 1: its terminals are the SOC's pins and need no access mechanism"),
 ];
 
 /// Refusals that are told with more than their words.
@@ -32,6 +33,7 @@ pub const FORBIDDEN_BYTE: u8 = 2;
 pub const NOT_DECIMAL: u8 = 4;
 pub const MANY_PLANNED: u8 = 10;
 pub const NOT_THERE: u8 = 13;
+pub const MODULE_0_ON_TAM: u8 = 17;
 
 const fn of_file(number: u8, words: &'static str) -> Words {
     Words { number, words, arguments: &[] }
@@ -49,8 +51,8 @@ mod tests {
 
     #[test]
     fn every_refusal_has_its_number_and_its_own_words() {
-        for (index, words) in REFUSALS.iter().enumerate() {
-            assert_eq!(usize::from(words.number), index + 1);
+        assert!(REFUSALS.windows(2).all(|pair| pair[0].number < pair[1].number));
+        for words in REFUSALS {
             assert_eq!(REFUSALS.iter().filter(|other| other.words == words.words).count(), 1);
             assert_eq!(of(words.number).words, words.words);
         }
@@ -58,6 +60,6 @@ mod tests {
 
     #[test]
     fn a_number_that_is_not_there_has_words_too() {
-        assert_eq!((of(0).words, of(17).words), ("the library refuses it", "the library refuses it"));
+        assert_eq!((of(0).words, of(255).words), ("the library refuses it", "the library refuses it"));
     }
 }

@@ -1,7 +1,7 @@
 //! Where on its line a refusal of a text lies, as far as the line alone tells it. The library has decided; this is for the message, and
 //! judges nothing.
 
-use crate::refusals::{FORBIDDEN_BYTE, NOT_DECIMAL};
+use crate::refusals::{FORBIDDEN_BYTE, MODULE_0_ON_TAM, NOT_DECIMAL};
 
 /// The byte of the line that is meant, and what would have been right.
 #[derive(Debug, PartialEq, Eq)]
@@ -34,6 +34,7 @@ pub fn spot(line: &[u8], number: u8) -> Option<Spot> {
     match number {
         FORBIDDEN_BYTE => line.iter().position(|&byte| !allowed(byte)).map(|at| Spot { at, known: None }),
         NOT_DECIMAL => outside_its_limit(line),
+        MODULE_0_ON_TAM => behind_tam_use(line).map(|at| Spot { at, known: None }),
         _ => None,
     }
 }
@@ -59,6 +60,11 @@ fn outside_its_limit(line: &[u8]) -> Option<Spot> {
         keyword = field;
     }
     None
+}
+
+/// The flag of a test line that says TamUse.
+fn behind_tam_use(line: &[u8]) -> Option<usize> {
+    fields(line).skip_while(|field| field.1 != "TamUse").nth(1).map(|field| field.0)
 }
 
 /// The fields of a line with the places where they begin. A text that is refused for a number has no bytes but those of ASCII.
@@ -123,7 +129,7 @@ mod tests {
     /// A text with every keyword that a number stands behind.
     const TEXT: &str = "SocName x\nTotalModules 1\nOptions Power 1 XY 1\n\
         Module 0 Level 0 Inputs 0 Outputs 0 Bidirs 0 ScanChains 1 : 1\nModule 0 X 0 Y 0\nModule 0 TotalTests 1\n\
-        Module 0 Test 1 ScanUse 1 TamUse 1 Patterns 1 Power 0\n";
+        Module 0 Test 1 ScanUse 1 TamUse 0 Patterns 1 Power 0\n";
 
     /// Whether the library refuses TEXT with 4 when a number stands behind a keyword.
     fn refused(keyword: &str, number: &str) -> bool {
@@ -144,6 +150,12 @@ mod tests {
                 assert_eq!(refused(keyword, &number), !within(&number, from, to, not_given), "{keyword} {number}");
             }
         }
+    }
+
+    #[test]
+    fn the_flag_that_is_meant() {
+        assert_eq!(spot(b"Module 0 Test 1 ScanUse 0\tTamUse  1", MODULE_0_ON_TAM), Some(Spot { at: 34, known: None }));
+        assert_eq!(spot(b"Module 0", MODULE_0_ON_TAM), None);
     }
 
     #[test]

@@ -78,6 +78,12 @@ fn block(module: usize, level: usize) -> String {
     format!("Module {module} Level {level} Inputs 0 Outputs 0 Bidirs 0 ScanChains 0 :\nModule {module} TotalTests 0\n")
 }
 
+/// The same with a test that has TamUse 1.
+fn on_tam(block: &str) -> String {
+    let module = block.split(' ').nth(1).expect("its number");
+    format!("{}Module {module} Test 1 ScanUse 0 TamUse 1 Patterns 1\n", block.replace("TotalTests 0", "TotalTests 1"))
+}
+
 /// A SOC text of n modules.
 fn text(modules: usize) -> String {
     let blocks: String = (0..modules).map(|module| block(module, usize::from(module > 0))).collect();
@@ -119,6 +125,8 @@ fn every_refusal_of_an_overlay() {
         (HEAD.to_string(), "6 line 0"),
         ("Overlay wide\n".to_string(), "6 line 0"),
         (format!("{HEAD}{}", &one[..one.find('\n').expect("a line")]), "6 line 0"),
+        (format!("{HEAD}{}", on_tam(&block(0, 0))), "17 line 5"),
+        (format!("{}{}", HEAD.replace("wide", "wides"), on_tam(&block(0, 40))), "17 line 5"),
         (format!("{}{one}", HEAD.replace("wide", "wides")), "15 line 0"),
         (format!("{}{one}", HEAD.replace("XY 0", "XY 1")), "15 line 0"),
         (format!("{}{one}", HEAD.replace("Power 0", "Power 1")), "15 line 0"),

@@ -146,13 +146,16 @@ fn refusal_9() {
 #[test]
 fn refusal_10() {
     let module = |m: usize| {
-        let level = m.min(1);
+        let (level, tam_use) = (m.min(1), m.min(1));
         format!(
             "Module {m} Level {level} Inputs 1 Outputs 0 Bidirs 0 ScanChains 0 :\nModule {m} TotalTests 2\n\
-             Module {m} Test 1 ScanUse 0 TamUse 0 Patterns 1\nModule {m} Test 2 ScanUse 0 TamUse 1 Patterns 1\n"
+             Module {m} Test 1 ScanUse 0 TamUse 0 Patterns 1\nModule {m} Test 2 ScanUse 0 TamUse {tam_use} Patterns 1\n"
         )
     };
-    let text = |count| format!("SocName n\nTotalModules {count}\nOptions Power 0 XY 0\n{}", (0..count).map(module).collect::<String>());
+    let text = |planned: usize| {
+        let modules: String = (0..=planned).map(module).collect();
+        format!("SocName n\nTotalModules {}\nOptions Power 0 XY 0\n{modules}", planned + 1)
+    };
     let folder = Folder::holding("x.soc", text(13));
     folder.put("twelve.soc", text(12));
     for call in [&["plan", "x.soc", "4", "2"][..], &["write", "x.soc", "4", "2", "x.plan"]] {
@@ -170,10 +173,13 @@ fn refusal_12() {
     wrong[3] = 1;
     let mut late = good.clone();
     late[12] = 1;
+    // Module 0, which has pins of its own.
+    let mut top = good.clone();
+    top[0] = 0;
     // Without the starts, as plan files were once.
     let mut old = [&good[..12], &good[20..32], &good[40..]].concat();
     old[50] = 24;
-    for content in [&[][..], &good[1..], &good[..79], &[&good[..], &[0]].concat(), &wrong, &late, &old, T1.as_bytes()] {
+    for content in [&[][..], &good[1..], &good[..79], &[&good[..], &[0]].concat(), &wrong, &late, &top, &old, T1.as_bytes()] {
         folder.put("x.plan", content);
         folder.run(&["show", "x.plan"]).refused(12, 0, "x.plan: this is not a good plan file or plan record", "");
     }
@@ -210,6 +216,31 @@ fn refusal_16() {
     folder.put("x.soc", T1.replace("TamUse 1", "TamUse 0"));
     folder.run(&["plan", "x.soc", "4", "2", "--capture", "5"]).refused(16, 0, &format!("C 5: {words}"), "");
     assert_eq!(folder.names(), ["x.soc"]);
+}
+
+#[test]
+fn refusal_17() {
+    let words = "a test of module 0 has TamUse 1: its terminals are the SOC's pins and need no access mechanism";
+    let top = |test: &str| T1.replace("Module 0 TotalTests 0", &format!("Module 0 TotalTests 1\nModule 0 Test 1 {test}"));
+    let line = " 6 | Module 0 Test 1 ScanUse 0 TamUse 1 Patterns 5\n   |                                  ^\n";
+    text_is_refused(&top("ScanUse 0 TamUse 1 Patterns 5"), 17, 6, words, line);
+    // It is said before what stands further right or below, and after what stands further left or above.
+    for test in ["ScanUse 0 TamUse 1", "ScanUse 0 TamUse 1 Patterns 0", "ScanUse 0 TamUse 1 Pattern 5", "ScanUse 0 TamUse 1 Patterns 5 x"] {
+        let folder = Folder::holding("x.soc", top(test).replace("Module 1 Level 1", "Module 1 Level 2"));
+        assert_eq!(folder.run(&["soc", "x.soc"]).out, "refused 17 line 6\n", "{test}");
+    }
+    for (text, refusal) in [
+        (top("ScanUse 0 TamUse 2 Patterns 5"), "3 line 6"),
+        (top("ScanUse 0 TamUse"), "3 line 6"),
+        (top("ScanUse 2 TamUse 1 Patterns 5"), "3 line 6"),
+        (top("ScanUse 0 TamUse 1 Patterns 5").replace("Test 1 ScanUse 0", "Test 2 ScanUse 0"), "5 line 6"),
+        (top("ScanUse 0 TamUse 1 Patterns 5").replace("Inputs 0", "Inputs 8192"), "4 line 4"),
+        (format!("{}\u{7}", top("ScanUse 0 TamUse 1 Patterns 5")), "2 line 13"),
+    ] {
+        assert_eq!(Folder::holding("x.soc", text).run(&["soc", "x.soc"]).out, format!("refused {refusal}\n"));
+    }
+    let accepted = top("ScanUse 1 TamUse 0 Patterns 5");
+    Folder::holding("x.soc", &accepted).run(&["soc", "x.soc"]).done(&accepted);
 }
 
 #[test]

@@ -65,18 +65,21 @@ fn soc_writes_figures_that_are_not_given() {
 
 /// Core A of document 000.
 const CORE_A: &str = "SocName a
-TotalModules 1
+TotalModules 2
 Options Power 0 XY 0
 Module 0 Level 0 Inputs 8 Outputs 11 Bidirs 0 ScanChains 9 : 12 12 8 8 8 6 6 6 6
-Module 0 TotalTests 2
-Module 0 Test 1 ScanUse 1 TamUse 1 Patterns 10
-Module 0 Test 2 ScanUse 0 TamUse 0 Patterns 1
+Module 0 TotalTests 1
+Module 0 Test 1 ScanUse 1 TamUse 0 Patterns 10
+Module 1 Level 1 Inputs 8 Outputs 11 Bidirs 0 ScanChains 9 : 12 12 8 8 8 6 6 6 6
+Module 1 TotalTests 2
+Module 1 Test 1 ScanUse 1 TamUse 1 Patterns 10
+Module 1 Test 2 ScanUse 0 TamUse 0 Patterns 1
 ";
 
 #[test]
 fn layout_of_core_a() {
     let folder = Folder::holding("a.soc", CORE_A);
-    let ran = folder.run(&["layout", "a.soc", "0", "1", "4"]);
+    let ran = folder.run(&["layout", "a.soc", "1", "1", "4"]);
     assert_eq!((ran.status, &ran.err[..]), (Some(0), ""));
     let lines: Vec<&str> = ran.out.lines().collect();
     assert_eq!(lines[0], "si 20 so 21 cycles 240");
@@ -88,17 +91,25 @@ fn layout_of_core_a() {
 }
 
 #[test]
+fn module_0_has_layouts_and_times() {
+    let folder = Folder::holding("a.soc", CORE_A);
+    let of_core = folder.run(&["layout", "a.soc", "1", "1", "4"]).out;
+    folder.run(&["layout", "a.soc", "0", "1", "4"]).done(&of_core);
+    folder.run(&["time", "a.soc", "0", "4"]).done("cycles 0 wires 1\n");
+}
+
+#[test]
 fn layout_of_a_test_without_scan() {
     let folder = Folder::holding("a.soc", CORE_A);
     let internal: String = (1..=9).map(|j| format!("internal {j} chain 0\n")).collect();
     let expected = format!("si 4 so 6 cycles 11\nchain 1 ff 0 in 4 out 6 bidir 0\nchain 2 ff 0 in 4 out 5 bidir 0\n{internal}");
-    folder.run(&["layout", "a.soc", "0", "2", "2"]).done(&expected);
+    folder.run(&["layout", "a.soc", "1", "2", "2"]).done(&expected);
 }
 
 #[test]
 fn layout_with_bidirectional_cells() {
     let folder = Folder::holding("a.soc", CORE_A.replace("Bidirs 0", "Bidirs 3"));
-    let ran = folder.run(&["layout", "a.soc", "0", "1", "4"]);
+    let ran = folder.run(&["layout", "a.soc", "1", "1", "4"]);
     assert_eq!((ran.status, &ran.err[..]), (Some(0), ""));
     let chains = "si 21 so 22 cycles 251\nchain 1 ff 18 in 1 out 2 bidir 2\nchain 2 ff 18 in 2 out 3 bidir 1\n\
                   chain 3 ff 16 in 5 out 5 bidir 0\nchain 4 ff 20 in 0 out 1 bidir 0\ninternal 1 chain 1\n";

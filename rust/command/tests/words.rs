@@ -16,8 +16,8 @@ fn refusals() -> Vec<(u32, String)> {
 }
 
 #[test]
-fn the_help_has_sixteen() {
-    assert_eq!(refusals().iter().map(|refusal| refusal.0).collect::<Vec<_>>(), (1..=16).collect::<Vec<_>>());
+fn the_help_has_them() {
+    assert_eq!(refusals().iter().map(|refusal| refusal.0).collect::<Vec<_>>(), (1..=17).collect::<Vec<_>>());
 }
 
 #[test]

@@ -147,6 +147,26 @@ pub fn damage_one_line(lines: &mut [Vec<String>], random: &mut Random) {
     }
 }
 
+/// A fault before or behind TamUse on a test line of module 0, or none; one behind it is never reached where TamUse is 1.
+pub fn damage_test_of_module_0(lines: &mut [Vec<String>], random: &mut Random) {
+    let of_module_0 = |line: &Vec<String>| line.len() > 9 && line[1] == "0" && line[2] == "Test";
+    let tests: Vec<usize> = (0..lines.len()).filter(|&at| of_module_0(&lines[at])).collect();
+    if tests.is_empty() {
+        return;
+    }
+    let line = &mut lines[*random.pick(&tests)];
+    let before = random.within(1, 7) as usize;
+    match random.below(8) {
+        0 => line.truncate(8),
+        1 => line.truncate(9),
+        2 => line[8] = any_word(random).to_string(),
+        3 => line[9] = any_word(random).to_string(),
+        4 => line.push(any_word(random).to_string()),
+        5 => line[before] = any_word(random).to_string(),
+        _ => {}
+    }
+}
+
 fn damage_fields(line: &mut Vec<String>, random: &mut Random) {
     if line.is_empty() {
         return;

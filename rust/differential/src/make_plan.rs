@@ -34,7 +34,7 @@ impl LoosePlan {
         let limit = random.within(1, limits::BUSES as u32);
         let count = random.within(1, limit);
         let widths = make_widths(count, random);
-        let mut numbers: Vec<u32> = (0..limits::MODULES as u32).collect();
+        let mut numbers: Vec<u32> = (1..limits::MODULES as u32).collect();
         let modules = random.within(1, limits::PLANNED as u32) as usize;
         while numbers.len() > modules {
             numbers.remove(random.below(numbers.len()));
@@ -174,8 +174,10 @@ impl LoosePlan {
         }
         let (at, other, buses) = (random.below(count), random.below(count), self.buses.len() as u32);
         let width = self.buses.get((self.modules[at].bus as usize).wrapping_sub(1)).map_or(1, |bus| bus.0);
-        match random.below(8) {
+        match random.below(9) {
             0 => self.modules[at].number = *random.pick(&[39, 40, 41, 255, 256]),
+            // Before all others, so that the numbers still ascend.
+            8 => self.modules[0].number = 0,
             1 => self.modules[at].number = self.modules[other].number,
             2 => self.modules.swap(at, other),
             3 => self.modules[at].bus = *random.pick(&[0, 1, buses, buses + 1, 255, 256]),

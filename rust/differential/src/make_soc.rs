@@ -7,7 +7,7 @@ use independent::units::FlipFlops;
 
 use crate::random::Random;
 
-/// How many modules a record has and how many of them are planned.
+/// How many modules a record has and how many of them are planned; module 0 never is.
 #[derive(Clone, Copy)]
 pub struct Shape {
     pub modules: u32,
@@ -19,7 +19,7 @@ pub struct Shape {
 /// Mostly few modules, now and then up to 40 of them.
 pub fn any_shape(random: &mut Random) -> Shape {
     let modules = if random.chance(90) { random.within(1, 6) } else { random.within(7, limits::MODULES as u32) };
-    Shape { modules, planned: random.within(0, modules.min(12)), large: random.chance(5) }
+    Shape { modules, planned: random.within(0, (modules - 1).min(12)), large: random.chance(5) }
 }
 
 pub fn make_soc(shape: Shape, random: &mut Random) -> Soc {
@@ -31,7 +31,7 @@ pub fn make_soc(shape: Shape, random: &mut Random) -> Soc {
     let mut planned_left = shape.planned;
     for number in 0..shape.modules {
         let modules_left = shape.modules - number;
-        let planned = random.within(1, modules_left) <= planned_left;
+        let planned = number > 0 && random.within(1, modules_left) <= planned_left;
         planned_left -= u32::from(planned);
         let mut module = match previous {
             Some(previous) if alike && previous.planned() == planned => previous,
@@ -43,6 +43,14 @@ pub fn make_soc(shape: Shape, random: &mut Random) -> Soc {
     }
     debug_assert_eq!(soc.check(), Ok(()));
     soc
+}
+
+/// Gives module 0 tests of which one has TamUse 1, so that the text is refused with 17 and the record with 14.
+pub fn plan_module_0(soc: &mut Soc, random: &mut Random) {
+    let mut module = soc.modules[0];
+    module.tests = Module::SPARE.tests;
+    make_tests(&mut module, soc, true, false, random);
+    soc.modules[0] = module;
 }
 
 fn make_name(soc: &mut Soc, random: &mut Random) {

@@ -5,7 +5,7 @@ use std::ops::Range;
 use crate::limits;
 use crate::lines::{Fields, LineReader};
 use crate::refusal::Refusal;
-use crate::soc::{level_follows, pair_agrees, Module, Options, Test, NOT_GIVEN};
+use crate::soc::{level_follows, pair_agrees, tam_use_allowed, Module, Options, Test, NOT_GIVEN};
 use crate::units::FlipFlops;
 
 /// A module, its number, and where in the text its lines stand, first field to last.
@@ -117,6 +117,7 @@ fn read_test(module: u32, number: u32, power: bool, lines: &mut LineReader) -> R
     let scan_use = fields.flag()?;
     fields.keyword("TamUse")?;
     let tam_use = fields.flag()?;
+    fields.demand(tam_use_allowed(module, tam_use), 17)?;
     fields.keyword("Patterns")?;
     let patterns = fields.number(1, limits::PATTERNS)?;
     let mut test = Test { scan_use, tam_use, patterns, power: NOT_GIVEN };

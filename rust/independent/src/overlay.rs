@@ -1,4 +1,4 @@
-//! Reading an overlay: late changes of some modules of a SOC (refusals 1 to 6, with the overlay's line).
+//! Reading an overlay: late changes of some modules of a SOC (refusals 1 to 6 and 17, with the overlay's line).
 
 use crate::block::{read_block, Block, LevelDue, NumberDue};
 use crate::refusal::Refusal;

@@ -70,7 +70,7 @@ impl Plan {
     }
 
     fn good_module(&self, module: &Planned) -> bool {
-        (module.number as usize) < limits::MODULES
+        (1..limits::MODULES as u32).contains(&module.number)
             && (1..=self.bus_count).contains(&module.bus)
             && (1..=self.buses[module.bus as usize - 1].width.0).contains(&module.wires.0)
             && (1..=limits::MODULE_CYCLES).contains(&module.cycles.0)

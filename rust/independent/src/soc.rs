@@ -109,8 +109,9 @@ impl Soc {
     pub fn check(&self) -> Result<(), Refusal> {
         demand(self.good_head(), 14)?;
         let mut previous = None;
-        for module in self.modules() {
+        for (number, module) in (0..).zip(self.modules()) {
             demand(self.good_module(module, previous), 14)?;
+            demand(module.tests().iter().all(|test| tam_use_allowed(number, test.tam_use)), 14)?;
             previous = Some(module.level);
         }
         let spare = &self.modules[self.module_count as usize..];
@@ -164,6 +165,11 @@ pub fn level_follows(level: u32, previous: Option<u32>) -> bool {
         None => level == 0,
         Some(previous) => (1..=previous + 1).contains(&level),
     }
+}
+
+/// The terminals of module 0 are the SOC's pins and need no access mechanism.
+pub fn tam_use_allowed(module: u32, tam_use: bool) -> bool {
+    module != 0 || !tam_use
 }
 
 /// X and Y are both -1 or neither.

@@ -1,4 +1,4 @@
-//! Reading a SOC text to its record (refusals 1 to 6).
+//! Reading a SOC text to its record (refusals 1 to 6, 17).
 
 use std::ops::Range;
 

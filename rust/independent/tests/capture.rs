@@ -2,7 +2,7 @@
 
 mod common;
 
-use common::{soc, CORE_A, D695};
+use common::{soc, CORE_A, D695, MODULE_0};
 use independent::planner::plan;
 use independent::soc::Soc;
 use independent::time::{module_time, test_layout, test_time};
@@ -11,8 +11,7 @@ use independent::units::Cycles;
 /// Core A with 10 patterns, and one more test of 7 that is not planned and does not scan.
 fn core_a() -> Soc {
     soc(&format!(
-        "SocName a\nTotalModules 2\nOptions Power 0 XY 0\nModule 0 Level 0 Inputs 0 Outputs 0 Bidirs 0 ScanChains 0 :\n\
-         Module 0 TotalTests 0\nModule 1 Level 1 {CORE_A}\nModule 1 TotalTests 2\n\
+        "SocName a\nTotalModules 2\nOptions Power 0 XY 0\n{MODULE_0}Module 1 Level 1 {CORE_A}\nModule 1 TotalTests 2\n\
          Module 1 Test 1 ScanUse 1 TamUse 1 Patterns 10\nModule 1 Test 2 ScanUse 0 TamUse 0 Patterns 7\n"
     ))
 }

@@ -2,7 +2,7 @@
 
 mod common;
 
-use common::{soc, t1, CORE_A, D695};
+use common::{soc, t1, CORE_A, D695, MODULE_0};
 use independent::layout::layout;
 use independent::limits;
 use independent::planner::{plan, width_lists};
@@ -10,15 +10,16 @@ use independent::soc::Soc;
 use independent::time::{figure, module_time, test_time};
 use independent::units::{Capture, Cycles, FlipFlops, Wires};
 
+/// A text whose module 1 is the one of interest.
 fn one_module(level_line: &str, patterns: u32) -> Soc {
     soc(&format!(
-        "SocName one\nTotalModules 1\nOptions Power 0 XY 0\nModule 0 Level 0 {level_line}\nModule 0 TotalTests 1\n\
-         Module 0 Test 1 ScanUse 1 TamUse 1 Patterns {patterns}\n"
+        "SocName one\nTotalModules 2\nOptions Power 0 XY 0\n{MODULE_0}Module 1 Level 1 {level_line}\nModule 1 TotalTests 1\n\
+         Module 1 Test 1 ScanUse 1 TamUse 1 Patterns {patterns}\n"
     ))
 }
 
 fn figures(soc: &Soc, widths: std::ops::RangeInclusive<u32>) -> Vec<u64> {
-    widths.map(|width| figure(&soc.modules[0], Wires(width), Capture(1)).0).collect()
+    widths.map(|width| figure(&soc.modules[1], Wires(width), Capture(1)).0).collect()
 }
 
 fn time_and_wires(soc: &Soc, module: u32, width: u32) -> (u64, u32) {
@@ -30,7 +31,7 @@ fn time_and_wires(soc: &Soc, module: u32, width: u32) -> (u64, u32) {
 fn core_a() {
     let core = one_module(CORE_A, 10);
     assert_eq!(figures(&core, 1..=5), [920, 470, 317, 240, 208]);
-    let layout = layout(&core.modules[0], &core.modules[0].tests[0], Wires(4));
+    let layout = layout(&core.modules[1], &core.modules[1].tests[0], Wires(4));
     assert_eq!((layout.scan_in(), layout.scan_out()), (FlipFlops(20), FlipFlops(21)));
     // Table 3 of document 000, up to chain numbers: 18, 18, 20 and 16 flip-flops with 2, 2, 0 and 4 input, 3, 3, 0 and 5 output cells.
     let mut chains: Vec<(u32, u32, u32)> =
@@ -42,25 +43,25 @@ fn core_a() {
 #[test]
 fn one_chain_needs_one_wire() {
     let core = one_module("Inputs 0 Outputs 0 Bidirs 0 ScanChains 1 : 10", 5);
-    assert_eq!([time_and_wires(&core, 0, 1), time_and_wires(&core, 0, 2)], [(65, 1), (65, 1)]);
+    assert_eq!([time_and_wires(&core, 1, 1), time_and_wires(&core, 1, 2)], [(65, 1), (65, 1)]);
 }
 
 #[test]
 fn cells_alone() {
     let core = one_module("Inputs 3 Outputs 2 Bidirs 0 ScanChains 0 :", 4);
     assert_eq!(figures(&core, 1..=4), [18, 13, 9, 9]);
-    assert_eq!(time_and_wires(&core, 0, 4), (9, 3));
+    assert_eq!(time_and_wires(&core, 1, 4), (9, 3));
 }
 
 #[test]
 fn nothing_to_scan() {
     let core = one_module("Inputs 0 Outputs 0 Bidirs 0 ScanChains 0 :", 7);
-    assert_eq!(time_and_wires(&core, 0, 64), (7, 1));
+    assert_eq!(time_and_wires(&core, 1, 64), (7, 1));
 }
 
 /// Input, output and bidirectional cells of each of the first chains.
 fn cells(core: &Soc, width: u32) -> Vec<(u32, u32, u32)> {
-    let layout = layout(&core.modules[0], &core.modules[0].tests[0], Wires(width));
+    let layout = layout(&core.modules[1], &core.modules[1].tests[0], Wires(width));
     (0..width as usize).map(|chain| (layout.input_cells[chain], layout.output_cells[chain], layout.bidir_cells[chain])).collect()
 }
 
@@ -81,7 +82,7 @@ fn core_6() {
     let table_4 =
         [(1, 24278), (2, 12139), (3, 8263), (4, 6202), (8, 3101), (16, 1560), (24, 1040), (39, 1020), (46, 528), (47, 521), (64, 521)];
     for (width, longest) in table_4 {
-        let layout = layout(&core.modules[0], &core.modules[0].tests[0], Wires(width));
+        let layout = layout(&core.modules[1], &core.modules[1].tests[0], Wires(width));
         assert_eq!(layout.scan_in().max(layout.scan_out()), FlipFlops(longest), "{width}");
         let sum = |cells: [u32; limits::CHAINS]| cells.iter().sum::<u32>();
         assert_eq!([layout.input_cells, layout.output_cells, layout.bidir_cells].map(sum), [417, 324, 72]);
@@ -95,22 +96,22 @@ fn figures_rise_with_the_width_for_some_cores() {
     let lengths: Vec<String> = lengths.collect();
     let core = one_module(&format!("Inputs 0 Outputs 0 Bidirs 0 ScanChains {} : {}", lengths.len(), lengths.join(" ")), 1);
     assert_eq!(figures(&core, 11..=14), [21, 17, 19, 15]);
-    assert_eq!(time_and_wires(&core, 0, 13), (17, 12));
+    assert_eq!(time_and_wires(&core, 1, 13), (17, 12));
 }
 
 #[test]
 fn the_most_that_a_test_and_a_module_take() {
     let chains = vec!["4096"; limits::CHAINS].join(" ");
-    let test = |number| format!("Module 0 Test {number} ScanUse 1 TamUse 1 Patterns 16777215\n");
+    let test = |number| format!("Module 1 Test {number} ScanUse 1 TamUse 1 Patterns 16777215\n");
     let tests: String = (1..=8).map(test).collect();
     let largest = soc(&format!(
-        "SocName largest\nTotalModules 1\nOptions Power 0 XY 0\n\
-         Module 0 Level 0 Inputs 8191 Outputs 8191 Bidirs 8191 ScanChains 64 : {chains}\nModule 0 TotalTests 8\n{tests}"
+        "SocName largest\nTotalModules 2\nOptions Power 0 XY 0\n{MODULE_0}\
+         Module 1 Level 1 Inputs 8191 Outputs 8191 Bidirs 8191 ScanChains 64 : {chains}\nModule 1 TotalTests 8\n{tests}"
     ));
-    assert_eq!(test_time(&largest, 0, 1, 1, 1), Ok(Cycles(4_672_907_640_831)));
-    assert_eq!(time_and_wires(&largest, 0, 1), (37_383_261_126_648, 1));
-    assert_eq!(test_time(&largest, 0, 1, 1, 4), Ok(Cycles(4_672_957_972_476)));
-    assert_eq!(module_time(&largest, 0, 1, 4).unwrap().cycles, Cycles(37_383_663_779_808));
+    assert_eq!(test_time(&largest, 1, 1, 1, 1), Ok(Cycles(4_672_907_640_831)));
+    assert_eq!(time_and_wires(&largest, 1, 1), (37_383_261_126_648, 1));
+    assert_eq!(test_time(&largest, 1, 1, 1, 4), Ok(Cycles(4_672_957_972_476)));
+    assert_eq!(module_time(&largest, 1, 1, 4).unwrap().cycles, Cycles(37_383_663_779_808));
     assert_eq!((limits::TEST_CYCLES, limits::MODULE_CYCLES), (4_672_957_972_476, 37_383_663_779_808));
 }
 
@@ -133,7 +134,7 @@ fn two_copies_go_to_two_buses() {
     };
     let two = soc(&format!(
         "SocName two\nTotalModules 3\nOptions Power 0 XY 0\n\
-         Module 0 Level 0 Inputs 0 Outputs 0 Bidirs 0 ScanChains 0 :\nModule 0 TotalTests 0\n{}{}",
+         {MODULE_0}{}{}",
         module(1),
         module(2)
     ));

@@ -92,6 +92,9 @@ fn lines_of_the_text_count_from_1_after_it() {
     assert_eq!(refused("Plan 4 2", &"\n".repeat(61_441)), "refused 1 line 0\n");
     assert_eq!(refused("Plan 0 0 0", "\x07"), "refused 2 line 1\n");
     assert_eq!(refused("Plan 0 0 0", &t1()), "refused 7 line 0\n");
+    let module_0 = t1().replace("Module 0 TotalTests 0", "Module 0 TotalTests 1\nModule 0 Test 1 ScanUse 0 TamUse 1");
+    assert_eq!(refused("Plan 0 0 0", &module_0), "refused 17 line 6\n");
+    assert_eq!(refused("Plan 0 0 x", &module_0), "refused 4 line 0\n");
     assert_eq!(refused("Plan 4 4 5", &t1()), "refused 8 line 0\n");
     assert_eq!(refused("Plan 4 2 0", &t1()), "refused 16 line 0\n");
     assert_eq!(refused("Plan 4 2 5", &t1()), "refused 16 line 0\n");

@@ -251,6 +251,10 @@ const FAULTS: &[(usize, &str, u8)] = &[
     (6, "Module 0 Test 2 ScanUse 0", 5),
     (6, "Module 41 Test 1 ScanUse 0", 5),
     (6, "Module 0 Test 1 ScanUse 2", 3),
+    (6, "Module 0 Test 1 ScanUse 0 TamUse 2", 3),
+    (6, "Module 0 Test 1 ScanUse 0 TamUse 1", 17),
+    (6, "Module 0 Test 1 ScanUse 0 TamUse 1 Patterns 0", 17),
+    (6, "Module 0 Test 1 ScanUse 0 TamUse 1 Patterns 7 Power 8", 17),
     (6, "Module 0 Test 1 ScanUse 0 TamUse 0 Patterns 0", 4),
     (6, "Module 0 Test 1 ScanUse 0 TamUse 0 Patterns 7 Watts", 3),
     (7, "Module 0 Level 0", 5),
@@ -359,6 +363,19 @@ fn base_before_overlay_before_15() {
     assert_eq!(refused(&full(), &other_name), (15, 0, Text::Overlay));
     assert_eq!(refused(&full(), &full()), (3, 1, Text::Overlay));
     assert_eq!(refused(&full_overlay(), &full_overlay()), (3, 1, Text::Base));
+}
+
+#[test]
+fn module_0_with_tam_use_1_comes_before_15() {
+    let planned = full_overlay().replacen("TamUse 0", "TamUse 1", 1);
+    assert_eq!(refused(&full(), &planned), (17, 6, Text::Overlay));
+    assert_eq!(refused(&full(), &planned.replace("x847", "y")), (17, 6, Text::Overlay));
+    assert_eq!(refused(&full(), &planned.replace("Module 0 Level 0", "Module 0 Level 3")), (17, 6, Text::Overlay));
+    assert_eq!(refused(&full(), &planned.replace("Patterns 9", "Patterns x")), (17, 6, Text::Overlay));
+    let base = full().replacen("TamUse 0", "TamUse 1", 1);
+    assert_eq!(refused(&base, &planned), (17, 7, Text::Base));
+    // An overlay without that test does not mend the base.
+    assert_eq!(refused(&base, &full_overlay()), (17, 7, Text::Base));
 }
 
 #[test]

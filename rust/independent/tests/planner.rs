@@ -2,7 +2,7 @@
 
 mod common;
 
-use common::soc;
+use common::{soc, MODULE_0};
 use independent::plan::Plan;
 use independent::planner::{plan, width_lists};
 use independent::soc::Soc;
@@ -59,16 +59,12 @@ impl Random {
 
 fn random_soc(random: &mut Random) -> Soc {
     let count = 1 + random.below(5);
-    let mut text = format!("SocName r\nTotalModules {count}\nOptions Power 0 XY 0\n");
-    for m in 0..count {
+    let mut text = format!("SocName r\nTotalModules {}\nOptions Power 0 XY 0\n{MODULE_0}", count + 1);
+    for m in 1..=count {
         let chains: Vec<String> = (0..random.below(5)).map(|_| (1 + random.below(6)).to_string()).collect();
         let (inputs, outputs) = (random.below(5), random.below(5));
-        text += &format!(
-            "Module {m} Level {} Inputs {inputs} Outputs {outputs} Bidirs 0 ScanChains {} : {}\n",
-            m.min(1),
-            chains.len(),
-            chains.join(" ")
-        );
+        text +=
+            &format!("Module {m} Level 1 Inputs {inputs} Outputs {outputs} Bidirs 0 ScanChains {} : {}\n", chains.len(), chains.join(" "));
         text += &format!("Module {m} TotalTests 1\nModule {m} Test 1 ScanUse 1 TamUse 1 Patterns {}\n", 1 + random.below(4));
     }
     soc(&text)

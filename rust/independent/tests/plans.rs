@@ -52,6 +52,7 @@ fn a_wrong_place_in_a_plan_record_is_12() {
         |plan| plan.buses[0].width = Wires(0),
         |plan| plan.buses[1].busy = Cycles(8),
         |plan| plan.buses[2].busy = Cycles(1),
+        |plan| plan.modules[0].number = 0,
         |plan| plan.modules[0].number = 2,
         |plan| plan.modules[1].number = 40,
         |plan| plan.modules[1].bus = 0,
@@ -109,6 +110,20 @@ fn plan_file_of_t1() {
     let file = [module(1, 1, 1, 65, 0), module(2, 1, 3, 9, 65), bus(4, 74), trailer].concat();
     assert_eq!(plan_file::write(&on_one_bus()), file);
     assert_eq!(plan_file::read(&file), Ok(on_one_bus()));
+}
+
+/// Module 0 is never planned, so a plan does not name it.
+#[test]
+fn a_plan_that_names_module_0_is_12() {
+    for mut plan in [best(), on_one_bus()] {
+        plan.modules[0].number = 0;
+        assert_eq!(plan.check(), Err(Refusal::new(12)));
+        assert_eq!(refusal(plan_file::read(&plan_file::write(&plan))), 12);
+        assert_eq!(refusal(entries::write_plan(&plan_bytes(&plan), &mut [0; 292])), 12);
+        assert_eq!(refusal(entries::show(&plan_bytes(&plan), &mut [0; 2_048])), 12);
+        (plan.modules[0].number, plan.modules[1].number) = (1, 39);
+        assert_eq!(plan_file::read(&plan_file::write(&plan)), Ok(plan));
+    }
 }
 
 #[test]

@@ -2,7 +2,7 @@
 
 mod common;
 
-use common::{full, soc, t1};
+use common::{full, soc, t1, MODULE_0};
 use independent::entries;
 use independent::forms::{soc_bytes, soc_from, LAYOUT_BYTES, PLAN_BYTES, SOC_BYTES};
 use independent::refusal::Refusal;
@@ -71,6 +71,8 @@ fn a_wrong_place_in_a_soc_record_is_14() {
         |soc| soc.modules[1].test_count = 9,
         |soc| soc.modules[1].test_count = 0,
         |soc| soc.modules[1].test_count = 2,
+        |soc| soc.modules[0].tests[0].tam_use = true,
+        |soc| soc.modules[0].tests[1].tam_use = true,
         |soc| soc.modules[1].tests[0].patterns = 0,
         |soc| soc.modules[1].tests[0].patterns = 16_777_216,
         |soc| soc.modules[1].tests[0].power = 16_777_216,
@@ -141,14 +143,13 @@ fn planner_refuses_7_then_8_then_16_then_9_then_10_then_11() {
     assert_eq!([of(&none, 64, 3, 1), of(&none, 1, 1, 4)], [9, 9]);
     let many = |count: usize| {
         let module = |m: usize| {
-            let level = m.min(1);
             format!(
-                "Module {m} Level {level} Inputs 1 Outputs 0 Bidirs 0 ScanChains 0 :\nModule {m} TotalTests 1\n\
+                "Module {m} Level 1 Inputs 1 Outputs 0 Bidirs 0 ScanChains 0 :\nModule {m} TotalTests 1\n\
                  Module {m} Test 1 ScanUse 0 TamUse 1 Patterns 1\n"
             )
         };
-        let modules: String = (0..count).map(module).collect();
-        soc_bytes(&soc(&format!("SocName n\nTotalModules {count}\nOptions Power 0 XY 0\n{modules}")))
+        let modules: String = (1..=count).map(module).collect();
+        soc_bytes(&soc(&format!("SocName n\nTotalModules {}\nOptions Power 0 XY 0\n{MODULE_0}{modules}", count + 1)))
     };
     assert_eq!([of(&many(13), 64, 3, 5), of(&many(13), 64, 3, 4)], [16, 10]);
     assert_eq!(refusal(entries::plan(&many(12), 64, 3, 4, &mut [0; PLAN_BYTES - 1])), 11);

@@ -126,6 +126,20 @@ const FAULTS: &[(usize, &str, u8)] = &[
     (7, "Module 0 Test 01 ScanUse 1", 4),
     (7, "Module 0 Test 1 ScanUse 2", 3),
     (7, "Module 0 Test 1 ScanUse 1 TamUse 00", 3),
+    (7, "Module 0 Test 1 ScanUse 1 TamUse 2 Patterns 43", 3),
+    (7, "Module 0 Test 1 ScanUse 1 TamUse 1 Patterns 43 Power 128", 17),
+    (7, "Module 0 Test 1 ScanUse 0 TamUse 1 Patterns 43", 17),
+    (7, "Module 0 Test 1 ScanUse 1 TamUse 1", 17),
+    (7, "Module 0 Test 1 ScanUse 1 TamUse 1 Pattern 43", 17),
+    (7, "Module 0 Test 1 ScanUse 1 TamUse 1 Patterns 0", 17),
+    (7, "Module 0 Test 1 ScanUse 1 TamUse 1 Patterns 43 Watts", 17),
+    (7, "Module 0 Test 1 ScanUse 1 TamUse 1x", 3),
+    (7, "Module 0 Test 1 ScanUse 1 TamUse", 3),
+    (7, "Module 0 Test 2 ScanUse 1 TamUse 1", 5),
+    (7, "Module 1 Test 1 ScanUse 1 TamUse 1", 5),
+    (7, "Module 0 Test 1 ScanUse 2 TamUse 1", 3),
+    (8, "Module 0 Test 2 ScanUse 0 TamUse 1 Patterns 32 Power -1", 17),
+    (12, "Module 1 Test 1 ScanUse 1 TamUse 1", 3),
     (7, "Module 0 Test 1 ScanUse 1 TamUse 0 Patterns 0", 4),
     (7, "Module 0 Test 1 ScanUse 1 TamUse 0 Patterns 16777216", 4),
     (7, "Module 0 Test 1 ScanUse 1 TamUse 0 Patterns 4294967297", 4),
@@ -163,6 +177,19 @@ fn figures_of_an_option_that_is_0() {
     assert_eq!(refused(&no_xy), (3, 5));
     let no_power = full().replace("Power 1 XY", "Power 0 XY");
     assert_eq!(refused(&no_power), (3, 7));
+}
+
+/// Module 0 may have tests of its own, and each other module one with TamUse 1.
+#[test]
+fn module_0_alone_has_no_access_mechanism() {
+    let both = full().replace("TamUse 0", "TamUse 1");
+    assert_eq!(refused(&both), (17, 7));
+    assert_eq!(refused(&both.replace('\n', "\r\n\n")), (17, 13));
+    assert_eq!(refused(both.split_inclusive('\n').take(7).collect::<String>().as_str()), (17, 7));
+    // A byte that is not allowed comes first, wherever it stands; a fault further up does as well.
+    assert_eq!(refused(&format!("{both}\x07")), (2, 13));
+    assert_eq!(refused(&both.replace("TotalTests 2", "TotalTests 9")), (4, 6));
+    assert_eq!(soc(&full()).modules.iter().map(|module| module.planned()).collect::<Vec<_>>()[..2], [false, true]);
 }
 
 #[test]

@@ -2,7 +2,7 @@
 
 use super::plans::{any_plan_numbers, planned_shape};
 use super::records::any_capture;
-use super::texts::{damaged_text, long_text};
+use super::texts::{damaged_text, long_text, text_with_module_0_planned};
 use crate::case::{Case, Entry};
 use crate::damage_text::{any_word, damage_bytes, random_text};
 use crate::make_soc::{field_lines, make_soc, styled, Shape};
@@ -18,7 +18,7 @@ pub fn list(first: &[u8], text: &[u8]) -> Case {
 }
 
 pub fn listing_good(random: &mut Random) -> Case {
-    let shape = Shape { modules: 6, planned: random.within(1, 6), large: false };
+    let shape = Shape { modules: 7, planned: random.within(1, 6), large: false };
     let soc = make_soc(shape, random);
     let third = if random.chance(50) { format!(" {}", random.within(1, 4)) } else { String::new() };
     let line = format!("Plan {} {}{third}\n", random.within(1, 12), random.within(1, 3));
@@ -66,6 +66,7 @@ pub fn listing_faults(random: &mut Random) -> Case {
         0..=11 => damaged_text(random),
         12 => long_text(random),
         13 => random_text(random),
+        14 => text_with_module_0_planned(random),
         _ => planned_text(random),
     };
     list(line.as_bytes(), &text)

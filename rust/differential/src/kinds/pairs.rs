@@ -6,8 +6,8 @@ use super::plans::any_plan_numbers;
 use super::records::{any_capture, any_width};
 use crate::at_limits::limit_in_lines;
 use crate::case::{Case, Entry};
-use crate::damage_text::{damage_bytes, damage_lines};
-use crate::make_soc::{any_shape, field_lines, make_soc, styled, Shape};
+use crate::damage_text::{damage_bytes, damage_lines, damage_test_of_module_0};
+use crate::make_soc::{any_shape, field_lines, make_soc, plan_module_0, styled, Shape};
 use crate::random::Random;
 
 type Lines = Vec<Vec<String>>;
@@ -29,7 +29,8 @@ fn overlay_lines(soc: &Soc, random: &mut Random) -> Lines {
 
 /// A record with the same name, options and levels, and other modules.
 fn changed(soc: &Soc, random: &mut Random) -> Soc {
-    let shape = Shape { modules: soc.module_count, planned: random.within(0, soc.module_count.min(12)), large: random.chance(5) };
+    let planned = random.within(0, (soc.module_count - 1).min(12));
+    let shape = Shape { modules: soc.module_count, planned, large: random.chance(5) };
     let mut other = Soc { power: soc.power, xy: soc.xy, name: soc.name, name_length: soc.name_length, ..make_soc(shape, random) };
     for (module, base) in other.modules.iter_mut().zip(&soc.modules) {
         module.level = base.level;
@@ -91,6 +92,23 @@ pub fn pair_damaged(random: &mut Random) -> Case {
 pub fn pair_limits(random: &mut Random) -> Case {
     let (soc, base, mut overlay) = fitting(random);
     limit_in_lines(&mut overlay, random);
+    let (base, overlay) = (styled(&base, random), styled(&overlay, random));
+    case(&soc, &base, &overlay, random)
+}
+
+/// An overlay, or now and then a base, in which a test of module 0 has TamUse 1; the name may differ as well.
+pub fn pair_module_0(random: &mut Random) -> Case {
+    let mut soc = make_soc(any_shape(random), random);
+    let mut other = changed(&soc, random);
+    plan_module_0(&mut other, random);
+    if random.chance(10) {
+        plan_module_0(&mut soc, random);
+    }
+    if random.chance(20) {
+        other.name[0] = b'n';
+    }
+    let (base, mut overlay) = (field_lines(&soc, random), overlay_lines(&other, random));
+    damage_test_of_module_0(&mut overlay, random);
     let (base, overlay) = (styled(&base, random), styled(&overlay, random));
     case(&soc, &base, &overlay, random)
 }

@@ -18,7 +18,7 @@ pub fn planned_shape(random: &mut Random) -> Shape {
         2 => random.within(9, 12),
         _ => random.within(1, 6),
     };
-    Shape { modules: (planned + random.within(0, 3)).max(1), planned, large: random.chance(3) }
+    Shape { modules: planned + random.within(1, 4), planned, large: random.chance(3) }
 }
 
 /// W, B and c: few wires, so that no case takes long; the refusals of each now and then.
@@ -38,7 +38,7 @@ pub fn plan_small(random: &mut Random) -> Case {
 }
 
 pub fn plan_large(random: &mut Random) -> Case {
-    let shape = Shape { modules: random.within(12, 14), planned: limits::PLANNED as u32, large: false };
+    let shape = Shape { modules: random.within(13, 15), planned: limits::PLANNED as u32, large: false };
     Case::new(Entry::Plan, [limits::WIRES, limits::BUSES as u32, random.within(1, limits::CAPTURE)], soc_bytes(&make_soc(shape, random)))
 }
 

@@ -7,7 +7,7 @@ use tallowwing_library::places::{module, soc};
 use crate::at_limits::limit_in_record;
 use crate::case::{Case, Entry};
 use crate::damage_record::damage_soc;
-use crate::make_soc::{any_shape, make_soc};
+use crate::make_soc::{any_shape, make_soc, plan_module_0};
 use crate::random::Random;
 
 pub fn any_record(random: &mut Random) -> Vec<u8> {
@@ -22,6 +22,13 @@ pub fn soc_damaged(random: &mut Random) -> Case {
     let mut record = any_record(random);
     damage_soc(&mut record, random);
     handed_to_any(record, random)
+}
+
+/// A record that is good but for a test of module 0 with TamUse 1.
+pub fn soc_module_0(random: &mut Random) -> Case {
+    let mut soc = make_soc(any_shape(random), random);
+    plan_module_0(&mut soc, random);
+    handed_to_any(soc_bytes(&soc), random)
 }
 
 pub fn soc_limits(random: &mut Random) -> Case {

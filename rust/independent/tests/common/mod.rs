@@ -5,6 +5,8 @@ use independent::soc::Soc;
 use independent::soc_text;
 
 pub const CORE_A: &str = "Inputs 8 Outputs 11 Bidirs 0 ScanChains 9 : 12 12 8 8 8 6 6 6 6";
+/// A module 0 that holds nothing.
+pub const MODULE_0: &str = "Module 0 Level 0 Inputs 0 Outputs 0 Bidirs 0 ScanChains 0 :\nModule 0 TotalTests 0\n";
 pub const D695: &str = include_str!("../../../../examples/d695.soc");
 pub const T1_LISTING: &str = "soc t1 wires 4 limit 2 time 65\nbus 1 width 1 busy 65\nbus 2 width 3 busy 9\n\
                               module 1 bus 1 wires 1 cycles 65 start 0\nmodule 2 bus 2 wires 3 cycles 9 start 0\n";

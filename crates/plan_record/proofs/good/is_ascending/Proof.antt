@@ -16,7 +16,7 @@ use Rattle.plan_record.proofs.good.is_ascending.Statement.{statement}
 use Rattle.plan_record.proofs.good.is_ascending.Tie as tie
 
 abbrev Inv-loop : tie.InvT-loop
-Inv-loop p n low₀ i₀ low i = (i ≤ n) × (ascendingFrom 0 (numbersOf (take n (p .modules))) ≡ ascendingFrom low (numbersOf (drop i (take n (p .modules)))))
+Inv-loop p n low₀ i₀ low i = (i ≤ n) × (ascendingFrom 1 (numbersOf (take n (p .modules))) ≡ ascendingFrom low (numbersOf (drop i (take n (p .modules)))))
 
 abbrev μ-loop : tie.MeasureT-loop
 μ-loop p n low₀ i₀ low i = n - i
@@ -29,7 +29,7 @@ turn : (c : tie.In-loop Inv-loop μ-loop) →
     let l = c .before in
     let p = l .before .args .t1 in
     let x = getD (p .modules) (l .loop .i) noPlaced .number in
-    ascendingFrom 0 (numbersOf (modulesOf p)) ≡ (leb (l .loop .low) x && (leb x 39 && ascendingFrom (x + 1) (numbersOf (drop (l .loop .i + 1) (modulesOf p)))))
+    ascendingFrom 1 (numbersOf (modulesOf p)) ≡ (leb (l .loop .low) x && (leb x 39 && ascendingFrom (x + 1) (numbersOf (drop (l .loop .i + 1) (modulesOf p)))))
 turn c =
     let l = c .before in
     let p = l .before .args .t1 in

@@ -42,7 +42,7 @@ bused c = sym (c .before .has-good-buses .ensures) ∙ not-false _ (c .if2 .left
 left-buses : (c : tie.Else2) →
     let p = c .before .before .before .before .args .p in
     let ms = modulesOf p in
-    goodPlan p ≡ (ascendingFrom 0 (numbersOf ms) && (allOf (goodPlaced p) ms && (goodTimes p && (goodStarts ms && spareRest p))))
+    goodPlan p ≡ (ascendingFrom 1 (numbersOf ms) && (allOf (goodPlaced p) ms && (goodTimes p && (goodStarts ms && spareRest p))))
 left-buses c =
     let e = c .before .before in
     plan-order (e .before .before .args .p) ∙ and-goes _ _ (counted e) ∙ and-goes _ _ (bused c)

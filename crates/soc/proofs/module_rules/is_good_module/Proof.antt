@@ -49,7 +49,7 @@ is-good-position-requires : tie.Need-is-good-position-requires
 is-good-position-requires c κs = search needs
 
 -- the first four tests passed
-passed : (c : tie.Else4) → let a = c .before .before .before .before .before .before .before .before .args in goodModule (a .power) (a .xy) (a .m) (a .last) (a .d) ≡ (goodPosition (a .xy) (a .d .x) (a .d .y) && goodTests (a .power) (a .d))
+passed : (c : tie.Else4) → let a = c .before .before .before .before .before .before .before .before .args in goodModule (a .power) (a .xy) (a .m) (a .last) (a .d) ≡ (goodPosition (a .xy) (a .d .x) (a .d .y) && goodTests (a .m) (a .power) (a .d))
 unfolding goodModule
 passed c =
     let f = c .before .before in

@@ -15,12 +15,12 @@ use Rattle.soc.proofs.test_rules.are_good_tests.Statement.{statement}
 use Rattle.soc.proofs.test_rules.are_good_tests.Tie as tie
 
 abbrev Inv-loop : tie.InvT-loop
-Inv-loop power n tests i₀ i = (i ≤ n) × (allOf (goodTest power) (take n tests) ≡ allOf (goodTest power) (drop i (take n tests)))
+Inv-loop m power n tests i₀ i = (i ≤ n) × (allOf (goodTest m power) (take n tests) ≡ allOf (goodTest m power) (drop i (take n tests)))
 
 abbrev μ-loop : tie.MeasureT-loop
-μ-loop power n tests i₀ i = n - i
+μ-loop m power n tests i₀ i = n - i
 
-len : (c : tie.Start Inv-loop μ-loop) → length (c .args .t2) ≡ 8
+len : (c : tie.Start Inv-loop μ-loop) → length (c .args .t3) ≡ 8
 len c = search needs
 
 loop-holds : tie.Need-loop-holds Inv-loop μ-loop
@@ -39,8 +39,9 @@ returns : tie.Need-returns Inv-loop μ-loop
 returns c =
     let l = c .before .before .before .before in
     let s = l .before in
+    let g = goodTest (s .args .m) (s .args .power) in
     sym (l .loop .inv .1
-    ∙ all-front-fails (goodTest (s .args .power)) (s .args .n) (s .args .t2) (l .loop .i) noTest (omega arith) (omega (arith, len s))
+    ∙ all-front-fails g (s .args .n) (s .args .t3) (l .loop .i) noTest (omega arith) (omega (arith, len s))
     (sym (c .before .is-good-test .ensures) ∙ not-true _ (c .if1 .taken)))
 
 add-i : tie.Need-add-i Inv-loop μ-loop
@@ -52,17 +53,19 @@ loop-less c = omega arith
 loop-again : tie.Need-loop-again Inv-loop μ-loop
 loop-again c =
     let l = c .before .before .before .before in
-    let s = l .before in (
+    let s = l .before in
+    let g = goodTest (s .args .m) (s .args .power) in (
       omega arith,
       l .loop .inv .1
-          ∙ all-front-step (goodTest (s .args .power)) (s .args .n) (s .args .t2) (l .loop .i) noTest (omega arith) (omega (arith, len s))
+          ∙ all-front-step g (s .args .n) (s .args .t3) (l .loop .i) noTest (omega arith) (omega (arith, len s))
           (sym (c .before .is-good-test .ensures) ∙ not-false _ (c .if1 .left)),
     )
 
 returns-2 : tie.Need-returns-2 Inv-loop μ-loop
 returns-2 c =
     let s = c .before .before in
-    sym (c .before .loop .inv .1 ∙ all-front-end (goodTest (s .args .power)) (s .args .n) (s .args .t2) (c .before .loop .i) (inl (c .loop-test .left)))
+    let g = goodTest (s .args .m) (s .args .power) in
+    sym (c .before .loop .inv .1 ∙ all-front-end g (s .args .n) (s .args .t3) (c .before .loop .i) (inl (c .loop-test .left)))
 
 pub are-good-tests-spec : {M : Type 1} → statement M
 are-good-tests-spec =
