@@ -54,11 +54,12 @@ extern "C" {
 #define TALLOWWING_SOC_BYTES 16688
 
 /*
- * A layout, 1,280 bytes, each number 4 bytes, 64 places each: 0 flip-flops of wrapper chain i + 1; 256 its input cells; 512 its output
+ * A layout, 1,304 bytes, each number 4 bytes, 64 places each: 0 flip-flops of wrapper chain i + 1; 256 its input cells; 512 its output
  * cells; 768 its bidirectional cells, which count in both its scan-in and its scan-out, and in no other row; 1,024 the wrapper chain, from
- * 1, of internal chain j + 1. Places past the width or the chains, and of chains not used, are 0.
+ * 1, of internal chain j + 1. Places past the width or the chains, and of chains not used, are 0. Then three numbers of 8 bytes: 1,280 si,
+ * the longest scan-in of these wrapper chains; 1,288 so, their longest scan-out; 1,296 the cycles that the test takes with this layout.
  */
-#define TALLOWWING_LAYOUT_BYTES 1280
+#define TALLOWWING_LAYOUT_BYTES 1304
 
 /*
  * A plan record, 396 bytes. Spare places are 0.
@@ -95,8 +96,6 @@ uint64_t tallowwing_write_pair(
     const uint8_t *base, size_t base_len, const uint8_t *overlay, size_t overlay_len, uint8_t *text, size_t text_len);
 uint64_t tallowwing_layout_pair(const uint8_t *base, size_t base_len, const uint8_t *overlay, size_t overlay_len, uint32_t module,
                                 uint32_t test, uint32_t width, uint32_t capture, uint8_t *layout, size_t layout_len);
-uint64_t tallowwing_test_time_pair(const uint8_t *base, size_t base_len, const uint8_t *overlay, size_t overlay_len, uint32_t module,
-                                   uint32_t test, uint32_t width, uint32_t capture);
 uint64_t tallowwing_module_time_pair(const uint8_t *base, size_t base_len, const uint8_t *overlay, size_t overlay_len, uint32_t module,
                                      uint32_t width, uint32_t capture);
 uint64_t tallowwing_module_wires_pair(const uint8_t *base, size_t base_len, const uint8_t *overlay, size_t overlay_len, uint32_t module,
@@ -111,14 +110,11 @@ uint64_t tallowwing_write_soc(const uint8_t *record, size_t record_len, uint8_t 
 /* Below, capture is the number of clock cycles between load and unload, from 1 to 4: a test of p patterns takes
  * (capture + max(si, so)) * p + min(si, so) cycles, where si and so are the longest scan-in and scan-out. */
 
-/* Lays out the wrapper of a module for one of its tests at a width. The layout is the same at each capture. Refusals 14, 7, 16, 13, 11.
- * The figure is 1,280, the bytes written. */
+/* Lays out the wrapper of a module for one of its tests at a width, with its si, so and cycles. All but the cycles is the same at each
+ * capture. Refusals 14, 7, 16, 13, 11. The figure is 1,304, the bytes written. The cycles of the layouts of a module's tests with TamUse 1,
+ * at its wires (`tallowwing_module_wires`, or a plan record's), come to its time. */
 uint64_t tallowwing_layout(const uint8_t *record, size_t record_len, uint32_t module, uint32_t test, uint32_t width, uint32_t capture,
                            uint8_t *layout, size_t layout_len);
-
-/* The cycles of one test of a module at a width. Refusals 14, 7, 16, 13. */
-uint64_t tallowwing_test_time(
-    const uint8_t *record, size_t record_len, uint32_t module, uint32_t test, uint32_t width, uint32_t capture);
 
 /* A module's time, in cycles, on a bus of a width. Refusals 14, 7, 16, 13. */
 uint64_t tallowwing_module_time(const uint8_t *record, size_t record_len, uint32_t module, uint32_t width, uint32_t capture);

@@ -110,7 +110,6 @@ int main(void)
     expect("layout of a pair", tallowwing_layout_pair(base, length, late, over, 1, 1, 2, 1, layout, sizeof layout), 0, sizeof layout);
     expect_bytes("the pair's flip-flops", layout, "\24\0\0\0\0", 5);
     expect("layout of a pair, no test", tallowwing_layout_pair(base, length, late, over, 1, 2, 2, 1, layout, sizeof layout), 13, 0);
-    expect("test time of a pair", tallowwing_test_time_pair(base, length, late, over, 1, 1, 1, 1), 0, 125);
     expect("module time of a pair", tallowwing_module_time_pair(base, length, late, over, 1, 4, 1), 0, 125);
     expect("module wires of a pair", tallowwing_module_wires_pair(base, length, late, over, 1, 4, 1), 0, 1);
     expect("module wires of a pair, base", tallowwing_module_wires_pair(base, 20, late, over, 1, 4, 1), 3, 4 * 2 + 1);
@@ -123,14 +122,16 @@ int main(void)
     expect("layout", tallowwing_layout(soc, sizeof soc, 2, 1, 3, 1, layout, sizeof layout), 0, TALLOWWING_LAYOUT_BYTES);
     expect_bytes("input cells", layout + 256, "\1\0\0\0\1\0\0\0\1\0\0\0\0", 13);
     expect_bytes("bidirectional cells", layout + 768, "\0\0\0\0", 4);
+    expect_bytes("si, so and cycles", layout + 1280, "\1\0\0\0\0\0\0\0\1\0\0\0\0\0\0\0\11\0\0\0\0\0\0\0", 24);
     expect("layout of a chain", tallowwing_layout(soc, sizeof soc, 1, 1, 3, 1, layout, sizeof layout), 0, TALLOWWING_LAYOUT_BYTES);
     expect_bytes("wrapper chains", layout + 1024, "\1\0\0\0\0", 5);
     expect("layout, no test", tallowwing_layout(soc, sizeof soc, 2, 2, 3, 1, layout, sizeof layout), 13, 0);
-    expect("test time", tallowwing_test_time(soc, sizeof soc, 2, 1, 1, 1), 0, 18);
+    expect("layout, no room", tallowwing_layout(soc, sizeof soc, 2, 1, 3, 1, layout, sizeof layout - 1), 11, 0);
     expect("module time", tallowwing_module_time(soc, sizeof soc, 2, 4, 1), 0, 9);
     expect("module wires", tallowwing_module_wires(soc, sizeof soc, 2, 4, 1), 0, 3);
     expect("width", tallowwing_module_wires(soc, sizeof soc, 2, 65, 1), 7, 0);
-    expect("test time, two capture cycles", tallowwing_test_time(soc, sizeof soc, 2, 1, 1, 2), 0, 22);
+    expect("layout, two capture cycles", tallowwing_layout(soc, sizeof soc, 2, 1, 1, 2, layout, sizeof layout), 0, TALLOWWING_LAYOUT_BYTES);
+    expect_bytes("si, so and cycles", layout + 1280, "\3\0\0\0\0\0\0\0\2\0\0\0\0\0\0\0\26\0\0\0\0\0\0\0", 24);
     expect("module time, four capture cycles", tallowwing_module_time(soc, sizeof soc, 2, 4, 4), 0, 21);
     expect("five capture cycles", tallowwing_module_wires(soc, sizeof soc, 9, 4, 5), 16, 0);
     expect("layout, no capture cycle", tallowwing_layout(soc, sizeof soc, 2, 1, 3, 0, layout, sizeof layout), 16, 0);
@@ -162,9 +163,9 @@ int main(void)
     expect_bytes("listing, four capture cycles", listed + 28, "80\n", 3);
     soc[48 + 284] = soc[48 + 288 + 8] = 1;
     memset(soc + 48 + 288 + 12, 255, 4);
-    expect("test time of module 0", tallowwing_test_time(soc, sizeof soc, 0, 1, 4, 1), 0, 1);
+    expect("layout of module 0", tallowwing_layout(soc, sizeof soc, 0, 1, 4, 1, layout, sizeof layout), 0, sizeof layout);
     soc[48 + 288 + 4] = 1;
-    expect("module 0 on the TAM", tallowwing_test_time(soc, sizeof soc, 0, 1, 4, 1), 14, 0);
+    expect("module 0 on the TAM", tallowwing_layout(soc, sizeof soc, 0, 1, 4, 1, layout, sizeof layout), 14, 0);
     soc[48 + 288 + 4] = 0;
     soc[36] = 2;
     expect("bad flag", tallowwing_module_time(soc, sizeof soc, 2, 4, 1), 14, 0);

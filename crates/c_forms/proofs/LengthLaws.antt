@@ -1,5 +1,5 @@
 -- Laws of how many bytes each part of a record has, where its arrays have the lengths that their types say. Assumes nothing.
-use Prim.Native.Nat.{_*_}
+use Prim.Native.Nat.{ℕ, _*_}
 use mathlib.Core.Path.{_≡_}
 use lib.ListN.{length, length-append}
 use Rattle.buffer.specs.Rows.{each}
@@ -20,12 +20,12 @@ use Rattle.plan_record.specs.Whole.{Whole}
 use Rattle.plan_record.specs.declared.record.Bus.{Bus}
 use Rattle.plan_record.specs.declared.record.PlacedModule.{PlacedModule}
 use Rattle.plan_record.specs.declared.record.BusPlan.{BusPlan}
-use Rattle.c_forms.specs.Words.{wordLength}
+use Rattle.c_forms.specs.Words.{wordLength, longLength}
 use Rattle.c_forms.specs.SocForm.{testLength, moduleLength, modulesFrom, socLength, testWords, testBytes}
 use Rattle.c_forms.specs.SocForm.{lengthBytes, moduleBytes, headBytes, socBytes}
 use Rattle.c_forms.specs.PlanForm.{busStride, placedStride, busesFrom, planLength, busBytes}
 use Rattle.c_forms.specs.PlanForm.{placedBytes, countBytes, planBytes}
-use Rattle.c_forms.specs.LayoutForm.{layoutLength, layoutBytes}
+use Rattle.c_forms.specs.LayoutForm.{layoutLength, timeBytes, layoutBytes}
 use Rattle.c_forms.proofs.WordLaws.{words-length}
 
 pub test-length : (t : Test) → length (testBytes t) ≡ testLength
@@ -80,6 +80,10 @@ plan-length p w =
     (p .modules) modulePlaces noPlaced (w .modules) (λ i h. placed-length _) in
     simp (length-append, count-length, buses-length p w, m)
 
+time-length : (si so cycles : ℕ) → length (timeBytes si so cycles) ≡ longLength * 3
+unfolding timeBytes
+time-length si so cycles = simp (length-append, little-length)
+
 -- arrays of a layout have the lengths that their types say
 pub layout-length : (l : WrapperLayout) → length (l .«flip_flops») ≡ widthMax → length (l .«input_cells») ≡ widthMax
     → length (l .«output_cells») ≡ widthMax → length (l .«bidir_cells») ≡ widthMax → length (l .«chain_of») ≡ chainsMax
@@ -88,4 +92,4 @@ unfolding layoutBytes
 layout-length l f i o b c =
     let g : length (each lengthBytes (l .«flip_flops»)) ≡ wordLength * widthMax = each-length lengthBytes wordLength
     (l .«flip_flops») widthMax (flipFlops 0) f (λ j h. chain-length _) in
-    simp (length-append, g, words-length, i, o, b, c)
+    simp (length-append, g, words-length, i, o, b, c, time-length)

@@ -1,5 +1,6 @@
 // A layout put into a lent buffer as its bytes. Without the room nothing is put, and the answer is 0.
 use super::soc_form::put_lengths;
+use super::word::LONG_BYTES;
 use super::word::WORD_BYTES;
 use super::word::put_words;
 use soc::CHAINS_MAX;
@@ -8,10 +9,10 @@ use wrapper::WrapperLayout;
 ghost use Prim.Native.Nat.{_+_, _*_, _≤_};
 ghost use lib.ListN.{length};
 ghost use Rattle.soc.specs.Limits.{chainsMax};
-ghost use Rattle.c_forms.specs.Words.{wordLength, words, PutOf, PutFront};
-ghost use Rattle.c_forms.specs.LayoutForm.{layoutLength, layoutBytes};
+ghost use Rattle.c_forms.specs.Words.{wordLength, longLength, words, PutOf, PutFront};
+ghost use Rattle.c_forms.specs.LayoutForm.{layoutLength, timeBytes, layoutBytes};
 
-pub const LAYOUT_BYTES: usize = WORD_BYTES * (WIDTH_MAX as usize * 4 + CHAINS_MAX);
+pub const LAYOUT_BYTES: usize = WORD_BYTES * (WIDTH_MAX as usize * 4 + CHAINS_MAX) + LONG_BYTES * 3;
 
 // The wrapper chain of each internal chain.
 fn put_chains(buf: &mut [u8], at: usize, list: [usize; CHAINS_MAX]) -> usize
@@ -25,6 +26,16 @@ fn put_chains(buf: &mut [u8], at: usize, list: [usize; CHAINS_MAX]) -> usize
         i += 1;
     }
     e
+}
+
+// The longest scan-in and scan-out, and the test's cycles.
+fn put_time(buf: &mut [u8], at: usize, si: u64, so: u64, cycles: u64) -> usize
+    requires { ⌜ at + longLength * 3 ≤ length (now buf) ⌝ }
+    ensures { λ r. ⌜ PutOf (longLength * 3) (timeBytes si so cycles) at (now (buf .entry)) (now (buf .exit)) r ⌝ }
+{
+    let a = buffer::put_u64(&mut *buf, at, si);
+    let b = buffer::put_u64(&mut *buf, a, so);
+    buffer::put_u64(&mut *buf, b, cycles)
 }
 
 pub fn layout_bytes(l: WrapperLayout, buf: &mut [u8]) -> usize
@@ -42,5 +53,6 @@ pub fn layout_bytes(l: WrapperLayout, buf: &mut [u8]) -> usize
     let b = put_words(&mut *buf, a, &input_cells);
     let c = put_words(&mut *buf, b, &output_cells);
     let d = put_words(&mut *buf, c, &bidir_cells);
-    put_chains(&mut *buf, d, chain_of)
+    let e = put_chains(&mut *buf, d, chain_of);
+    put_time(&mut *buf, e, l.si, l.so, l.cycles.0)
 }

@@ -16,8 +16,8 @@ use Rattle.text_reader.specs.Reading.{readSoc}
 use Rattle.text_writer.specs.WrittenSoc as soctext
 use Rattle.text_writer.proofs.SocWriterLaws as socwriter
 use Rattle.text.proofs.RefusedLine.{refused-line-most}
-use Rattle.wrapper.specs.WrapperAnswers.{layoutAnswer, testTimeAnswer, moduleTimeAnswer}
-use Rattle.wrapper.proofs.WrapperAnswerLaws.{layout-told, test-time-told, module-time-told}
+use Rattle.wrapper.specs.WrapperAnswers.{layoutAnswer, moduleTimeAnswer}
+use Rattle.wrapper.proofs.WrapperAnswerLaws.{layout-told, module-time-told}
 use Rattle.plan.specs.PlanAnswers.{planAnswer}
 use Rattle.plan.proofs.PlannerLaws.{answer-told}
 use Rattle.plan_file.specs.Files as planfile
@@ -27,7 +27,7 @@ use Rattle.listing.proofs.ListingAnswerLaws.{listing-fits, show-fits}
 use Rattle.c_forms.specs.SocForm.{socIn, socBytes}
 use Rattle.c_forms.specs.PlanForm.{planIn, planBytes}
 use Rattle.c_forms.specs.LayoutForm.{layoutBytes}
-use Rattle.c_interface.specs.Codes.{aboveMax, above, code, given, givenUnless, readCode, writeCode, layoutCode, testTimeCode}
+use Rattle.c_interface.specs.Codes.{aboveMax, above, code, given, givenUnless, readCode, writeCode, layoutCode}
 use Rattle.c_interface.specs.Codes.{moduleTimeCode, moduleWiresCode, planCode, writePlanCode, readPlanCode, listingCode, showCode}
 use Rattle.c_interface.specs.Apart.{Says, roomed}
 
@@ -123,22 +123,15 @@ module _ (buf : List ℕ) (short : length buf < aboveMax) where
       (told-small (planAnswer (socIn b) W B c .refusal) (omega (arith, l .0)) (l .1))
 
 -- times and wires
-module _ (b : List ℕ) (m : ℕ) where
-  pub test-time-says : (i w c : ℕ) → let a = testTimeAnswer (socIn b) m i w c in Says (testTimeCode b m i w c) (a .refusal) (a .cycles .0)
-  test-time-says i w c =
-      let l = test-time-told (socIn b) m i w c in
-      let a = testTimeAnswer (socIn b) m i w c in
+module _ (b : List ℕ) (m w c : ℕ) where
+  pub module-time-says : let a = moduleTimeAnswer (socIn b) m w c in Says (moduleTimeCode b m w c) (a .refusal) (a .cycles .0)
+  module-time-says =
+      let l = module-time-told (socIn b) m w c in
+      let a = moduleTimeAnswer (socIn b) m w c in
       code-says (a .refusal) (a .cycles .0) (told-small (a .refusal) (omega (arith, l .0)) (l .1)) (omega (arith, l .2))
 
-  module _ (w c : ℕ) where
-    pub module-time-says : let a = moduleTimeAnswer (socIn b) m w c in Says (moduleTimeCode b m w c) (a .refusal) (a .cycles .0)
-    module-time-says =
-        let l = module-time-told (socIn b) m w c in
-        let a = moduleTimeAnswer (socIn b) m w c in
-        code-says (a .refusal) (a .cycles .0) (told-small (a .refusal) (omega (arith, l .0)) (l .1)) (omega (arith, l .2))
-
-    pub module-wires-says : let a = moduleTimeAnswer (socIn b) m w c in Says (moduleWiresCode b m w c) (a .refusal) (a .wires .0)
-    module-wires-says =
-        let l = module-time-told (socIn b) m w c in
-        let a = moduleTimeAnswer (socIn b) m w c in
-        code-says (a .refusal) (a .wires .0) (told-small (a .refusal) (omega (arith, l .0)) (l .1)) (omega (arith, l .3))
+  pub module-wires-says : let a = moduleTimeAnswer (socIn b) m w c in Says (moduleWiresCode b m w c) (a .refusal) (a .wires .0)
+  module-wires-says =
+      let l = module-time-told (socIn b) m w c in
+      let a = moduleTimeAnswer (socIn b) m w c in
+      code-says (a .refusal) (a .wires .0) (told-small (a .refusal) (omega (arith, l .0)) (l .1)) (omega (arith, l .3))

@@ -17,15 +17,15 @@ use Rattle.pair.specs.declared.read.Meant.the-variants as meant
 use Rattle.late_changes.proofs.PairRefused.{pair-told}
 use Rattle.pair_entries.specs.LaidPair.{layoutPair}
 use Rattle.pair_entries.specs.PlannedPair.{planPair}
-use Rattle.pair_entries.specs.TimedPair.{testTimePair, moduleTimePair}
+use Rattle.pair_entries.specs.TimedPair.{moduleTimePair}
 use Rattle.pair_entries.specs.WrittenPair.{writePair}
-use Rattle.pair_entries.proofs.PairEntries.{told-number, write-pair-told, layout-pair-told, test-time-pair-told, module-time-pair-told}
+use Rattle.pair_entries.proofs.PairEntries.{told-number, write-pair-told, layout-pair-told, module-time-pair-told}
 use Rattle.pair_entries.proofs.PairEntries.{plan-pair-told}
 use Rattle.c_forms.specs.SocForm.{socBytes}
 use Rattle.c_forms.specs.PlanForm.{planBytes}
 use Rattle.c_forms.specs.LayoutForm.{layoutBytes}
 use Rattle.c_interface.specs.Codes.{aboveMax, above, given, meantNumber, lineMax, pairRefused, pairFigure, pairGiven}
-use Rattle.c_interface.specs.Codes.{readPairCode, writePairCode, layoutPairCode, testTimePairCode, moduleTimePairCode}
+use Rattle.c_interface.specs.Codes.{readPairCode, writePairCode, layoutPairCode, moduleTimePairCode}
 use Rattle.c_interface.specs.Codes.{moduleWiresPairCode, planPairCode}
 use Rattle.c_interface.specs.Apart.{roomed, roomedMeant, PairSays}
 use Rattle.c_interface.proofs.ApartLaws.{above-number, above-figure}
@@ -126,14 +126,6 @@ module _ (base overlay : List ℕ) where
         let a = planPair base overlay W B c in
         let l = plan-pair-told base overlay W B c in
         given-says (a .answer .refusal) (a .meant) (l .0) (l .1) buf short (planBytes (a .answer .plan))
-
-  pub test-time-pair-says : (m i w c : ℕ) →
-      let a = testTimePair base overlay m i w c in
-      PairSays (testTimePairCode base overlay m i w c) (a .answer .refusal) (a .meant) (a .answer .cycles .0)
-  test-time-pair-says m i w c =
-      let a = testTimePair base overlay m i w c in
-      let l = test-time-pair-told base overlay m i w c in
-      figure-says (a .answer .refusal) (a .meant) (l .0) (l .1) (a .answer .cycles .0) (omega (arith, l .2))
 
   module _ (m w c : ℕ) where
     pub module-time-pair-says :

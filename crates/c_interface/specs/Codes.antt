@@ -16,9 +16,9 @@ use Rattle.pair.specs.declared.read.Meant.the-variants as meant
 use Rattle.pair.specs.declared.shown.Shown.{Shown}
 use Rattle.pair_entries.specs.LaidPair.{layoutPair}
 use Rattle.pair_entries.specs.PlannedPair.{planPair}
-use Rattle.pair_entries.specs.TimedPair.{testTimePair, moduleTimePair}
+use Rattle.pair_entries.specs.TimedPair.{moduleTimePair}
 use Rattle.pair_entries.specs.WrittenPair.{writePair}
-use Rattle.wrapper.specs.WrapperAnswers.{layoutAnswer, testTimeAnswer, moduleTimeAnswer}
+use Rattle.wrapper.specs.WrapperAnswers.{layoutAnswer, moduleTimeAnswer}
 use Rattle.plan.specs.PlanAnswers.{planAnswer}
 use Rattle.plan_file.specs.Files as planfile
 use Rattle.listing.specs.Listing.{listingAnswer, listingLeaves, showAnswer, showLeaves}
@@ -70,9 +70,6 @@ layoutCode b m i w c buf = givenUnless (layoutAnswer (socIn b) m i w c .refusal)
 
 abbrev pub layoutHeld : List ℕ → ℕ → ℕ → ℕ → ℕ → List ℕ → List ℕ
 layoutHeld b m i w c buf = heldUnless (layoutAnswer (socIn b) m i w c .refusal) (layoutBytes (layoutAnswer (socIn b) m i w c)) buf
-
-abbrev pub testTimeCode : List ℕ → ℕ → ℕ → ℕ → ℕ → ℕ
-testTimeCode b m i w c = code (testTimeAnswer (socIn b) m i w c .refusal) (testTimeAnswer (socIn b) m i w c .cycles .0)
 
 abbrev pub moduleTimeCode : List ℕ → ℕ → ℕ → ℕ → ℕ
 moduleTimeCode b m w c = code (moduleTimeAnswer (socIn b) m w c .refusal) (moduleTimeAnswer (socIn b) m w c .cycles .0)
@@ -163,11 +160,6 @@ abbrev pub layoutPairHeld : List ℕ → List ℕ → ℕ → ℕ → ℕ → �
 layoutPairHeld base overlay m i w c buf =
     let a = layoutPair base overlay m i w c .answer in
     heldUnless (a .refusal) (layoutBytes a) buf
-
-abbrev pub testTimePairCode : List ℕ → List ℕ → ℕ → ℕ → ℕ → ℕ → ℕ
-testTimePairCode base overlay m i w c =
-    let a = testTimePair base overlay m i w c in
-    pairFigure (a .answer .refusal) (a .meant) (a .answer .cycles .0)
 
 abbrev pub moduleTimePairCode : List ℕ → List ℕ → ℕ → ℕ → ℕ → ℕ
 moduleTimePairCode base overlay m w c =

@@ -5,8 +5,8 @@ use units::CaptureCycles;
 use units::Refusal;
 use units::Wires;
 ghost use mathlib.Core.Path.{_≡_};
-ghost use Rattle.c_interface.specs.Codes.{above, code, bytesCode, readCode, readHeld, writeCode, writeHeld, layoutCode, layoutHeld, testTimeCode, moduleTimeCode, moduleWiresCode, planCode, planHeld, writePlanCode, writePlanHeld, readPlanCode, readPlanHeld, listingCode, listingHeld, showCode, showHeld, meantNumber, pairRefused, readPairCode, readPairHeld, partFigure, moduleLinesCode};
-ghost use Rattle.c_interface.specs.Codes.{pairFigure, writePairCode, layoutPairCode, layoutPairHeld, testTimePairCode};
+ghost use Rattle.c_interface.specs.Codes.{above, code, bytesCode, readCode, readHeld, writeCode, writeHeld, layoutCode, layoutHeld, moduleTimeCode, moduleWiresCode, planCode, planHeld, writePlanCode, writePlanHeld, readPlanCode, readPlanHeld, listingCode, listingHeld, showCode, showHeld, meantNumber, pairRefused, readPairCode, readPairHeld, partFigure, moduleLinesCode};
+ghost use Rattle.c_interface.specs.Codes.{pairFigure, writePairCode, layoutPairCode, layoutPairHeld};
 ghost use Rattle.c_interface.specs.Codes.{moduleTimePairCode, moduleWiresPairCode, planPairCode, planPairHeld};
 ghost use Rattle.pair_entries.specs.WrittenPair.{writePairLeaves};
 
@@ -73,21 +73,6 @@ pub extern "C" fn tallowwing_layout(
         return code_of(laid.refusal, 0);
     }
     code_of_bytes(c_forms::layout_bytes(laid, &mut *into))
-}
-
-#[no_mangle]
-pub extern "C" fn tallowwing_test_time(
-    soc: &[u8],
-    module: u32,
-    test: u32,
-    width: u32,
-    capture: u32,
-) -> u64
-    ensures { λ r. ⌜ r ≡ testTimeCode (now (soc .entry)) «module» test width capture ⌝ }
-{
-    let s = c_forms::soc_in(soc);
-    let time = wrapper::test_time(s, module, test, Wires(width), CaptureCycles(capture));
-    code_of(time.refusal, time.cycles.0)
 }
 
 #[no_mangle]
@@ -262,29 +247,6 @@ pub extern "C" fn tallowwing_layout_pair(
         return pair_refused(laid.answer.refusal, meant);
     }
     code_of_bytes(c_forms::layout_bytes(laid.answer, &mut *into))
-}
-
-#[no_mangle]
-pub extern "C" fn tallowwing_test_time_pair(
-    base: &[u8],
-    overlay: &[u8],
-    module: u32,
-    test: u32,
-    width: u32,
-    capture: u32,
-) -> u64
-    ensures { λ r. ⌜ r ≡ testTimePairCode (now (base .entry)) (now (overlay .entry)) «module» test width capture ⌝ }
-{
-    let time = pair_entries::test_time_pair(
-        base,
-        overlay,
-        module,
-        test,
-        Wires(width),
-        CaptureCycles(capture),
-    );
-    let meant = time.meant;
-    pair_code_of(time.answer.refusal, meant, time.answer.cycles.0)
 }
 
 #[no_mangle]

@@ -13,12 +13,10 @@ use Rattle.soc.specs.Planned.{plannedOf}
 use Rattle.soc.specs.Rules.{goodSoc}
 use Rattle.soc.specs.declared.record.Soc.{Soc}
 use Rattle.text_writer.specs.WrittenSoc.{writtenSoc, writeAnswer}
-use Rattle.wrapper.specs.Chains.{threaded}
 use Rattle.wrapper.specs.Laid.{testAt}
-use Rattle.wrapper.specs.Times.{testTime, moduleBest}
+use Rattle.wrapper.specs.Times.{moduleBest}
 use Rattle.wrapper.specs.WrapperAnswers.{widthMax, captureMax, cycles, moduleAt, askedModule, askedTest, layoutOf, noLayout, layoutAnswer}
-use Rattle.wrapper.specs.WrapperAnswers.{noTestTime, testTimeAnswer, noModuleTime, moduleTimeOf, moduleTimeAnswer}
-use Rattle.wrapper.specs.declared.asked.TestTime.{TestTime}
+use Rattle.wrapper.specs.WrapperAnswers.{noModuleTime, moduleTimeOf, moduleTimeAnswer}
 use Rattle.plan.specs.PlanAnswers.{limitMax, plannedMax, refusedPlan, recordOf, bestFor, planAnswer}
 use Rattle.plan.specs.declared.answer.PlanAnswer.{PlanAnswer}
 
@@ -41,22 +39,8 @@ module _ (s : Soc) (good : goodSoc s ≡ true) where
         rw good (go (leb 1 w && leb w widthMax) (leb 1 c && leb c captureMax) (ltb m (s .«module_count»)) (leb 1 i && leb i (moduleAt s m .«test_count»)))
       where
         go : (y x z t : Bool) →
-            let found = layoutOf (moduleAt s m) (threaded (moduleAt s m) (testAt (moduleAt s m) i .«scan_use») w) in
+            let found = layoutOf c (moduleAt s m) w (testAt (moduleAt s m) i) in
             Not14 (cond y (cond x (cond z (cond t found (noLayout 13)) (noLayout 13)) (noLayout 16)) (noLayout 7) .refusal .number)
-        go true true true true e = omega arith
-        go true true true false e = omega arith
-        go true true false t e = omega arith
-        go true false z t e = omega arith
-        go false x z t e = omega arith
-
-    pub test-time-not-14 : (i : ℕ) → testTimeAnswer s m i w c .refusal .number ≡ 14 → ⊥
-    unfolding testTimeAnswer askedModule askedTest
-    test-time-not-14 i =
-        rw good (go (leb 1 w && leb w widthMax) (leb 1 c && leb c captureMax) (ltb m (s .«module_count»)) (leb 1 i && leb i (moduleAt s m .«test_count»)))
-      where
-        go : (y x z t : Bool) →
-            let found : TestTime = record { refusal = accepted; cycles = cycles (testTime c (moduleAt s m) w (testAt (moduleAt s m) i)) } in
-            Not14 (cond y (cond x (cond z (cond t found (noTestTime 13)) (noTestTime 13)) (noTestTime 16)) (noTestTime 7) .refusal .number)
         go true true true true e = omega arith
         go true true true false e = omega arith
         go true true false t e = omega arith

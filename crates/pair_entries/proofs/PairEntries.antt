@@ -9,16 +9,16 @@ use lib.ListN.{length}
 use Rattle.soc.specs.Limits.{textMax}
 use Rattle.text_writer.specs.WrittenSoc.{writeLeaves}
 use Rattle.text_writer.proofs.SocWriterLaws.{write-fits}
-use Rattle.wrapper.specs.Maxima.{testTimeMax, moduleTimeMax}
+use Rattle.wrapper.specs.Maxima.{moduleTimeMax}
 use Rattle.wrapper.specs.WrapperAnswers.{widthMax}
-use Rattle.wrapper.proofs.WrapperAnswerLaws.{layout-told, test-time-told, module-time-told}
+use Rattle.wrapper.proofs.WrapperAnswerLaws.{layout-told, module-time-told}
 use Rattle.plan.proofs.PlannerLaws.{answer-told}
 use Rattle.pair.specs.Pair.{readPair}
 use Rattle.late_changes.proofs.PairOnly.{pair-good}
 use Rattle.late_changes.proofs.PairRefused.{PairNumber, pair-told}
 use Rattle.pair_entries.specs.LaidPair.{emptyLayout, refusedLayout, layoutOf, layoutPair}
 use Rattle.pair_entries.specs.PlannedPair.{refusedPlan, planOf, planPair}
-use Rattle.pair_entries.specs.TimedPair.{refusedTestTime, testTimeOf, testTimePair, refusedModuleTime, moduleTimeOf, moduleTimePair}
+use Rattle.pair_entries.specs.TimedPair.{refusedModuleTime, moduleTimeOf, moduleTimePair}
 use Rattle.pair_entries.specs.WrittenPair.{refusedWrite, writeOf, writePair, writePairLeaves}
 use Rattle.pair_entries.proofs.EntryLaws.{of-refused, of-accepted, of-either}
 use Rattle.pair_entries.proofs.GoodAnswers as good
@@ -36,11 +36,6 @@ module _ (base overlay : List ℕ) (h : readPair base overlay .refusal .number �
   pub layout-refused : (m i w c : ℕ) → let p = readPair base overlay in layoutPair base overlay m i w c ≡ refusedLayout (p .refusal) (p .meant)
   unfolding layoutPair
   layout-refused m i w c = of-refused (readPair base overlay) refusedLayout (layoutOf m i w c) h
-
-  pub test-time-refused : (m i w c : ℕ)
-      → let p = readPair base overlay in testTimePair base overlay m i w c ≡ refusedTestTime (p .refusal) (p .meant)
-  unfolding testTimePair
-  test-time-refused m i w c = of-refused (readPair base overlay) refusedTestTime (testTimeOf m i w c) h
 
   pub module-time-refused : (m w c : ℕ)
       → let p = readPair base overlay in moduleTimePair base overlay m w c ≡ refusedModuleTime (p .refusal) (p .meant)
@@ -64,10 +59,6 @@ module _ (base overlay : List ℕ) (h : readPair base overlay .refusal .number �
   pub layout-accepted : (m i w c : ℕ) → layoutPair base overlay m i w c ≡ layoutOf m i w c (readPair base overlay .soc)
   unfolding layoutPair
   layout-accepted m i w c = of-accepted (readPair base overlay) refusedLayout (layoutOf m i w c) h
-
-  pub test-time-accepted : (m i w c : ℕ) → testTimePair base overlay m i w c ≡ testTimeOf m i w c (readPair base overlay .soc)
-  unfolding testTimePair
-  test-time-accepted m i w c = of-accepted (readPair base overlay) refusedTestTime (testTimeOf m i w c) h
 
   pub module-time-accepted : (m w c : ℕ) → moduleTimePair base overlay m w c ≡ moduleTimeOf m w c (readPair base overlay .soc)
   unfolding moduleTimePair
@@ -101,13 +92,6 @@ module _ (base overlay : List ℕ) where
       of-either (readPair base overlay) refusedLayout (layoutOf m i w c) (λ a. a .answer .refusal .number ≡ 14 → ⊥)
       (λ h. refused-not-14)
       (λ h. good.layout-not-14 (readPair base overlay .soc) (pair-good base overlay h) m w c i)
-
-  pub test-time-pair-not-14 : (m i w c : ℕ) → testTimePair base overlay m i w c .answer .refusal .number ≡ 14 → ⊥
-  unfolding testTimePair
-  test-time-pair-not-14 m i w c =
-      of-either (readPair base overlay) refusedTestTime (testTimeOf m i w c) (λ a. a .answer .refusal .number ≡ 14 → ⊥)
-      (λ h. refused-not-14)
-      (λ h. good.test-time-not-14 (readPair base overlay .soc) (pair-good base overlay h) m w c i)
 
   pub module-time-pair-not-14 : (m w c : ℕ) → moduleTimePair base overlay m w c .answer .refusal .number ≡ 14 → ⊥
   unfolding moduleTimePair
@@ -152,16 +136,6 @@ module _ (base overlay : List ℕ) where
       (λ a. (a .answer .refusal .number ≤ 17) × (a .answer .refusal .line ≤ textMax + 1))
       (λ h. (told-number, pair-told base overlay .1))
       (λ h. let l = layout-told (readPair base overlay .soc) m i w c in (omega (arith, l .0), omega (arith, l .1)))
-
-  pub test-time-pair-told : (m i w c : ℕ) →
-      let a = testTimePair base overlay m i w c .answer in
-      (a .refusal .number ≤ 17) × (a .refusal .line ≤ textMax + 1) × (a .cycles .0 ≤ testTimeMax)
-  unfolding testTimePair
-  test-time-pair-told m i w c =
-      of-either (readPair base overlay) refusedTestTime (testTimeOf m i w c)
-      (λ a. (a .answer .refusal .number ≤ 17) × (a .answer .refusal .line ≤ textMax + 1) × (a .answer .cycles .0 ≤ testTimeMax))
-      (λ h. (told-number, pair-told base overlay .1, omega arith))
-      (λ h. let l = test-time-told (readPair base overlay .soc) m i w c in (omega (arith, l .0), omega (arith, l .1), l .2))
 
   pub module-time-pair-told : (m w c : ℕ) →
       let a = moduleTimePair base overlay m w c .answer in

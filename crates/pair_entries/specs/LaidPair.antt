@@ -7,7 +7,7 @@ use Rattle.units.specs.declared.Refusal.{Refusal}
 use Rattle.soc.specs.Limits.{chainsMax}
 use Rattle.soc.specs.Record.{flipFlops}
 use Rattle.soc.specs.declared.record.Soc.{Soc}
-use Rattle.wrapper.specs.WrapperAnswers.{widthMax, layoutAnswer}
+use Rattle.wrapper.specs.WrapperAnswers.{widthMax, cycles, layoutAnswer}
 use Rattle.wrapper.specs.declared.laid.WrapperLayout.{WrapperLayout}
 use Rattle.pair.specs.Pair.{readPair}
 use Rattle.pair.specs.declared.read.Meant.{Meant}
@@ -25,6 +25,9 @@ emptyLayout r =
       «output_cells» = replicate widthMax 0;
       «bidir_cells» = replicate widthMax 0;
       «chain_of» = replicate chainsMax 0;
+      si = 0;
+      so = 0;
+      cycles = cycles 0;
     }
 
 abbrev pub refusedLayout : Refusal → Meant → PairLayout

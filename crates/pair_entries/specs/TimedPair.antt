@@ -3,25 +3,13 @@ use Prim.Native.Nat.{ℕ}
 use mathlib.Core.List.{List}
 use Rattle.units.specs.declared.Refusal.{Refusal}
 use Rattle.soc.specs.declared.record.Soc.{Soc}
-use Rattle.wrapper.specs.WrapperAnswers.{wires, cycles, testTimeAnswer, moduleTimeAnswer}
+use Rattle.wrapper.specs.WrapperAnswers.{wires, cycles, moduleTimeAnswer}
 use Rattle.wrapper.specs.declared.asked.ModuleTime.{ModuleTime}
-use Rattle.wrapper.specs.declared.asked.TestTime.{TestTime}
 use Rattle.pair.specs.Pair.{readPair}
 use Rattle.pair.specs.declared.read.Meant.{Meant}
 use Rattle.pair.specs.declared.read.Meant.the-variants as meant
 use Rattle.pair_entries.specs.OfPair.{ofPair}
 use Rattle.pair_entries.specs.declared.timed.PairModuleTime.{PairModuleTime}
-use Rattle.pair_entries.specs.declared.timed.PairTestTime.{PairTestTime}
-
-abbrev pub refusedTestTime : Refusal → Meant → PairTestTime
-refusedTestTime r m = record { meant = m; answer = record { refusal = r; cycles = cycles 0 } }
-
--- the time of test i of module m of the combined description at width w, with c capture cycles
-abbrev pub testTimeOf : ℕ → ℕ → ℕ → ℕ → Soc → PairTestTime
-testTimeOf m i w c s = record { meant = meant.Neither; answer = testTimeAnswer s m i w c }
-
-unfoldable pub testTimePair : List ℕ → List ℕ → ℕ → ℕ → ℕ → ℕ → PairTestTime
-testTimePair base overlay m i w c = ofPair (readPair base overlay) refusedTestTime (testTimeOf m i w c)
 
 abbrev pub refusedModuleTime : Refusal → Meant → PairModuleTime
 refusedModuleTime r m = record { meant = m; answer = record { refusal = r; cycles = cycles 0; wires = wires 0 } }

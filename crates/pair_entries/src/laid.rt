@@ -3,6 +3,7 @@ use pair::Meant;
 use pair::read_pair;
 use soc::CHAINS_MAX;
 use units::CaptureCycles;
+use units::Cycles;
 use units::FlipFlops;
 use units::Refusal;
 use units::Wires;
@@ -29,6 +30,9 @@ fn refused_layout(f: Refusal, meant: Meant) -> PairLayout
             output_cells: [0u64; WIDTH_PLACES],
             bidir_cells: [0u64; WIDTH_PLACES],
             chain_of: [0usize; CHAINS_MAX],
+            si: 0,
+            so: 0,
+            cycles: Cycles(0),
         },
     }
 }

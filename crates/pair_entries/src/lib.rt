@@ -9,8 +9,6 @@ pub use laid::layout_pair;
 pub use planned::PairPlan;
 pub use planned::plan_pair;
 pub use timed::PairModuleTime;
-pub use timed::PairTestTime;
 pub use timed::module_time_pair;
-pub use timed::test_time_pair;
 pub use written::PairWritten;
 pub use written::write_pair;

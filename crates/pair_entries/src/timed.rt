@@ -1,4 +1,4 @@
-// The time of a test, and of a module, of a pair.
+// The time of a module of a pair.
 use pair::Meant;
 use pair::read_pair;
 use units::CaptureCycles;
@@ -6,53 +6,13 @@ use units::Cycles;
 use units::Refusal;
 use units::Wires;
 use wrapper::ModuleTime;
-use wrapper::TestTime;
 ghost use mathlib.Core.Path.{_≡_};
-ghost use Rattle.pair_entries.specs.TimedPair.{refusedTestTime, testTimePair, refusedModuleTime, moduleTimePair};
+ghost use Rattle.pair_entries.specs.TimedPair.{refusedModuleTime, moduleTimePair};
 
 // What the wrapper layer answers, and the text that a refusal is about.
-pub struct PairTestTime {
-    pub meant: Meant,
-    pub answer: TestTime,
-}
-
 pub struct PairModuleTime {
     pub meant: Meant,
     pub answer: ModuleTime,
-}
-
-fn refused_test_time(f: Refusal, meant: Meant) -> PairTestTime
-    ensures { λ r. ⌜ r ≡ refusedTestTime f meant ⌝ }
-{
-    PairTestTime {
-        meant,
-        answer: TestTime {
-            refusal: f,
-            cycles: Cycles(0),
-        },
-    }
-}
-
-pub fn test_time_pair(
-    base: &[u8],
-    overlay: &[u8],
-    module: u32,
-    test: u32,
-    width: Wires,
-    capture: CaptureCycles,
-) -> PairTestTime
-    ensures { λ r. ⌜ r ≡ testTimePair (now (base .entry)) (now (overlay .entry)) «module» test (width .0) (capture .0) ⌝ }
-{
-    let pair = read_pair(base, overlay);
-    if pair.refusal.number != 0 {
-        let meant = pair.meant;
-        return refused_test_time(pair.refusal, meant);
-    }
-    let soc = pair.soc;
-    PairTestTime {
-        meant: Meant::Neither,
-        answer: wrapper::test_time(soc, module, test, width, capture),
-    }
 }
 
 fn refused_module_time(f: Refusal, meant: Meant) -> PairModuleTime

@@ -4,3 +4,4 @@ pub mod PlannerLaws
 pub mod PlanDemand
 pub mod MoreWires
 pub mod CaptureLaws
+pub mod SumLaws

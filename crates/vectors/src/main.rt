@@ -78,8 +78,8 @@ fn show_texts() {
     show_padded(T1, 1, TEXT_MAX + 1);
 }
 
-// Core A and Core 6 of p93791 of document 000, a core whose figure rises with the width, small cores, the largest core, the SOC
-// itself, no record.
+// Core A and Core 6 of p93791 of document 000, a module of d695, a core whose figure rises with the width, small cores, the largest core,
+// the SOC itself, no record.
 fn show_wrappers() {
     show_times(CORE_A, 1, 0, 6, 1);
     show_layout(CORE_A, 1, 1, 4, 1);
@@ -90,6 +90,7 @@ fn show_wrappers() {
     show_times(CORE_6, 1, 1, 66, 1);
     show_layout(CORE_6, 1, 1, 2, 1);
     show_layout(CORE_6, 1, 1, 10, 1);
+    show_layout(D695, 5, 1, 9, 1);
     show_times(RISING, 1, 9, 15, 1);
     show_times(SMALL, 1, 1, 2, 1);
     show_times(SMALL, 2, 1, 4, 1);
@@ -162,7 +163,7 @@ fn show_pairs() {
 }
 
 // With c capture cycles (document 02, item 5), of which 0 and 5 are 16: times, at a width that is 7 and of a module that is 13; the
-// largest core; a layout; plans, also with a limit that is 8 and of no planned module.
+// largest core; layouts, one of them at the wires that the plan below names; plans, also with a limit that is 8 and of no planned module.
 fn show_captures(c: u32) {
     print_line(CAPTURE, c as u64, 0, 0, 0);
     show_times(CORE_A, 1, 4, 4, c);
@@ -170,6 +171,7 @@ fn show_captures(c: u32) {
     show_times(CORE_A, 2, 4, 4, c);
     show_times(LARGEST, 1, 1, 1, c);
     show_layout(CORE_A, 1, 1, 4, c);
+    show_layout(D695, 5, 1, 18, c);
     show_plan(T1, 4, 2, c);
     show_plan(D695, 32, 3, c);
     show_plan(D695, 32, 4, c);

@@ -59,6 +59,8 @@ pub const PAIR: usize = 26;
 
 pub const CAPTURE: usize = 27;
 
+pub const SCANS: usize = 28;
+
 // Stands for a figure that is not given, and is printed as the text has it: -1. All other figures are smaller.
 pub const NOT_GIVEN: u64 = 18446744073709551615;
 
@@ -125,7 +127,8 @@ pub(crate) fn print_line(line: usize, a: u64, b: u64, c: u64, d: u64) {
         | says something else than it holds\n\
         |, internal chain in #\n\
         |refused # line # text #, time #\n\
-        |capture cycles #\n";
+        |capture cycles #\n\
+        | si # so # cycles #\n";
     print_part(lines, line, [a, b, c, d]);
 }
 

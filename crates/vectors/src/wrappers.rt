@@ -1,7 +1,8 @@
-// Prints layouts and times (document 01, "The wrapper rule"; document 02, items 2 and 5).
+// Prints layouts and times (document 01, "The wrapper rule"; document 02, items 2, 5 and 8).
 use super::print::CHAINS;
 use super::print::INTERNAL;
 use super::print::LAYOUT;
+use super::print::SCANS;
 use super::print::TIME;
 use super::print::TIMES;
 use super::print::WIRES;
@@ -41,12 +42,13 @@ pub(crate) fn show_layout(i: usize, module: u32, test: u32, width: u32, capture:
         l.refusal.number as u64,
     );
     if l.refusal.number == 0 {
+        print_line(SCANS, l.si, l.so, l.cycles.0, 0);
         print_layout(l);
     }
 }
 
 fn show_time(s: Soc, module: u32, width: u32, capture: u32) {
-    let t = wrapper::test_time(s, module, 1, Wires(width), CaptureCycles(capture));
+    let t = wrapper::layout(s, module, 1, Wires(width), CaptureCycles(capture));
     let m = wrapper::module_time(s, module, Wires(width), CaptureCycles(capture));
     print_line(
         TIME,

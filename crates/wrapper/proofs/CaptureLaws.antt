@@ -13,10 +13,10 @@ use Rattle.soc.specs.declared.record.Test.{Test}
 use Rattle.soc.specs.declared.record.Module.{Module}
 use Rattle.soc.specs.declared.record.Soc.{Soc}
 use Rattle.wrapper.specs.Times.{scanIn, scanOut, testCycles, testTime, sumTimes, figure, moduleBest}
-use Rattle.wrapper.specs.WrapperAnswers.{widthMax, moduleAt, askedModule, layoutAnswer, testTimeAnswer, moduleTimeAnswer}
+use Rattle.wrapper.specs.WrapperAnswers.{widthMax, moduleAt, askedModule, layoutOf, layoutAnswer, moduleTimeAnswer}
 use Rattle.wrapper.specs.Laid.{testAt}
 use Rattle.wrapper.proofs.BestLaws.{time-at, time-wires, time-least}
-use Rattle.wrapper.proofs.WrapperAnswerLaws.{laid-out, laid-time, timed}
+use Rattle.wrapper.proofs.WrapperAnswerLaws.{laid-out, timed}
 
 -- with one capture cycle, "a test of p patterns takes (1 + max(si, so)) × p + min(si, so) cycles"
 pub one-capture : (si so p : ℕ) → testCycles 1 si so p ≡ (1 + max si so) * p + min si so
@@ -77,24 +77,40 @@ module _ {c e : ℕ} (h : c ≤ e) (d : Module) where
       let b = time-wires e d w l in
       rw (← time-at e d w l) (omega (arith, time-least c d w l u (b .0) (b .1), figure-rises u))
 
--- of the answers that are not refused: the layout is the same at each number of capture cycles,
+-- of the answers that are not refused: all but the cycles is the same at each number of capture cycles,
 pub answer-layout-same : (s : Soc) (m i w c e : ℕ) → layoutAnswer s m i w c .refusal .number ≡ 0
-    → layoutAnswer s m i w e .refusal .number ≡ 0 → layoutAnswer s m i w c ≡ layoutAnswer s m i w e
-answer-layout-same s m i w c e h k = laid-out s m i w c h .is ∙ sym (laid-out s m i w e k .is)
+    → layoutAnswer s m i w e .refusal .number ≡ 0 →
+    let l = layoutAnswer s m i w c in
+    layoutAnswer s m i w e
+    ≡ record {
+      refusal = l .refusal;
+      «flip_flops» = l .«flip_flops»;
+      «input_cells» = l .«input_cells»;
+      «output_cells» = l .«output_cells»;
+      «bidir_cells» = l .«bidir_cells»;
+      «chain_of» = l .«chain_of»;
+      si = l .si;
+      so = l .so;
+      cycles = layoutAnswer s m i w e .cycles;
+    }
+unfolding layoutOf
+answer-layout-same s m i w c e h k = rw (laid-out s m i w c h .is, laid-out s m i w e k .is)
 
 -- a test with that layout takes its patterns more with one capture cycle more,
 pub answer-capture-more : (s : Soc) (m i w c : ℕ) → layoutAnswer s m i w c .refusal .number ≡ 0
     → layoutAnswer s m i w (c + 1) .refusal .number ≡ 0
-    → testTimeAnswer s m i w (c + 1) .cycles .0 ≡ testTimeAnswer s m i w c .cycles .0 + testAt (moduleAt s m) i .patterns
+    → layoutAnswer s m i w (c + 1) .cycles .0 ≡ layoutAnswer s m i w c .cycles .0 + testAt (moduleAt s m) i .patterns
+unfolding layoutOf
 answer-capture-more s m i w c h k =
-    rw (laid-time s m i w c h, laid-time s m i w (c + 1) k) (test-time-more c (moduleAt s m) w (testAt (moduleAt s m) i))
+    rw (laid-out s m i w c h .is, laid-out s m i w (c + 1) k .is) (test-time-more c (moduleAt s m) w (testAt (moduleAt s m) i))
 
 -- and no time falls
 module _ (s : Soc) (m : ℕ) {c e : ℕ} (l : c ≤ e) where
   pub answer-test-rises : (i w : ℕ) → layoutAnswer s m i w c .refusal .number ≡ 0 → layoutAnswer s m i w e .refusal .number ≡ 0
-      → testTimeAnswer s m i w c .cycles .0 ≤ testTimeAnswer s m i w e .cycles .0
+      → layoutAnswer s m i w c .cycles .0 ≤ layoutAnswer s m i w e .cycles .0
+  unfolding layoutOf
   answer-test-rises i w h k =
-      rw (laid-time s m i w c h, laid-time s m i w e k) (test-time-rises l (moduleAt s m) w (testAt (moduleAt s m) i))
+      rw (laid-out s m i w c h .is, laid-out s m i w e k .is) (test-time-rises l (moduleAt s m) w (testAt (moduleAt s m) i))
 
   pub answer-time-rises : (w : ℕ) → moduleTimeAnswer s m w c .refusal .number ≡ 0 → moduleTimeAnswer s m w e .refusal .number ≡ 0
       → moduleTimeAnswer s m w c .cycles .0 ≤ moduleTimeAnswer s m w e .cycles .0

@@ -16,6 +16,7 @@ use Rattle.units.specs.declared.FlipFlops.{FlipFlops}
 use Rattle.soc.specs.Limits.{chainsMax}
 use Rattle.units.specs.Places.{padded}
 use Rattle.soc.specs.Record.{chainsOf, flipFlops}
+use Rattle.soc.specs.declared.record.Test.{Test}
 use Rattle.soc.specs.declared.record.Module.{Module}
 use Rattle.units.proofs.PlaceLaws.{padded-at}
 use Rattle.wrapper.specs.Cells.{evened}
@@ -235,37 +236,37 @@ held-sum : (n : ℕ) (l : List ℕ) → 0 < length l → total (padded widthMax 
 held-sum n l h = total-padded widthMax (gained l (withCells n l)) ∙ cells-sum n l h
 
 -- each input, output and bidirectional cell lies in exactly one wrapper chain: the counts over all chains are inputs, outputs and bidirs
-module _ (d : Module) (scan : Bool) (k : ℕ) (pos : 1 ≤ k) where
-  pub input-cells-sum : total (layoutOf d (threaded d scan k) .«input_cells») ≡ d .inputs
+module _ (c : ℕ) (d : Module) (k : ℕ) (t : Test) (pos : 1 ≤ k) where
+  pub input-cells-sum : total (layoutOf c d k t .«input_cells») ≡ d .inputs
   unfolding layoutOf
-  input-cells-sum = held-sum (d .inputs) (withBidirs d (threaded d scan k)) (omega (arith, shared-width d scan k))
+  input-cells-sum = held-sum (d .inputs) (withBidirs d (threaded d (t .«scan_use») k)) (omega (arith, shared-width d (t .«scan_use») k))
 
-  pub output-cells-sum : total (layoutOf d (threaded d scan k) .«output_cells») ≡ d .outputs
+  pub output-cells-sum : total (layoutOf c d k t .«output_cells») ≡ d .outputs
   unfolding layoutOf
-  output-cells-sum = held-sum (d .outputs) (withBidirs d (threaded d scan k)) (omega (arith, shared-width d scan k))
+  output-cells-sum = held-sum (d .outputs) (withBidirs d (threaded d (t .«scan_use») k)) (omega (arith, shared-width d (t .«scan_use») k))
 
-  pub bidir-cells-sum : total (layoutOf d (threaded d scan k) .«bidir_cells») ≡ d .bidirs
+  pub bidir-cells-sum : total (layoutOf c d k t .«bidir_cells») ≡ d .bidirs
   unfolding layoutOf
-  bidir-cells-sum = held-sum (d .bidirs) (threaded d scan k .lengths) (omega (arith, threaded-width d scan k))
+  bidir-cells-sum = held-sum (d .bidirs) (threaded d (t .«scan_use») k .lengths) (omega (arith, threaded-width d (t .«scan_use») k))
 
 -- what the layout holds of each wrapper chain
-pub layout-flip-flops : (d : Module) → length (d .chains) ≡ chainsMax → (scan : Bool) (k : ℕ) → 1 ≤ k → (i : ℕ)
-    → getD (layoutOf d (threaded d scan k) .«flip_flops») i (flipFlops 0)
-    ≡ flipFlops (lengthsIn (suc i) (layoutOf d (threaded d scan k) .«chain_of») (chainsOf d))
+pub layout-flip-flops : (c : ℕ) (d : Module) → length (d .chains) ≡ chainsMax → (k : ℕ) (t : Test) → 1 ≤ k → (i : ℕ)
+    → getD (layoutOf c d k t .«flip_flops») i (flipFlops 0)
+    ≡ flipFlops (lengthsIn (suc i) (layoutOf c d k t .«chain_of») (chainsOf d))
 unfolding layoutOf
-layout-flip-flops d sized scan k pos i =
-    padded-at widthMax (flipFlops 0) (map flipFlops (threaded d scan k .lengths)) i
-    ∙ List·getD-map flipFlops (threaded d scan k .lengths) i 0
-    ∙ ap flipFlops (flip-flops-sum d sized scan k pos i)
+layout-flip-flops c d sized k t pos i =
+    padded-at widthMax (flipFlops 0) (map flipFlops (threaded d (t .«scan_use») k .lengths)) i
+    ∙ List·getD-map flipFlops (threaded d (t .«scan_use») k .lengths) i 0
+    ∙ ap flipFlops (flip-flops-sum d sized (t .«scan_use») k pos i)
 
 -- entries past k are 0
-module _ (d : Module) (scan : Bool) (k i : ℕ) (past : k ≤ i) where
-  pub past-flip-flops : getD (layoutOf d (threaded d scan k) .«flip_flops») i (flipFlops 0) ≡ flipFlops 0
+module _ (c : ℕ) (d : Module) (k : ℕ) (t : Test) (i : ℕ) (past : k ≤ i) where
+  pub past-flip-flops : getD (layoutOf c d k t .«flip_flops») i (flipFlops 0) ≡ flipFlops 0
   unfolding layoutOf
   past-flip-flops =
-      padded-at widthMax (flipFlops 0) (map flipFlops (threaded d scan k .lengths)) i
-      ∙ List·getD-map flipFlops (threaded d scan k .lengths) i 0
-      ∙ ap flipFlops (List·getD-eq-default (threaded d scan k .lengths) 0 (omega (arith, threaded-width d scan k)))
+      padded-at widthMax (flipFlops 0) (map flipFlops (threaded d (t .«scan_use») k .lengths)) i
+      ∙ List·getD-map flipFlops (threaded d (t .«scan_use») k .lengths) i 0
+      ∙ ap flipFlops (List·getD-eq-default (threaded d (t .«scan_use») k .lengths) 0 (omega (arith, threaded-width d (t .«scan_use») k)))
 
   past-cells : (n : ℕ) (l : List ℕ) → length l ≡ k → getD (padded widthMax 0 (gained l (withCells n l))) i 0 ≡ 0
   past-cells n l e =
@@ -273,17 +274,17 @@ module _ (d : Module) (scan : Bool) (k i : ℕ) (past : k ≤ i) where
       ∙ List·getD-eq-default (gained l (withCells n l)) 0
       (omega (arith, gained-length l (withCells n l) (sym (cells-length n l)), e))
 
-  pub past-input-cells : getD (layoutOf d (threaded d scan k) .«input_cells») i 0 ≡ 0
+  pub past-input-cells : getD (layoutOf c d k t .«input_cells») i 0 ≡ 0
   unfolding layoutOf
-  past-input-cells = past-cells (d .inputs) (withBidirs d (threaded d scan k)) (shared-width d scan k)
+  past-input-cells = past-cells (d .inputs) (withBidirs d (threaded d (t .«scan_use») k)) (shared-width d (t .«scan_use») k)
 
-  pub past-output-cells : getD (layoutOf d (threaded d scan k) .«output_cells») i 0 ≡ 0
+  pub past-output-cells : getD (layoutOf c d k t .«output_cells») i 0 ≡ 0
   unfolding layoutOf
-  past-output-cells = past-cells (d .outputs) (withBidirs d (threaded d scan k)) (shared-width d scan k)
+  past-output-cells = past-cells (d .outputs) (withBidirs d (threaded d (t .«scan_use») k)) (shared-width d (t .«scan_use») k)
 
-  pub past-bidir-cells : getD (layoutOf d (threaded d scan k) .«bidir_cells») i 0 ≡ 0
+  pub past-bidir-cells : getD (layoutOf c d k t .«bidir_cells») i 0 ≡ 0
   unfolding layoutOf
-  past-bidir-cells = past-cells (d .bidirs) (threaded d scan k .lengths) (threaded-width d scan k)
+  past-bidir-cells = past-cells (d .bidirs) (threaded d (t .«scan_use») k .lengths) (threaded-width d (t .«scan_use») k)
 
 -- lengths, by how much they grew and by how much they grew again are the lengths at last
 added-gained : (xs ys zs : List ℕ) (m : ℕ) → length xs ≡ length ys → length ys ≡ length zs → ((i : ℕ) → getD xs i 0 ≤ getD ys i 0)
@@ -314,14 +315,16 @@ added-is b n w l =
     (λ i. cells-grow n (withCells b l) i))
 
 -- the scan-in of each wrapper chain is its flip-flops, bidirectional cells and input cells, its scan-out likewise with output cells
-module _ (d : Module) (t : Threaded) where
-  pub layout-scan-ins : scanIns (layoutOf d t) ≡ padded widthMax 0 (withCells (d .inputs) (withBidirs d t))
+module _ (c : ℕ) (d : Module) (k : ℕ) (t : Test) where
+  pub layout-scan-ins : scanIns (layoutOf c d k t)
+      ≡ padded widthMax 0 (withCells (d .inputs) (withBidirs d (threaded d (t .«scan_use») k)))
   unfolding layoutOf
-  layout-scan-ins = added-is (d .bidirs) (d .inputs) widthMax (t .lengths)
+  layout-scan-ins = added-is (d .bidirs) (d .inputs) widthMax (threaded d (t .«scan_use») k .lengths)
 
-  pub layout-scan-outs : scanOuts (layoutOf d t) ≡ padded widthMax 0 (withCells (d .outputs) (withBidirs d t))
+  pub layout-scan-outs : scanOuts (layoutOf c d k t)
+      ≡ padded widthMax 0 (withCells (d .outputs) (withBidirs d (threaded d (t .«scan_use») k)))
   unfolding layoutOf
-  layout-scan-outs = added-is (d .bidirs) (d .outputs) widthMax (t .lengths)
+  layout-scan-outs = added-is (d .bidirs) (d .outputs) widthMax (threaded d (t .«scan_use») k .lengths)
 
 longest-zeros : (l : List ℕ) (m : ℕ) → longest (l ++ replicate m 0) ≡ longest l
 unfolding longest
@@ -334,30 +337,32 @@ unfolding padded
 longest-held l = longest-zeros l (widthMax - length l)
 
 -- "longest scan-in si and longest scan-out so": the longest of these
-module _ (d : Module) (scan : Bool) (k : ℕ) where
-  pub scan-in-is : scanIn d scan k ≡ longest (scanIns (layoutOf d (threaded d scan k)))
+module _ (c : ℕ) (d : Module) (k : ℕ) (t : Test) where
+  pub scan-in-is : scanIn d (t .«scan_use») k ≡ longest (scanIns (layoutOf c d k t))
   unfolding scanIn longestAfter
   scan-in-is =
-      sym (ap longest (layout-scan-ins d (threaded d scan k)) ∙ longest-held (withCells (d .inputs) (withBidirs d (threaded d scan k))))
+      sym (ap longest (layout-scan-ins c d k t) ∙ longest-held (withCells (d .inputs) (withBidirs d (threaded d (t .«scan_use») k))))
 
-  pub scan-out-is : scanOut d scan k ≡ longest (scanOuts (layoutOf d (threaded d scan k)))
+  pub scan-out-is : scanOut d (t .«scan_use») k ≡ longest (scanOuts (layoutOf c d k t))
   unfolding scanOut longestAfter
   scan-out-is =
-      sym (ap longest (layout-scan-outs d (threaded d scan k)) ∙ longest-held (withCells (d .outputs) (withBidirs d (threaded d scan k))))
+      sym (ap longest (layout-scan-outs c d k t) ∙ longest-held (withCells (d .outputs) (withBidirs d (threaded d (t .«scan_use») k))))
 
   -- and these are the figures by the sum: the larger of the longest length before and the total length plus the cells that count,
   -- divided by k, rounded up
   module _ (pos : 1 ≤ k) where
-    evened-at : (n : ℕ) → longestAfter n (threaded d scan k .lengths)
-        ≡ evened (longest (threaded d scan k .lengths)) (total (threaded d scan k .lengths)) n k
+    evened-at : (n : ℕ) → longestAfter n (threaded d (t .«scan_use») k .lengths)
+        ≡ evened (longest (threaded d (t .«scan_use») k .lengths)) (total (threaded d (t .«scan_use») k .lengths)) n k
     evened-at n =
-        let l : length (threaded d scan k .lengths) ≡ k = threaded-width d scan k in
-        rw l at (cells-evened n (threaded d scan k .lengths) (omega arith))
+        let l : length (threaded d (t .«scan_use») k .lengths) ≡ k = threaded-width d (t .«scan_use») k in
+        rw l at (cells-evened n (threaded d (t .«scan_use») k .lengths) (omega arith))
 
-    pub layout-in-evened : longest (scanIns (layoutOf d (threaded d scan k)))
-        ≡ evened (longest (threaded d scan k .lengths)) (total (threaded d scan k .lengths)) (d .inputs + d .bidirs) k
-    layout-in-evened = sym scan-in-is ∙ scan-in-counted d scan k ∙ evened-at (d .inputs + d .bidirs)
+    pub layout-in-evened : longest (scanIns (layoutOf c d k t))
+        ≡ evened (longest (threaded d (t .«scan_use») k .lengths)) (total (threaded d (t .«scan_use») k .lengths))
+        (d .inputs + d .bidirs) k
+    layout-in-evened = sym scan-in-is ∙ scan-in-counted d (t .«scan_use») k ∙ evened-at (d .inputs + d .bidirs)
 
-    pub layout-out-evened : longest (scanOuts (layoutOf d (threaded d scan k)))
-        ≡ evened (longest (threaded d scan k .lengths)) (total (threaded d scan k .lengths)) (d .outputs + d .bidirs) k
-    layout-out-evened = sym scan-out-is ∙ scan-out-counted d scan k ∙ evened-at (d .outputs + d .bidirs)
+    pub layout-out-evened : longest (scanOuts (layoutOf c d k t))
+        ≡ evened (longest (threaded d (t .«scan_use») k .lengths)) (total (threaded d (t .«scan_use») k .lengths))
+        (d .outputs + d .bidirs) k
+    layout-out-evened = sym scan-out-is ∙ scan-out-counted d (t .«scan_use») k ∙ evened-at (d .outputs + d .bidirs)

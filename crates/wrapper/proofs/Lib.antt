@@ -11,4 +11,5 @@ pub mod LaidLaws
 pub mod LayoutLaws
 pub mod LengthLaws
 pub mod PromisedTimes
+pub mod SumLaws
 pub mod TimeLaws

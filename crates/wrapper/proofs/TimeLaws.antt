@@ -55,7 +55,7 @@ planned-most c a b t l h k m = go (t .«tam_use») (t .«scan_use»)
     go false y = omega arith
 
 -- the scan lengths of a module's chains are those of the rule
-scan-is : (d : Module) (scan : Bool) (w : ℕ)
+pub scan-is : (d : Module) (scan : Bool) (w : ℕ)
     → scanWith d scan w ≡ record { si = scanIn d scan w; so = scanOut d scan w }
 unfolding scanOf
 scan-is d scan w = rw (held-lengths d scan w, scan-in-counted d scan w, scan-out-counted d scan w)

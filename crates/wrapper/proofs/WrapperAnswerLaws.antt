@@ -1,5 +1,5 @@
--- What document 01 demands of a layout and of a module's time ("The wrapper rule"), and document 02 (item 2) of bidirectional cells, of the
--- answers themselves where nothing is refused.
+-- What document 01 demands of a layout and of a module's time ("The wrapper rule"), and document 02 of bidirectional cells (item 2) and of
+-- a layout's si, so and cycles (item 8), of the answers themselves where nothing is refused.
 -- Assumes nothing.
 use Prim.Native.Nat.{ℕ, suc, _-_, _≤_, _<_}
 use mathlib.Core.Path.{_≡_, refl, sym, ap, _∙_}
@@ -8,7 +8,6 @@ use native.Mathlib.Omega.{arith}
 use borrow.Author.Tests.{leb-true, ltb-true}
 use lib.Dec.{leb, ltb}
 use lib.ListN.{length, getD}
-use Rattle.units.specs.Refusals.{accepted}
 use Rattle.units.specs.Places.{padded}
 use Rattle.units.proofs.TestLaws.{and-both}
 use Rattle.soc.specs.Limits.{chainsMax}
@@ -20,13 +19,11 @@ use Rattle.soc.specs.declared.record.Soc.{Soc}
 use Rattle.wrapper.specs.Fit.{longest, total, withCells}
 use Rattle.wrapper.specs.Chains.{threaded}
 use Rattle.wrapper.specs.Maxima.{testTimeMax, moduleTimeMax}
-use Rattle.wrapper.specs.Times.{withBidirs, scanIn, scanOut, figure, testCycles, testTime, moduleBest}
-use Rattle.wrapper.specs.WrapperAnswers.{widthMax, captureMax, cycles, moduleAt, askedModule, askedTest}
-use Rattle.wrapper.specs.WrapperAnswers.{layoutOf, noLayout, layoutAnswer}
-use Rattle.wrapper.specs.WrapperAnswers.{noTestTime, testTimeAnswer, noModuleTime, moduleTimeOf, moduleTimeAnswer}
+use Rattle.wrapper.specs.Times.{withBidirs, figure, testCycles, testTime, moduleBest}
+use Rattle.wrapper.specs.WrapperAnswers.{widthMax, captureMax, moduleAt, askedModule, askedTest, layoutOf, noLayout, layoutAnswer}
+use Rattle.wrapper.specs.WrapperAnswers.{noModuleTime, moduleTimeOf, moduleTimeAnswer}
 use Rattle.wrapper.specs.Laid.{testAt, lengthsIn, scanIns, scanOuts}
 use Rattle.wrapper.specs.declared.laid.WrapperLayout.{WrapperLayout}
-use Rattle.wrapper.specs.declared.asked.TestTime.{TestTime}
 use Rattle.wrapper.specs.declared.asked.ModuleTime.{ModuleTime}
 use Rattle.wrapper.proofs.BestLaws.{time-at, time-wires, time-least, time-first}
 use Rattle.wrapper.proofs.KeptLaws.{good-kept, good-count}
@@ -36,20 +33,33 @@ use Rattle.wrapper.proofs.LayoutLaws.{in-one-chain, in-no-chain, unused
 use Rattle.wrapper.proofs.LayoutLaws.{bidir-cells-sum, layout-scan-ins, layout-scan-outs, scan-in-is, scan-out-is}
 
 -- what was asked for is there
-pub record Asked (s : Soc) (m w : ℕ) : Type 0 where
+pub record Asked (s : Soc) (m w c : ℕ) : Type 0 where
   pub good : goodSoc s ≡ true
   pub low : 1 ≤ w
+  pub high : w ≤ widthMax
+  pub first : 1 ≤ c
+  pub last : c ≤ captureMax
   pub there : m < s .«module_count»
 
-asked-is : (s : Soc) (m w : ℕ) → goodSoc s ≡ true → (leb 1 w && leb w widthMax) ≡ true → ltb m (s .«module_count») ≡ true → Asked s m w
-asked-is s m w a b c =
-    record { good = a; low = leb-true 1 w (and-both (leb 1 w) (leb w widthMax) b .0); there = ltb-true m (s .«module_count») c }
+asked-is : (s : Soc) (m w c : ℕ) → goodSoc s ≡ true → (leb 1 w && leb w widthMax) ≡ true → (leb 1 c && leb c captureMax) ≡ true
+    → ltb m (s .«module_count») ≡ true → Asked s m w c
+asked-is s m w c a b e f =
+    let v = and-both (leb 1 w) (leb w widthMax) b in
+    let o = and-both (leb 1 c) (leb c captureMax) e in
+    record {
+      good = a;
+      low = leb-true 1 w (v .0);
+      high = leb-true w widthMax (v .1);
+      first = leb-true 1 c (o .0);
+      last = leb-true c captureMax (o .1);
+      there = ltb-true m (s .«module_count») f;
+    }
 
 -- the layout that is answered
 module _ (s : Soc) (m i w c : ℕ) where
   pub record LaidOut (a : WrapperLayout) : Type 0 where
-    pub asked : Asked s m w
-    pub is : a ≡ layoutOf (moduleAt s m) (threaded (moduleAt s m) (testAt (moduleAt s m) i .«scan_use») w)
+    pub asked : Asked s m w c
+    pub is : a ≡ layoutOf c (moduleAt s m) w (testAt (moduleAt s m) i)
 
   pub laid-out : layoutAnswer s m i w c .refusal .number ≡ 0 → LaidOut (layoutAnswer s m i w c)
   unfolding layoutAnswer askedModule askedTest noLayout
@@ -59,43 +69,18 @@ module _ (s : Soc) (m i w c : ℕ) where
       refl refl refl refl h
     where
       found : WrapperLayout
-      found = layoutOf (moduleAt s m) (threaded (moduleAt s m) (testAt (moduleAt s m) i .«scan_use») w)
+      found = layoutOf c (moduleAt s m) w (testAt (moduleAt s m) i)
 
       go : (x y v z t : Bool) → goodSoc s ≡ x → (leb 1 w && leb w widthMax) ≡ y → (leb 1 c && leb c captureMax) ≡ v
           → ltb m (s .«module_count») ≡ z →
           let a = cond x (cond y (cond v (cond z (cond t found (noLayout 13)) (noLayout 13)) (noLayout 16)) (noLayout 7)) (noLayout 14) in
           a .refusal .number ≡ 0 → LaidOut a
-      go true true true true true a b e f h = record { asked = asked-is s m w a b f; is = refl }
+      go true true true true true a b e f h = record { asked = asked-is s m w c a b e f; is = refl }
       go true true true true false a b e f h = let no : ⊥ = omega arith in absurd no
       go true true true false t a b e f h = let no : ⊥ = omega arith in absurd no
       go true true false z t a b e f h = let no : ⊥ = omega arith in absurd no
       go true false v z t a b e f h = let no : ⊥ = omega arith in absurd no
       go false y v z t a b e f h = let no : ⊥ = omega arith in absurd no
-
-  -- and the time of that test
-  pub laid-time : layoutAnswer s m i w c .refusal .number ≡ 0 → testTimeAnswer s m i w c .cycles .0
-      ≡ testTime c (moduleAt s m) w (testAt (moduleAt s m) i)
-  unfolding layoutAnswer testTimeAnswer askedModule askedTest noLayout
-  laid-time h =
-      go (goodSoc s) (leb 1 w && leb w widthMax) (leb 1 c && leb c captureMax) (ltb m (s .«module_count»))
-      (leb 1 i && leb i (moduleAt s m .«test_count»)) h
-    where
-      found : WrapperLayout
-      found = layoutOf (moduleAt s m) (threaded (moduleAt s m) (testAt (moduleAt s m) i .«scan_use») w)
-
-      go : (x y v z t : Bool) →
-          let a = cond x (cond y (cond v (cond z (cond t found (noLayout 13)) (noLayout 13)) (noLayout 16)) (noLayout 7)) (noLayout 14) in
-          let takes : TestTime = record { refusal = accepted; cycles = cycles (testTime c (moduleAt s m) w (testAt (moduleAt s m) i)) } in
-          let b =
-          cond x (cond y (cond v (cond z (cond t takes (noTestTime 13)) (noTestTime 13)) (noTestTime 16)) (noTestTime 7)) (noTestTime 14)
-          in
-          a .refusal .number ≡ 0 → b .cycles .0 ≡ testTime c (moduleAt s m) w (testAt (moduleAt s m) i)
-      go true true true true true h = refl
-      go true true true true false h = let no : ⊥ = omega arith in absurd no
-      go true true true false t h = let no : ⊥ = omega arith in absurd no
-      go true true false z t h = let no : ⊥ = omega arith in absurd no
-      go true false v z t h = let no : ⊥ = omega arith in absurd no
-      go false y v z t h = let no : ⊥ = omega arith in absurd no
 
 module _ (s : Soc) (m i w c : ℕ) (h : layoutAnswer s m i w c .refusal .number ≡ 0) where
   told : LaidOut s m i w c (layoutAnswer s m i w c)
@@ -103,38 +88,36 @@ module _ (s : Soc) (m i w c : ℕ) (h : layoutAnswer s m i w c .refusal .number 
 
   -- each input, output and bidirectional cell lies in exactly one wrapper chain: the counts over all chains are inputs, outputs and bidirs
   pub answer-input-cells : total (layoutAnswer s m i w c .«input_cells») ≡ moduleAt s m .inputs
-  answer-input-cells = rw (told .is) (input-cells-sum (moduleAt s m) (testAt (moduleAt s m) i .«scan_use») w (told .asked .low))
+  answer-input-cells = rw (told .is) (input-cells-sum c (moduleAt s m) w (testAt (moduleAt s m) i) (told .asked .low))
 
   pub answer-output-cells : total (layoutAnswer s m i w c .«output_cells») ≡ moduleAt s m .outputs
-  answer-output-cells = rw (told .is) (output-cells-sum (moduleAt s m) (testAt (moduleAt s m) i .«scan_use») w (told .asked .low))
+  answer-output-cells = rw (told .is) (output-cells-sum c (moduleAt s m) w (testAt (moduleAt s m) i) (told .asked .low))
 
   pub answer-bidir-cells : total (layoutAnswer s m i w c .«bidir_cells») ≡ moduleAt s m .bidirs
-  answer-bidir-cells = rw (told .is) (bidir-cells-sum (moduleAt s m) (testAt (moduleAt s m) i .«scan_use») w (told .asked .low))
+  answer-bidir-cells = rw (told .is) (bidir-cells-sum c (moduleAt s m) w (testAt (moduleAt s m) i) (told .asked .low))
 
   -- the scan-in of each wrapper chain is its flip-flops, bidirectional cells and input cells, its scan-out likewise with output cells
   pub answer-scan-ins :
       let d = moduleAt s m in
       scanIns (layoutAnswer s m i w c) ≡ padded widthMax 0 (withCells (d .inputs) (withBidirs d (threaded d (testAt d i .«scan_use») w)))
-  answer-scan-ins = rw (told .is) (layout-scan-ins (moduleAt s m) (threaded (moduleAt s m) (testAt (moduleAt s m) i .«scan_use») w))
+  answer-scan-ins = rw (told .is) (layout-scan-ins c (moduleAt s m) w (testAt (moduleAt s m) i))
 
   pub answer-scan-outs :
       let d = moduleAt s m in
       scanOuts (layoutAnswer s m i w c) ≡ padded widthMax 0 (withCells (d .outputs) (withBidirs d (threaded d (testAt d i .«scan_use») w)))
-  answer-scan-outs = rw (told .is) (layout-scan-outs (moduleAt s m) (threaded (moduleAt s m) (testAt (moduleAt s m) i .«scan_use») w))
+  answer-scan-outs = rw (told .is) (layout-scan-outs c (moduleAt s m) w (testAt (moduleAt s m) i))
 
   -- "longest scan-in si and longest scan-out so": the longest of these
-  pub answer-scan-in : longest (scanIns (layoutAnswer s m i w c)) ≡ scanIn (moduleAt s m) (testAt (moduleAt s m) i .«scan_use») w
-  answer-scan-in = rw (told .is) (sym (scan-in-is (moduleAt s m) (testAt (moduleAt s m) i .«scan_use») w))
+  pub layout-scans : let l = layoutAnswer s m i w c in (l .si ≡ longest (scanIns l)) × (l .so ≡ longest (scanOuts l))
+  unfolding layoutOf
+  layout-scans =
+      let d = moduleAt s m in
+      rw (told .is) (scan-in-is c d w (testAt d i), scan-out-is c d w (testAt d i))
 
-  pub answer-scan-out : longest (scanOuts (layoutAnswer s m i w c)) ≡ scanOut (moduleAt s m) (testAt (moduleAt s m) i .«scan_use») w
-  answer-scan-out = rw (told .is) (sym (scan-out-is (moduleAt s m) (testAt (moduleAt s m) i .«scan_use») w))
-
-  -- so the time that is answered for a test is that of its layout
-  pub answer-laid-time :
-      let l = layoutAnswer s m i w c in
-      testTimeAnswer s m i w c .cycles .0 ≡ testCycles c (longest (scanIns l)) (longest (scanOuts l)) (testAt (moduleAt s m) i .patterns)
-  unfolding testTime
-  answer-laid-time = rw (answer-scan-in, answer-scan-out) (laid-time s m i w c h)
+  -- "(c + max(si, so)) × p + min(si, so)": the cycles are what the formula gives for that si, that so and the test's patterns
+  pub layout-cycles : let l = layoutAnswer s m i w c in l .cycles .0 ≡ testCycles c (l .si) (l .so) (testAt (moduleAt s m) i .patterns)
+  unfolding layoutOf testTime
+  layout-cycles = rw (told .is)
 
   -- entries past the chains, and those of internal chains that the test does not use, are 0
   pub answer-unused : testAt (moduleAt s m) i .«scan_use» ≡ false → (j : ℕ) → getD (layoutAnswer s m i w c .«chain_of») j 0 ≡ 0
@@ -163,12 +146,12 @@ module _ (s : Soc) (m i w c : ℕ) (h : layoutAnswer s m i w c .refusal .number 
         → getD (layoutAnswer s m i w c .«flip_flops») j (flipFlops 0)
         ≡ flipFlops (lengthsIn (suc j) (layoutAnswer s m i w c .«chain_of») (chainsOf (moduleAt s m)))
     answer-flip-flops j =
-        rw (told .is) (layout-flip-flops (moduleAt s m) chains-sized (testAt (moduleAt s m) i .«scan_use») w (told .asked .low) j)
+        rw (told .is) (layout-flip-flops c (moduleAt s m) chains-sized w (testAt (moduleAt s m) i) (told .asked .low) j)
 
 -- the time that is answered
 module _ (s : Soc) (m w c : ℕ) where
   pub record Timed (a : ModuleTime) : Type 0 where
-    pub asked : Asked s m w
+    pub asked : Asked s m w c
     pub is : a ≡ moduleTimeOf (moduleBest c (moduleAt s m) w)
 
   pub timed : moduleTimeAnswer s m w c .refusal .number ≡ 0 → Timed (moduleTimeAnswer s m w c)
@@ -180,7 +163,7 @@ module _ (s : Soc) (m w c : ℕ) where
           let found = moduleTimeOf (moduleBest c (moduleAt s m) w) in
           let a = cond x (cond y (cond v (cond z found (noModuleTime 13)) (noModuleTime 16)) (noModuleTime 7)) (noModuleTime 14) in
           a .refusal .number ≡ 0 → Timed a
-      go true true true true a b e f h = record { asked = asked-is s m w a b f; is = refl }
+      go true true true true a b e f h = record { asked = asked-is s m w c a b e f; is = refl }
       go true true true false a b e f h = let no : ⊥ = omega arith in absurd no
       go true true false z a b e f h = let no : ⊥ = omega arith in absurd no
       go true false v z a b e f h = let no : ⊥ = omega arith in absurd no
@@ -206,34 +189,15 @@ module _ (s : Soc) (m w c : ℕ) (h : moduleTimeAnswer s m w c .refusal .number 
 
 -- a refusal has no line, and a time keeps its maximum
 module _ (s : Soc) (m i w c : ℕ) where
-  pub layout-told : (layoutAnswer s m i w c .refusal .number ≤ 16) × (layoutAnswer s m i w c .refusal .line ≡ 0)
+  pub layout-told : let a = layoutAnswer s m i w c in (a .refusal .number ≤ 16) × (a .refusal .line ≡ 0) × (a .cycles .0 ≤ testTimeMax)
   unfolding layoutAnswer askedModule askedTest noLayout layoutOf
   layout-told =
-      go (goodSoc s) (leb 1 w && leb w widthMax) (leb 1 c && leb c captureMax) (ltb m (s .«module_count»))
-      (leb 1 i && leb i (moduleAt s m .«test_count»))
-    where
-      go : (x y v z t : Bool) →
-          let found = layoutOf (moduleAt s m) (threaded (moduleAt s m) (testAt (moduleAt s m) i .«scan_use») w) in
-          let a = cond x (cond y (cond v (cond z (cond t found (noLayout 13)) (noLayout 13)) (noLayout 16)) (noLayout 7)) (noLayout 14) in
-          (a .refusal .number ≤ 16) × (a .refusal .line ≡ 0)
-      go true true true true true = (omega arith, refl)
-      go true true true true false = (omega arith, refl)
-      go true true true false t = (omega arith, refl)
-      go true true false z t = (omega arith, refl)
-      go true false v z t = (omega arith, refl)
-      go false y v z t = (omega arith, refl)
-
-  pub test-time-told : let a = testTimeAnswer s m i w c in (a .refusal .number ≤ 16) × (a .refusal .line ≡ 0) × (a .cycles .0 ≤ testTimeMax)
-  unfolding testTimeAnswer askedModule askedTest
-  test-time-told =
       go (goodSoc s) (leb 1 w && leb w widthMax) (leb 1 c && leb c captureMax) (ltb m (s .«module_count»))
       (leb 1 i && leb i (moduleAt s m .«test_count»)) refl refl refl
     where
       go : (x y v z t : Bool) → goodSoc s ≡ x → (leb 1 c && leb c captureMax) ≡ v → ltb m (s .«module_count») ≡ z →
-          let found : TestTime = record { refusal = accepted; cycles = cycles (testTime c (moduleAt s m) w (testAt (moduleAt s m) i)) } in
-          let a =
-          cond x (cond y (cond v (cond z (cond t found (noTestTime 13)) (noTestTime 13)) (noTestTime 16)) (noTestTime 7)) (noTestTime 14)
-          in
+          let found = layoutOf c (moduleAt s m) w (testAt (moduleAt s m) i) in
+          let a = cond x (cond y (cond v (cond z (cond t found (noLayout 13)) (noLayout 13)) (noLayout 16)) (noLayout 7)) (noLayout 14) in
           (a .refusal .number ≤ 16) × (a .refusal .line ≡ 0) × (a .cycles .0 ≤ testTimeMax)
       go true true true true true a e b =
           let k = good-kept s m a (ltb-true m (s .«module_count») b) in

@@ -1,14 +1,17 @@
--- What laws say of a layout (document 01, "The wrapper rule"; document 02, item 2): "for each wrapper chain, its flip-flops, input cells
--- and output cells, and for each internal chain its wrapper chain from 1", and bidirectional cells "as their own count".
-use Prim.Native.Nat.{ℕ, _+_, _-_}
+-- What laws say of a layout (document 01, "The wrapper rule"; document 02, items 2 and 8): "for each wrapper chain, its flip-flops, input
+-- cells and output cells, and for each internal chain its wrapper chain from 1", bidirectional cells "as their own count", and the layout
+-- "with its si, so and cycles".
+use Prim.Native.Nat.{ℕ, suc, _+_, _-_}
 use mathlib.Core.Bool.{cond}
 use mathlib.Core.List.{List, [], _∷_}
 use lib.Dec.{eqb}
 use lib.ListN.{getD}
 use Rattle.units.specs.declared.FlipFlops.{FlipFlops}
-use Rattle.soc.specs.Record.{noTest}
+use Rattle.soc.specs.Record.{noTest, testsOf}
 use Rattle.soc.specs.declared.record.Test.{Test}
 use Rattle.soc.specs.declared.record.Module.{Module}
+use Rattle.soc.specs.declared.record.Soc.{Soc}
+use Rattle.wrapper.specs.WrapperAnswers.{moduleAt, layoutAnswer}
 use Rattle.wrapper.specs.declared.laid.WrapperLayout.{WrapperLayout}
 
 -- test i of a module, from 1
@@ -34,3 +37,13 @@ scanIns l = added (l .«flip_flops») (l .«bidir_cells») (l .«input_cells»)
 
 abbrev pub scanOuts : WrapperLayout → List ℕ
 scanOuts l = added (l .«flip_flops») (l .«bidir_cells») (l .«output_cells»)
+
+-- what a client adds up: the cycles of the layouts that are answered for the tests with TamUse 1 of module m at width u and c capture
+-- cycles, where ts are the tests from number i on
+unfoldable pub layoutsFrom : Soc → ℕ → ℕ → ℕ → ℕ → List Test → ℕ
+layoutsFrom s m u c i [] = 0
+layoutsFrom s m u c i (t ∷ ts) =
+    cond (t .«tam_use») (layoutAnswer s m i u c .cycles .0 + layoutsFrom s m u c (suc i) ts) (layoutsFrom s m u c (suc i) ts)
+
+unfoldable pub layoutsCycles : Soc → ℕ → ℕ → ℕ → ℕ
+layoutsCycles s m u c = layoutsFrom s m u c 1 (testsOf (moduleAt s m))

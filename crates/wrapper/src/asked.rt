@@ -1,9 +1,8 @@
-// What may be asked of the wrapper layer: a test's time, a module's time, its times at all widths. Refusals: 14, 7, 16, 13.
+// What may be asked of the wrapper layer: a module and one of its tests, a module's time, its times at all widths. Refusals: 14, 7, 16, 13.
 use super::maxima::CAPTURE_MAX;
 use super::maxima::WIDTH_MAX;
 use super::maxima::WIDTH_PLACES;
 use super::times::Times;
-use super::times::test_cycles;
 use super::times::times_of;
 use soc::Module;
 use soc::Soc;
@@ -14,7 +13,7 @@ use units::Refusal;
 use units::Wires;
 ghost use mathlib.Core.Path.{_≡_};
 ghost use Prim.Native.Nat.{_≤_};
-ghost use Rattle.wrapper.specs.WrapperAnswers.{noTestTime, testTimeAnswer, noModuleTime, moduleTimeAnswer, noModuleTimes, moduleTimesAnswer};
+ghost use Rattle.wrapper.specs.WrapperAnswers.{noModuleTime, moduleTimeAnswer, noModuleTimes, moduleTimesAnswer};
 ghost use Rattle.wrapper.specs.Held.{noAsked, foundModule, foundTest};
 
 // The module that is asked for, where number is 0; else the refusal's number, and a module that says nothing.
@@ -27,11 +26,6 @@ pub struct AskedModule {
 pub enum AskedTest {
     No(u8),
     Is(Test),
-}
-
-pub struct TestTime {
-    pub refusal: Refusal,
-    pub cycles: Cycles,
 }
 
 pub struct ModuleTime {
@@ -93,33 +87,6 @@ pub(crate) fn asked_test(d: Module, i: u32) -> AskedTest
     }
     let t = d.tests[at];
     AskedTest::Is(t)
-}
-
-fn no_test_time(n: u8) -> TestTime
-    ensures { λ r. ⌜ r ≡ noTestTime n ⌝ }
-{
-    TestTime {
-        refusal: Refusal::at(n, 0),
-        cycles: Cycles(0),
-    }
-}
-
-// The cycles of one test of a module at a width.
-pub fn test_time(s: Soc, module: u32, test: u32, width: Wires, capture: CaptureCycles) -> TestTime
-    ensures { λ r. ⌜ r ≡ testTimeAnswer s «module» test (width .0) (capture .0) ⌝ }
-{
-    let asked = asked_module(s, module, width, capture);
-    if asked.number != 0 {
-        return no_test_time(asked.number);
-    }
-    let d = asked.module;
-    match asked_test(d, test) {
-        AskedTest::No(n) => no_test_time(n),
-        AskedTest::Is(t) => TestTime {
-            refusal: Refusal::none(),
-            cycles: Cycles(test_cycles(d, t, width.0 as usize, capture.0)),
-        },
-    }
 }
 
 fn no_module_time(n: u8) -> ModuleTime

@@ -1,16 +1,21 @@
 // A wrapper's layout for one test of a module at one width: bidirectional cells right after the internal chains (document 02, item 2),
-// then input cells and output cells, each from the lengths with these.
+// then input cells and output cells, each from the lengths with these; and what the test takes with that layout (document 02, item 8).
 use super::asked::AskedTest;
 use super::asked::asked_module;
 use super::asked::asked_test;
+use super::chains::lengths_of;
 use super::chains::order_of;
 use super::chains::thread_chains;
 use super::fit::add_cells;
 use super::maxima::WIDTH_PLACES;
+use super::times::cycles_of;
+use super::times::scan_at;
 use soc::CHAINS_MAX;
 use soc::Module;
 use soc::Soc;
+use soc::Test;
 use units::CaptureCycles;
+use units::Cycles;
 use units::FlipFlops;
 use units::Refusal;
 use units::Wires;
@@ -18,14 +23,15 @@ ghost use mathlib.Core.Path.{_≡_};
 ghost use mathlib.Core.List.{map, _++_};
 ghost use Prim.Native.Nat.{ℕ, _+_, _≤_, _<_};
 ghost use lib.ListN.{take, drop, getD};
+ghost use Rattle.soc.specs.Limits.{patternsMax};
 ghost use Rattle.soc.specs.Record.{flipFlops};
 ghost use Rattle.wrapper.specs.Fit.{longest, withCells};
-ghost use Rattle.wrapper.specs.Chains.{threaded};
-ghost use Rattle.wrapper.specs.WrapperAnswers.{widthMax, gained, layoutOf, noLayout, layoutAnswer};
+ghost use Rattle.wrapper.specs.WrapperAnswers.{widthMax, captureMax, gained, layoutOf, noLayout, layoutAnswer};
 ghost use Rattle.wrapper.specs.Scans.{Kept};
 
 // For each wrapper chain its flip-flops, input cells, output cells and bidirectional cells; for each internal chain its wrapper chain from
-// 1. Entries past the width or past the chains, and those of chains that the test does not use, are 0.
+// 1. Entries past the width or past the chains, and those of chains that the test does not use, are 0. Then the longest scan-in and
+// scan-out of that layout, and the test's cycles with them.
 pub struct WrapperLayout {
     pub refusal: Refusal,
     pub flip_flops: [FlipFlops; WIDTH_PLACES],
@@ -33,6 +39,9 @@ pub struct WrapperLayout {
     pub output_cells: [u64; WIDTH_PLACES],
     pub bidir_cells: [u64; WIDTH_PLACES],
     pub chain_of: [usize; CHAINS_MAX],
+    pub si: u64,
+    pub so: u64,
+    pub cycles: Cycles,
 }
 
 fn no_layout(n: u8) -> WrapperLayout
@@ -45,6 +54,9 @@ fn no_layout(n: u8) -> WrapperLayout
         output_cells: [0u64; WIDTH_PLACES],
         bidir_cells: [0u64; WIDTH_PLACES],
         chain_of: [0usize; CHAINS_MAX],
+        si: 0,
+        so: 0,
+        cycles: Cycles(0),
     }
 }
 
@@ -86,16 +98,19 @@ fn flip_flops_of(lengths: [u64; WIDTH_PLACES]) -> [FlipFlops; WIDTH_PLACES]
     f
 }
 
-fn layout_of(d: Module, scan: bool, k: usize) -> WrapperLayout
-    requires { ⌜ Kept d × (0 < k) × (k ≤ widthMax) ⌝ }
-    ensures { λ r. ⌜ r ≡ layoutOf d (threaded d scan k) ⌝ }
+// The scan lengths come from the sum (document 02, item 4), so no cell is counted again.
+fn layout_of(d: Module, t: Test, k: usize, capture: u32) -> WrapperLayout
+    requires { ⌜ Kept d × (t .patterns ≤ patternsMax) × (0 < k) × (k ≤ widthMax) × (capture ≤ captureMax) ⌝ }
+    ensures { λ r. ⌜ r ≡ layoutOf capture d k t ⌝ }
 {
-    let t = thread_chains(order_of(d, scan), k);
-    let lengths = t.lengths;
-    let chain_of = t.places;
+    let threads = thread_chains(order_of(d, t.scan_use), k);
+    let lengths = threads.lengths;
+    let chain_of = threads.places;
     let with_bidirs = with_cells(lengths, k, d.bidirs as u64);
     let scan_in = with_cells(with_bidirs, k, d.inputs as u64);
     let scan_out = with_cells(with_bidirs, k, d.outputs as u64);
+    let scan = scan_at(d, lengths_of(d, t.scan_use), k);
+    let cycles = cycles_of(scan, t.patterns, capture);
     WrapperLayout {
         refusal: Refusal::none(),
         flip_flops: flip_flops_of(lengths),
@@ -103,10 +118,13 @@ fn layout_of(d: Module, scan: bool, k: usize) -> WrapperLayout
         output_cells: gained_by(with_bidirs, scan_out),
         bidir_cells: gained_by(lengths, with_bidirs),
         chain_of,
+        si: scan.si,
+        so: scan.so,
+        cycles: Cycles(cycles),
     }
 }
 
-// The layout of one test of a module at a width, which is used as it is. It is the same at each number of capture cycles.
+// The layout of one test of a module at a width, which is used as it is, with its longest scan-in and scan-out and the test's cycles.
 pub fn layout(s: Soc, module: u32, test: u32, width: Wires, capture: CaptureCycles) -> WrapperLayout
     ensures { λ r. ⌜ r ≡ layoutAnswer s «module» test (width .0) (capture .0) ⌝ }
 {
@@ -117,6 +135,6 @@ pub fn layout(s: Soc, module: u32, test: u32, width: Wires, capture: CaptureCycl
     let d = asked.module;
     match asked_test(d, test) {
         AskedTest::No(n) => no_layout(n),
-        AskedTest::Is(t) => layout_of(d, t.scan_use, width.0 as usize),
+        AskedTest::Is(t) => layout_of(d, t, width.0 as usize, capture.0),
     }
 }

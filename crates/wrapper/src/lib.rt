@@ -1,5 +1,5 @@
 // The wrapper layer (document 01, "The wrapper rule"; document 02, item 5): how a core's chains and cells are threaded through a wrapper
-// of some width, a test's time at some number of capture cycles, and a module's time and wires.
+// of some width, what a test with that layout takes at some number of capture cycles, and a module's time and wires.
 mod asked;
 mod chains;
 mod fit;
@@ -9,10 +9,8 @@ mod times;
 
 pub use asked::ModuleTime;
 pub use asked::ModuleTimes;
-pub use asked::TestTime;
 pub use asked::module_time;
 pub use asked::module_times;
-pub use asked::test_time;
 pub use laid::WrapperLayout;
 pub use laid::layout;
 pub use maxima::CAPTURE_MAX;

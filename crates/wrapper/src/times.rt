@@ -15,7 +15,7 @@ ghost use Prim.Native.Nat.{_≤_, _<_};
 ghost use Rattle.units.specs.Places.{anyOf};
 ghost use Rattle.soc.specs.Limits.{patternsMax};
 ghost use Rattle.soc.specs.Record.{testsOf};
-ghost use Rattle.wrapper.specs.Times.{testCycles, testTime, figure};
+ghost use Rattle.wrapper.specs.Times.{testCycles, figure};
 ghost use Rattle.wrapper.specs.WrapperAnswers.{widthMax, captureMax, timesOf};
 ghost use Rattle.wrapper.specs.Held.{Measured};
 ghost use Rattle.wrapper.specs.Scans.{scanOf, Short, Kept, plannedWith, sumScans, plannedCycles, scanIf, plainOf};
@@ -47,7 +47,7 @@ pub(crate) fn scan_at(d: Module, c: ChainLengths, k: usize) -> Scan
 }
 
 // (c + max(si, so)) × p + min(si, so), where the capture cycles of all patterns stand apart.
-fn cycles_of(s: Scan, patterns: u32, capture: u32) -> u64
+pub(crate) fn cycles_of(s: Scan, patterns: u32, capture: u32) -> u64
     requires { ⌜ Short s × (patterns ≤ patternsMax) × (capture ≤ captureMax) ⌝ }
     ensures { λ r. ⌜ r ≡ testCycles capture (s .si) (s .so) patterns ⌝ }
 {
@@ -176,16 +176,4 @@ pub(crate) fn times_of(d: Module, w: usize, capture: u32) -> Times
         u += 1;
     }
     Times { cycles, wires }
-}
-
-// The cycles of one test.
-pub(crate) fn test_cycles(d: Module, t: Test, k: usize, capture: u32) -> u64
-    requires { ⌜ Kept d × (t .patterns ≤ patternsMax) × (0 < k) × (k ≤ widthMax) × (capture ≤ captureMax) ⌝ }
-    ensures { λ r. ⌜ r ≡ testTime capture d k t ⌝ }
-{
-    cycles_of(
-        scan_at(d, lengths_of(d, t.scan_use), k),
-        t.patterns,
-        capture,
-    )
 }

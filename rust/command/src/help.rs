@@ -48,9 +48,10 @@ Single spaces, no blank lines, and where an option is 1 every figure, as -1 when
 pub const LAYOUT: &str = "\
 Lays out the wrapper of a module for one of its tests.
 
-Prints `si A so B cycles C` (longest scan-in and scan-out, and the cycles of the test), then `chain I ff F in N out M bidir K` for each \
-wrapper chain and `internal J chain I` for each internal chain of the module; chain 0 means that the test does not use it. A bidirectional \
-cell counts in both scan-in and scan-out of its chain, and not among its input and output cells.";
+Prints `si A so B cycles C` (longest scan-in and scan-out of this layout, and the cycles of the test with them), then \
+`chain I ff F in N out M bidir K` for each wrapper chain and `internal J chain I` for each internal chain of the module; chain 0 means \
+that the test does not use it. A bidirectional cell counts in both scan-in and scan-out of its chain, and not among its \
+input and output cells.";
 
 pub const TIME: &str = "\
 Tells a module's time on a bus, and its wires.

@@ -1,4 +1,4 @@
-//! `tallowwing layout`: the wrapper of a module for one of its tests.
+//! `tallowwing layout`: the wrapper of a module for one of its tests, and what the test takes with it, all of one answer.
 
 use std::path::Path;
 
@@ -24,29 +24,24 @@ pub fn run(file: &Path, overlay: Option<&Path>, asked: &Asked, form: Form) -> Re
     let &Asked { module, test, width, capture } = asked;
     let mut layout = [0; LAYOUT_BYTES];
     source.layout(module, test, width, capture, &mut layout)?;
-    let cycles = source.test_time(module, test, width, capture)?;
     let internal = source.soc()?.view().module(module).map_or(0, |module| module.chain_count());
-    let mut report = report(LayoutView::new(&layout), width, internal, cycles);
+    let mut report = report(LayoutView::new(&layout), width, internal);
     report.asked = vec![("module", module.into()), ("test", test.into()), ("width", width.into()), ("capture", capture.into())];
     output::print(report.printed(form).as_bytes())
 }
 
-fn report(layout: LayoutView, width: u32, internal: u32, cycles: u64) -> Report {
-    let chains: Vec<Chain> = (1..=width).map(|i| layout.chain(i)).collect();
-    let longest = |length: fn(&Chain) -> u32| chains.iter().map(length).max().unwrap_or(0);
-    let scan_in = longest(|chain| chain.flip_flops + chain.bidir_cells + chain.input_cells);
-    let scan_out = longest(|chain| chain.flip_flops + chain.bidir_cells + chain.output_cells);
-    let chain = |(i, chain): (u32, &Chain)| -> Row {
-        let &Chain { flip_flops, input_cells, output_cells, bidir_cells } = chain;
+fn report(layout: LayoutView, width: u32, internal: u32) -> Report {
+    let chain = |i: u32| -> Row {
+        let Chain { flip_flops, input_cells, output_cells, bidir_cells } = layout.chain(i);
         let figures = [("chain", i), ("ff", flip_flops), ("in", input_cells), ("out", output_cells), ("bidir", bidir_cells)];
         figures.map(|(name, figure)| (name, figure.into())).to_vec()
     };
     let internal_chain = |j: u32| -> Row { vec![("internal", j.into()), ("chain", layout.wrapper_chain(j).into())] };
     Report {
         asked: Vec::new(),
-        head: vec![("si", scan_in.into()), ("so", scan_out.into()), ("cycles", cycles.into())],
+        head: vec![("si", layout.si().into()), ("so", layout.so().into()), ("cycles", layout.cycles().into())],
         groups: vec![
-            Group { name: "chains", rows: (1..).zip(&chains).map(chain).collect() },
+            Group { name: "chains", rows: (1..=width).map(chain).collect() },
             Group { name: "internal", rows: (1..=internal).map(internal_chain).collect() },
         ],
     }

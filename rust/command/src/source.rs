@@ -47,14 +47,6 @@ impl Source {
         }
     }
 
-    pub fn test_time(&self, module: u32, test: u32, width: u32, capture: u32) -> Result<u64, Failure> {
-        let asked = [("MODULE", module), ("TEST", test), ("WIDTH", width), ("C", capture)];
-        match self {
-            Source::Text(soc) => soc.figure(library::test_time(soc.record(), module, test, width, capture), &asked),
-            Source::Pair(pair) => pair.figure(library::test_time_pair(pair.base(), pair.overlay(), module, test, width, capture), &asked),
-        }
-    }
-
     pub fn module_time(&self, module: u32, width: u32, capture: u32) -> Result<u64, Failure> {
         let asked = [("MODULE", module), ("WIDTH", width), ("C", capture)];
         match self {

@@ -10,7 +10,6 @@ pub enum Entry {
     ReadSoc,
     WriteSoc,
     Layout,
-    TestTime,
     ModuleTime,
     ModuleWires,
     Plan,
@@ -22,17 +21,15 @@ pub enum Entry {
     ModuleLines,
     WritePair,
     LayoutPair,
-    TestTimePair,
     ModuleTimePair,
     ModuleWiresPair,
     PlanPair,
 }
 
-pub const ENTRIES: [Entry; 19] = [
+pub const ENTRIES: [Entry; 17] = [
     Entry::ReadSoc,
     Entry::WriteSoc,
     Entry::Layout,
-    Entry::TestTime,
     Entry::ModuleTime,
     Entry::ModuleWires,
     Entry::Plan,
@@ -44,7 +41,6 @@ pub const ENTRIES: [Entry; 19] = [
     Entry::ModuleLines,
     Entry::WritePair,
     Entry::LayoutPair,
-    Entry::TestTimePair,
     Entry::ModuleTimePair,
     Entry::ModuleWiresPair,
     Entry::PlanPair,
@@ -59,7 +55,6 @@ impl Entry {
             Entry::ReadSoc => "read_soc",
             Entry::WriteSoc => "write_soc",
             Entry::Layout => "layout",
-            Entry::TestTime => "test_time",
             Entry::ModuleTime => "module_time",
             Entry::ModuleWires => "module_wires",
             Entry::Plan => "plan",
@@ -71,7 +66,6 @@ impl Entry {
             Entry::ModuleLines => "module_lines",
             Entry::WritePair => "write_pair",
             Entry::LayoutPair => "layout_pair",
-            Entry::TestTimePair => "test_time_pair",
             Entry::ModuleTimePair => "module_time_pair",
             Entry::ModuleWiresPair => "module_wires_pair",
             Entry::PlanPair => "plan_pair",
@@ -84,15 +78,7 @@ impl Entry {
 
     /// Whether bytes are lent for a result.
     pub fn writes(self) -> bool {
-        let figure_alone = [
-            Entry::TestTime,
-            Entry::ModuleTime,
-            Entry::ModuleWires,
-            Entry::ModuleLines,
-            Entry::TestTimePair,
-            Entry::ModuleTimePair,
-            Entry::ModuleWiresPair,
-        ];
+        let figure_alone = [Entry::ModuleTime, Entry::ModuleWires, Entry::ModuleLines, Entry::ModuleTimePair, Entry::ModuleWiresPair];
         !figure_alone.contains(&self)
     }
 }
@@ -134,7 +120,6 @@ impl Case {
             Entry::ReadSoc => library::read_soc(input, lent),
             Entry::WriteSoc => library::write_soc(input, lent),
             Entry::Layout => library::layout(input, a, b, c, d, lent),
-            Entry::TestTime => library::test_time(input, a, b, c, d),
             Entry::ModuleTime => library::module_time(input, a, b, c),
             Entry::ModuleWires => library::module_wires(input, a, b, c),
             Entry::Plan => library::plan(input, a, b, c, lent),
@@ -146,7 +131,6 @@ impl Case {
             Entry::ModuleLines => library::module_lines(base, overlay, a),
             Entry::WritePair => library::write_pair(base, overlay, lent),
             Entry::LayoutPair => library::layout_pair(base, overlay, a, b, c, d, lent),
-            Entry::TestTimePair => library::test_time_pair(base, overlay, a, b, c, d),
             Entry::ModuleTimePair => library::module_time_pair(base, overlay, a, b, c),
             Entry::ModuleWiresPair => library::module_wires_pair(base, overlay, a, b, c),
             Entry::PlanPair => library::plan_pair(base, overlay, a, b, c, lent),
@@ -161,7 +145,6 @@ impl Case {
             Entry::ReadSoc => entries::read_soc(input, lent),
             Entry::WriteSoc => entries::write_soc(input, lent),
             Entry::Layout => entries::layout(input, a, b, c, d, lent),
-            Entry::TestTime => entries::test_time(input, a, b, c, d),
             Entry::ModuleTime => entries::module_time(input, a, b, c),
             Entry::ModuleWires => entries::module_wires(input, a, b, c),
             Entry::Plan => entries::plan(input, a, b, c, lent),
@@ -173,7 +156,6 @@ impl Case {
             Entry::ModuleLines => pair_entries::module_lines_for_c(base, overlay, a),
             Entry::WritePair => pair_entries::write_pair(base, overlay, lent).map_err(for_c),
             Entry::LayoutPair => pair_entries::layout_pair(base, overlay, a, b, c, d, lent).map_err(for_c),
-            Entry::TestTimePair => pair_entries::test_time_pair(base, overlay, a, b, c, d).map_err(for_c),
             Entry::ModuleTimePair => pair_entries::module_time_pair(base, overlay, a, b, c).map_err(for_c),
             Entry::ModuleWiresPair => pair_entries::module_wires_pair(base, overlay, a, b, c).map_err(for_c),
             Entry::PlanPair => pair_entries::plan_pair(base, overlay, a, b, c, lent).map_err(for_c),

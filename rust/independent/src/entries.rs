@@ -17,11 +17,7 @@ pub fn write_soc(record: &[u8], text: &mut [u8]) -> Outcome {
 }
 
 pub fn layout(record: &[u8], module: u32, test: u32, width: u32, capture: u32, layout: &mut [u8]) -> Outcome {
-    give(&layout_bytes(&time::test_layout(&good_soc(record)?, module, test, width, capture)?), layout)
-}
-
-pub fn test_time(record: &[u8], module: u32, test: u32, width: u32, capture: u32) -> Outcome {
-    Ok(time::test_time(&good_soc(record)?, module, test, width, capture)?.0)
+    give(&layout_bytes(&time::layout_and_time(&good_soc(record)?, module, test, width, capture)?), layout)
 }
 
 pub fn module_time(record: &[u8], module: u32, width: u32, capture: u32) -> Outcome {

@@ -1,12 +1,12 @@
 //! The records as little-endian bytes, in the forms of the C interface.
 
-use crate::layout::Layout;
 use crate::plan::{Bus, Plan, Planned};
 use crate::soc::{Module, Soc, Test};
+use crate::time::LayoutAndTime;
 use crate::units::{Cycles, FlipFlops, Wires};
 
 pub const SOC_BYTES: usize = 16_688;
-pub const LAYOUT_BYTES: usize = 1_280;
+pub const LAYOUT_BYTES: usize = 1_304;
 pub const PLAN_BYTES: usize = 396;
 
 /// Takes numbers from the front of bytes.
@@ -104,14 +104,20 @@ fn put_module(bytes: &mut Vec<u8>, module: &Module) {
     }
 }
 
-pub fn layout_bytes(layout: &Layout) -> Vec<u8> {
+/// The rows of the layout, then scan-in, scan-out and cycles.
+pub fn layout_bytes(answer: &LayoutAndTime) -> Vec<u8> {
     let mut bytes = Vec::with_capacity(LAYOUT_BYTES);
+    let layout = &answer.layout;
     let flip_flops = layout.flip_flops.map(|length| length.0);
     for numbers in [flip_flops, layout.input_cells, layout.output_cells, layout.bidir_cells, layout.wrapper_chains] {
         for number in numbers {
             put(&mut bytes, number);
         }
     }
+    for scan in [answer.scan_in, answer.scan_out] {
+        bytes.extend_from_slice(&u64::from(scan.0).to_le_bytes());
+    }
+    put_cycles(&mut bytes, answer.cycles);
     bytes
 }
 

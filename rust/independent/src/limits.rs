@@ -24,5 +24,8 @@ pub const CAPTURE_IF_ABSENT: u32 = 1;
 pub const TEST_CYCLES: u64 = 4_672_957_972_476;
 pub const MODULE_CYCLES: u64 = 37_383_663_779_808;
 
+/// The most bytes of a plan file.
+pub const PLAN_FILE_BYTES: usize = 292;
+
 /// The most bytes of the line `Plan W B c`, its end included.
 pub const PLAN_LINE_BYTES: usize = 32;

@@ -21,11 +21,7 @@ pub fn write_pair(base: &[u8], overlay: &[u8], text: &mut [u8]) -> PairOutcome {
 }
 
 pub fn layout_pair(base: &[u8], overlay: &[u8], module: u32, test: u32, width: u32, capture: u32, layout: &mut [u8]) -> PairOutcome {
-    Ok(give(&layout_bytes(&time::test_layout(&pair::read(base, overlay)?.soc, module, test, width, capture)?), layout)?)
-}
-
-pub fn test_time_pair(base: &[u8], overlay: &[u8], module: u32, test: u32, width: u32, capture: u32) -> PairOutcome {
-    Ok(time::test_time(&pair::read(base, overlay)?.soc, module, test, width, capture)?.0)
+    Ok(give(&layout_bytes(&time::layout_and_time(&pair::read(base, overlay)?.soc, module, test, width, capture)?), layout)?)
 }
 
 pub fn module_time_pair(base: &[u8], overlay: &[u8], module: u32, width: u32, capture: u32) -> PairOutcome {

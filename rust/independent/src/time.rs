@@ -1,10 +1,20 @@
-//! Times: of a test at a width, and of a module on a bus of a width.
+//! Times: of a test at a width, with its layout, and of a module on a bus of a width.
 
 use crate::layout::{layout, layout_for, Layout};
 use crate::limits;
 use crate::refusal::{demand, Refusal};
 use crate::soc::{Module, Soc, Test};
-use crate::units::{Capture, Cycles, Wires};
+use crate::units::{Capture, Cycles, FlipFlops, Wires};
+
+/// What is answered of one test at a width, so that no layout can be shown beside a time of another width.
+#[derive(Clone, Debug, PartialEq, Eq)]
+pub struct LayoutAndTime {
+    pub layout: Layout,
+    /// The longest scan-in and the longest scan-out.
+    pub scan_in: FlipFlops,
+    pub scan_out: FlipFlops,
+    pub cycles: Cycles,
+}
 
 /// A module's time on a bus, and the fewest wires that give it.
 #[derive(Clone, Copy, Debug, PartialEq, Eq)]
@@ -13,18 +23,13 @@ pub struct ModuleTime {
     pub wires: Wires,
 }
 
-/// The cycles of one test of a module (refusals 7, 16, 13; the record is good).
-pub fn test_time(soc: &Soc, module: u32, test: u32, width: u32, capture: u32) -> Result<Cycles, Refusal> {
+/// The layout of one test of a module with its scan lengths and cycles (refusals 7, 16, 13; the record is good).
+pub fn layout_and_time(soc: &Soc, module: u32, test: u32, width: u32, capture: u32) -> Result<LayoutAndTime, Refusal> {
     let (width, capture) = (check_width(width)?, check_capture(capture)?);
     let (module, test) = asked_test(soc, module, test)?;
-    Ok(cycles(&layout(module, test, width), test.patterns, capture))
-}
-
-/// The layout of one test of a module (refusals 7, 16, 13; the record is good). Capture cycles are judged, and move no cell.
-pub fn test_layout(soc: &Soc, module: u32, test: u32, width: u32, capture: u32) -> Result<Layout, Refusal> {
-    let (width, _) = (check_width(width)?, check_capture(capture)?);
-    let (module, test) = asked_test(soc, module, test)?;
-    Ok(layout(module, test, width))
+    let layout = layout(module, test, width);
+    let (scan_in, scan_out) = (layout.scan_in(), layout.scan_out());
+    Ok(LayoutAndTime { scan_in, scan_out, cycles: cycles(&layout, test.patterns, capture), layout })
 }
 
 /// The time of a module on a bus of a width (refusals 7, 16, 13; the record is good).

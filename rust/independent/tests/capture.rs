@@ -5,7 +5,7 @@ mod common;
 use common::{soc, CORE_A, D695, MODULE_0};
 use independent::planner::plan;
 use independent::soc::Soc;
-use independent::time::{module_time, test_layout, test_time};
+use independent::time::{layout_and_time, module_time};
 use independent::units::Cycles;
 
 /// Core A with 10 patterns, and one more test of 7 that is not planned and does not scan.
@@ -22,19 +22,20 @@ fn core_a_with_capture_cycles() {
     for (width, figure) in (1..=5).zip([920, 470, 317, 240, 208]) {
         for capture in 1..=4 {
             let more = u64::from(capture) - 1;
-            assert_eq!(test_time(&core, 1, 1, width, capture), Ok(Cycles(figure + 10 * more)));
+            assert_eq!(layout_and_time(&core, 1, 1, width, capture).unwrap().cycles, Cycles(figure + 10 * more));
             assert_eq!(module_time(&core, 1, width, capture).unwrap().cycles, Cycles(figure + 10 * more));
         }
     }
     // 8 input cells and 11 output cells on one chain.
-    assert_eq!([1, 4].map(|capture| test_time(&core, 1, 2, 1, capture)), [Ok(Cycles(12 * 7 + 8)), Ok(Cycles(15 * 7 + 8))]);
+    assert_eq!([1, 4].map(|capture| layout_and_time(&core, 1, 2, 1, capture).unwrap().cycles.0), [12 * 7 + 8, 15 * 7 + 8]);
 }
 
 #[test]
 fn capture_cycles_move_no_cell_and_no_wire() {
     let core = core_a();
     for capture in 2..=4 {
-        assert_eq!(test_layout(&core, 1, 1, 4, capture), test_layout(&core, 1, 1, 4, 1));
+        let [one, more] = [1, capture].map(|capture| layout_and_time(&core, 1, 1, 4, capture).unwrap());
+        assert_eq!((one.layout, one.scan_in, one.scan_out), (more.layout, more.scan_in, more.scan_out));
     }
     let d695 = soc(D695);
     for module in 0..11 {

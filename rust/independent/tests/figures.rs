@@ -7,7 +7,7 @@ use independent::layout::layout;
 use independent::limits;
 use independent::planner::{plan, width_lists};
 use independent::soc::Soc;
-use independent::time::{figure, module_time, test_time};
+use independent::time::{figure, layout_and_time, module_time};
 use independent::units::{Capture, Cycles, FlipFlops, Wires};
 
 /// A text whose module 1 is the one of interest.
@@ -108,9 +108,9 @@ fn the_most_that_a_test_and_a_module_take() {
         "SocName largest\nTotalModules 2\nOptions Power 0 XY 0\n{MODULE_0}\
          Module 1 Level 1 Inputs 8191 Outputs 8191 Bidirs 8191 ScanChains 64 : {chains}\nModule 1 TotalTests 8\n{tests}"
     ));
-    assert_eq!(test_time(&largest, 1, 1, 1, 1), Ok(Cycles(4_672_907_640_831)));
+    assert_eq!(layout_and_time(&largest, 1, 1, 1, 1).unwrap().cycles, Cycles(4_672_907_640_831));
     assert_eq!(time_and_wires(&largest, 1, 1), (37_383_261_126_648, 1));
-    assert_eq!(test_time(&largest, 1, 1, 1, 4), Ok(Cycles(4_672_957_972_476)));
+    assert_eq!(layout_and_time(&largest, 1, 1, 1, 4).unwrap().cycles, Cycles(4_672_957_972_476));
     assert_eq!(module_time(&largest, 1, 1, 4).unwrap().cycles, Cycles(37_383_663_779_808));
     assert_eq!((limits::TEST_CYCLES, limits::MODULE_CYCLES), (4_672_957_972_476, 37_383_663_779_808));
 }

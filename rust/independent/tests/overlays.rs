@@ -11,7 +11,7 @@ use independent::planner::plan;
 use independent::refusal::Refusal;
 use independent::soc::Soc;
 use independent::soc_written::written;
-use independent::time::{module_time, test_layout, test_time};
+use independent::time::{layout_and_time, module_time};
 
 const LATE: &str = include_str!("../../../examples/d695-late.overlay");
 
@@ -119,12 +119,11 @@ fn entries_work_on_the_combined_record() {
     assert_eq!((&lent[..text.len()], lent[text.len()]), (text.as_bytes(), 7));
     let mut lent = vec![7; LAYOUT_BYTES];
     assert_eq!(layout_pair(base, overlay, 3, 1, 4, 2, &mut lent), Ok(LAYOUT_BYTES as u64));
-    assert_eq!(lent, independent::forms::layout_bytes(&test_layout(&soc, 3, 1, 4, 2).unwrap()));
+    assert_eq!(lent, independent::forms::layout_bytes(&layout_and_time(&soc, 3, 1, 4, 2).unwrap()));
     for (module, capture) in (1..11).zip([1, 2, 3, 4].into_iter().cycle()) {
         let time = module_time(&soc, module, 9, capture).unwrap();
         assert_eq!(module_time_pair(base, overlay, module, 9, capture), Ok(time.cycles.0));
         assert_eq!(module_wires_pair(base, overlay, module, 9, capture), Ok(time.wires.0.into()));
-        assert_eq!(test_time_pair(base, overlay, module, 1, 9, capture), Ok(test_time(&soc, module, 1, 9, capture).unwrap().0));
     }
     let mut lent = vec![7; PLAN_BYTES];
     assert_eq!(plan_pair(base, overlay, 16, 2, 3, &mut lent), Ok(PLAN_BYTES as u64));
@@ -413,10 +412,10 @@ fn what_an_entry_refuses_of_a_good_pair_is_of_neither_text() {
     // The overlay has a second test of module 1, and none of module 0.
     assert_eq!(layout_pair(base, late, 0, 2, 64, 1, &mut lent), of(13));
     assert_eq!(layout_pair(base, late, 1, 2, 64, 1, &mut lent[..LAYOUT_BYTES - 1]), of(11));
-    assert!(test_time_pair(base, late, 1, 2, 64, 4).is_ok());
-    assert_eq!(test_time_pair(base, late, 1, 3, 64, 4), of(13));
-    assert_eq!(test_time_pair(base, late, 1, 3, 64, 0), of(16));
-    assert_eq!(test_time_pair(base, late, 1, 3, 0, 0), of(7));
+    assert!(layout_pair(base, late, 1, 2, 64, 4, &mut vec![0; LAYOUT_BYTES]).is_ok());
+    assert_eq!(layout_pair(base, late, 1, 3, 64, 4, &mut lent), of(13));
+    assert_eq!(layout_pair(base, late, 1, 3, 64, 0, &mut lent), of(16));
+    assert_eq!(layout_pair(base, late, 1, 3, 0, 0, &mut lent), of(7));
     for (width, capture, number) in [(0, 0, 7), (65, 5, 7), (1, 0, 16), (64, 5, 16), (1, 1, 13), (64, 4, 13)] {
         assert_eq!(module_time_pair(base, late, 2, width, capture), of(number));
         assert_eq!(module_wires_pair(base, late, 2, width, capture), of(number));
@@ -445,7 +444,6 @@ fn every_entry_refuses_the_pair_first() {
             read_pair(base, late, &mut lent),
             write_pair(base, late, &mut lent),
             layout_pair(base, late, 99, 99, 99, 99, &mut lent),
-            test_time_pair(base, late, 99, 99, 99, 99),
             module_time_pair(base, late, 99, 99, 99),
             module_wires_pair(base, late, 99, 99, 99),
             plan_pair(base, late, 99, 99, 99, &mut lent),

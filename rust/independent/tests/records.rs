@@ -2,7 +2,7 @@
 
 mod common;
 
-use common::{full, soc, t1, MODULE_0};
+use common::{full, soc, t1, CORE_A, MODULE_0};
 use independent::entries;
 use independent::forms::{soc_bytes, soc_from, LAYOUT_BYTES, PLAN_BYTES, SOC_BYTES};
 use independent::refusal::Refusal;
@@ -96,14 +96,14 @@ fn lengths_and_flags_of_a_soc_record() {
     flag[36] = 2;
     for bad in [&good[..SOC_BYTES - 1], &longer, &flag, &[]] {
         assert_eq!(refusal(entries::write_soc(bad, &mut [0; 9])), 14);
-        assert_eq!(refusal(entries::test_time(bad, 0, 0, 0, 0)), 14);
+        assert_eq!(refusal(entries::layout(bad, 0, 0, 0, 0, &mut [])), 14);
         assert_eq!(refusal(entries::module_time(bad, 0, 0, 0)), 14);
         assert_eq!(refusal(entries::plan(bad, 0, 0, 0, &mut [])), 14);
     }
 }
 
 #[test]
-fn layout_and_time_refuse_14_then_7_then_16_then_13_then_11() {
+fn layouts_and_times_refuse_14_then_7_then_16_then_13_then_11() {
     let good = soc_bytes(&soc(&full()));
     let asked = [
         (9, 9, 0, 0, 7),
@@ -118,13 +118,30 @@ fn layout_and_time_refuse_14_then_7_then_16_then_13_then_11() {
     ];
     for (module, test, width, capture, number) in asked {
         assert_eq!(refusal(entries::layout(&good, module, test, width, capture, &mut [])), number);
-        assert_eq!(refusal(entries::test_time(&good, module, test, width, capture)), number);
     }
     assert_eq!(refusal(entries::layout(&good, 0, 1, 64, 4, &mut [7; LAYOUT_BYTES - 1])), 11);
     for (module, width, capture, number) in [(2, 65, 0, 7), (2, 64, 0, 16), (2, 1, 5, 16), (0, 1, 256, 16), (2, 64, 4, 13)] {
         assert_eq!(refusal(entries::module_time(&good, module, width, capture)), number);
         assert_eq!(refusal(entries::module_wires(&good, module, width, capture)), number);
     }
+}
+
+/// Core A as module 1 with 10 patterns, at width 4 with two capture cycles: scan-in 20, scan-out 21, (2 + 21) × 10 + 20 cycles.
+#[test]
+fn places_of_the_layout() {
+    let text = format!(
+        "SocName a\nTotalModules 2\nOptions Power 0 XY 0\n{MODULE_0}Module 1 Level 1 {CORE_A}\nModule 1 TotalTests 1\n\
+         Module 1 Test 1 ScanUse 1 TamUse 1 Patterns 10\n"
+    );
+    let mut lent = [7; LAYOUT_BYTES + 1];
+    assert_eq!(entries::layout(&soc_bytes(&soc(&text)), 1, 1, 4, 2, &mut lent), Ok(1_304));
+    let row = |offset: usize| [0, 1, 2, 3, 4].map(|place| u32::from_le_bytes(lent[offset + 4 * place..][..4].try_into().unwrap()));
+    // 12 and 6, 12 and 6, 8 and 8, 8 and 6 and 6.
+    assert_eq!((row(0), row(1_024)), ([18, 18, 16, 20, 0], [1, 2, 3, 4, 3]));
+    assert_eq!((row(256), row(512), row(768)), ([2, 2, 4, 0, 0], [3, 3, 5, 0, 0], [0; 5]));
+    let number = |offset: usize| u64::from_le_bytes(lent[offset..offset + 8].try_into().unwrap());
+    assert_eq!([1_280, 1_288, 1_296].map(number), [20, 21, (2 + 21) * 10 + 20]);
+    assert_eq!(lent[LAYOUT_BYTES], 7);
 }
 
 #[test]

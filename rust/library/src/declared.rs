@@ -31,16 +31,6 @@ extern "C" {
         layout: *mut u8,
         layout_len: usize,
     ) -> u64;
-    pub fn tallowwing_test_time_pair(
-        base: *const u8,
-        base_len: usize,
-        overlay: *const u8,
-        overlay_len: usize,
-        module: u32,
-        test: u32,
-        width: u32,
-        capture: u32,
-    ) -> u64;
     pub fn tallowwing_module_time_pair(
         base: *const u8,
         base_len: usize,
@@ -81,7 +71,6 @@ extern "C" {
         layout: *mut u8,
         layout_len: usize,
     ) -> u64;
-    pub fn tallowwing_test_time(record: *const u8, record_len: usize, module: u32, test: u32, width: u32, capture: u32) -> u64;
     pub fn tallowwing_module_time(record: *const u8, record_len: usize, module: u32, width: u32, capture: u32) -> u64;
     pub fn tallowwing_module_wires(record: *const u8, record_len: usize, module: u32, width: u32, capture: u32) -> u64;
     pub fn tallowwing_plan(

@@ -13,7 +13,7 @@ pub use wrapped::*;
 
 /// Bytes of a SOC record, a layout and a plan record, and the most that a SOC text, a plan file and a listing can have.
 pub const SOC_BYTES: usize = 16_688;
-pub const LAYOUT_BYTES: usize = 1_280;
+pub const LAYOUT_BYTES: usize = 1_304;
 pub const PLAN_BYTES: usize = 396;
 pub const TEXT_MAX: usize = 61_440;
 pub const PLAN_FILE_MAX: usize = 292;

@@ -45,13 +45,16 @@ pub mod test {
     pub const BYTES: usize = 16;
 }
 
-/// A layout: offsets of its five rows, each of 64 numbers of 4 bytes.
+/// A layout: offsets of its five rows, each of 64 numbers of 4 bytes, and of three numbers of 8 bytes.
 pub mod layout {
     pub const FLIP_FLOPS: usize = 0;
     pub const INPUT_CELLS: usize = 256;
     pub const OUTPUT_CELLS: usize = 512;
     pub const BIDIR_CELLS: usize = 768;
     pub const WRAPPER_CHAINS: usize = 1_024;
+    pub const SI: usize = 1_280;
+    pub const SO: usize = 1_288;
+    pub const CYCLES: usize = 1_296;
 }
 
 /// A plan record: offsets from its front.
@@ -101,7 +104,7 @@ mod tests {
     fn records_are_filled_to_their_end() {
         assert_eq!(soc::module(soc::MODULES), SOC_BYTES);
         assert_eq!(module::test(9), module::BYTES);
-        assert_eq!(layout::WRAPPER_CHAINS + 64 * 4, LAYOUT_BYTES);
+        assert_eq!((layout::WRAPPER_CHAINS + 64 * 4, layout::CYCLES + 8), (layout::SI, LAYOUT_BYTES));
         assert_eq!((plan::bus(4), plan::module(12)), (plan::MODULES, PLAN_BYTES));
     }
 }

@@ -93,6 +93,21 @@ impl<'a> LayoutView<'a> {
         self.number(places::layout::WRAPPER_CHAINS, j)
     }
 
+    /// The longest scan-in of its wrapper chains.
+    pub fn si(self) -> u64 {
+        u64_at(self.0, places::layout::SI)
+    }
+
+    /// The longest scan-out of its wrapper chains.
+    pub fn so(self) -> u64 {
+        u64_at(self.0, places::layout::SO)
+    }
+
+    /// What the test takes with this layout, at the capture cycles that were asked for.
+    pub fn cycles(self) -> u64 {
+        u64_at(self.0, places::layout::CYCLES)
+    }
+
     fn number(self, row: usize, from_1: u32) -> u32 {
         u32_at(self.0, row + 4 * (from_1 as usize - 1))
     }

@@ -36,12 +36,6 @@ pub fn layout_pair(base: &[u8], overlay: &[u8], module: u32, test: u32, width: u
     Answer::from_number(unsafe { tallowwing_layout_pair(b, base.len(), o, overlay.len(), module, test, width, capture, into, room) })
 }
 
-/// The cycles of one test of a module of a pair at a width.
-pub fn test_time_pair(base: &[u8], overlay: &[u8], module: u32, test: u32, width: u32, capture: u32) -> Answer {
-    let (b, o) = (base.as_ptr(), overlay.as_ptr());
-    Answer::from_number(unsafe { tallowwing_test_time_pair(b, base.len(), o, overlay.len(), module, test, width, capture) })
-}
-
 /// The time, in cycles, of a module of a pair on a bus of a width.
 pub fn module_time_pair(base: &[u8], overlay: &[u8], module: u32, width: u32, capture: u32) -> Answer {
     let (b, o) = (base.as_ptr(), overlay.as_ptr());
@@ -65,15 +59,11 @@ pub fn write_soc(record: &[u8], text: &mut [u8]) -> Answer {
     Answer::from_number(unsafe { tallowwing_write_soc(record.as_ptr(), record.len(), text.as_mut_ptr(), text.len()) })
 }
 
-/// Lays out the wrapper of a module for one of its tests at a width. The layout is the same at each number of capture cycles.
+/// Lays out the wrapper of a module for one of its tests at a width, with the layout's longest scan-in and scan-out and the test's cycles,
+/// with so many capture cycles for each pattern.
 pub fn layout(record: &[u8], module: u32, test: u32, width: u32, capture: u32, layout: &mut [u8]) -> Answer {
     let (r, l) = (record.as_ptr(), layout.as_mut_ptr());
     Answer::from_number(unsafe { tallowwing_layout(r, record.len(), module, test, width, capture, l, layout.len()) })
-}
-
-/// The cycles of one test of a module at a width, with so many capture cycles for each pattern.
-pub fn test_time(record: &[u8], module: u32, test: u32, width: u32, capture: u32) -> Answer {
-    Answer::from_number(unsafe { tallowwing_test_time(record.as_ptr(), record.len(), module, test, width, capture) })
 }
 
 /// A module's time, in cycles, on a bus of a width.

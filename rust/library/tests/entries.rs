@@ -28,7 +28,10 @@ fn times_of_t1() {
     let (record, mut lent) = (record(), [0; LAYOUT_BYTES]);
     assert_eq!(layout(&record, 1, 1, 2, 1, &mut lent), Answer::Figure(LAYOUT_BYTES as u64));
     assert_eq!(lent[..8], [10, 0, 0, 0, 0, 0, 0, 0]);
-    assert_eq!(test_time(&record, 2, 1, 2, 1), Answer::Figure(13));
+    assert_eq!(layout(&record, 2, 1, 2, 1, &mut lent), Answer::Figure(LAYOUT_BYTES as u64));
+    let laid = LayoutView::new(&lent);
+    assert_eq!((laid.si(), laid.so(), laid.cycles()), (2, 1, 13));
+    assert_eq!(layout(&record, 2, 1, 2, 1, &mut lent[..LAYOUT_BYTES - 1]), refused(11));
     assert_eq!(module_time(&record, 2, 4, 1), Answer::Figure(9));
     assert_eq!(module_wires(&record, 2, 4, 1), Answer::Figure(3));
 }
@@ -36,18 +39,19 @@ fn times_of_t1() {
 #[test]
 fn more_capture_cycles_take_longer() {
     let (record, mut lent) = (record(), [0; PLAN_BYTES]);
-    let taken = |capture| [test_time(&record, 2, 1, 2, capture), module_time(&record, 2, 4, capture), module_wires(&record, 2, 4, capture)];
-    assert_eq!(taken(2), [17, 13, 3].map(Answer::Figure));
-    assert_eq!(taken(4), [25, 21, 3].map(Answer::Figure));
-    assert_eq!([taken(0), taken(5)], [[refused(16); 3]; 2]);
+    let taken = |capture| [module_time(&record, 2, 4, capture), module_wires(&record, 2, 4, capture)];
+    assert_eq!(taken(2), [13, 3].map(Answer::Figure));
+    assert_eq!(taken(4), [21, 3].map(Answer::Figure));
+    assert_eq!([taken(0), taken(5)], [[refused(16); 2]; 2]);
     for (capture, time) in [(2, 70), (4, 80)] {
         assert!(plan(&record, 4, 2, capture, &mut lent).figure().is_some());
         assert_eq!(PlanView::new(&lent).time(), time);
     }
     assert_eq!((plan(&record, 4, 2, 5, &mut lent), plan(&record, 4, 4, 5, &mut lent)), (refused(16), refused(8)));
     let mut layouts = [[0; LAYOUT_BYTES]; 2];
-    assert!((1..).zip(&mut layouts).all(|(capture, lent)| layout(&record, 1, 1, 2, capture, lent).figure().is_some()));
-    assert_eq!(layouts[0], layouts[1]);
+    assert!((1..).zip(&mut layouts).all(|(capture, lent)| layout(&record, 2, 1, 2, capture, lent).figure().is_some()));
+    assert_eq!(layouts[0][..places::layout::CYCLES], layouts[1][..places::layout::CYCLES]);
+    assert_eq!(layouts.map(|lent| LayoutView::new(&lent).cycles()), [13, 17]);
     assert_eq!(layout(&record, 9, 1, 2, 0, &mut layouts[0]), refused(16));
 }
 
@@ -65,7 +69,6 @@ fn entries_on_a_pair_answer_as_on_its_record() {
     let (mut laid, mut due) = ([0; LAYOUT_BYTES], [0; LAYOUT_BYTES]);
     assert_eq!(layout_pair(T1, LATE, 1, 1, 2, 1, &mut laid), layout(&both, 1, 1, 2, 1, &mut due));
     assert_eq!(laid, due);
-    assert_eq!(test_time_pair(T1, LATE, 1, 1, 1, 1), Answer::Figure(125));
     assert_eq!(module_time_pair(T1, LATE, 1, 4, 1), Answer::Figure(125));
     assert_eq!(module_wires_pair(T1, LATE, 1, 4, 1), Answer::Figure(1));
     let (mut planned, mut alone) = ([0; PLAN_BYTES], [0; PLAN_BYTES]);
@@ -85,7 +88,6 @@ fn a_refusal_of_a_pair_has_the_text_below_its_line() {
     assert_eq!(plan_pair(T1, LATE, 4, 2, 1, &mut lent[..9]), of(11, 0, 0));
     assert_eq!(write_pair(T1, &other, &mut lent), of(15, 0, 2));
     assert_eq!(layout_pair(T1, LATE, 1, 2, 1, 1, &mut lent), of(13, 0, 0));
-    assert_eq!(test_time_pair(&[], LATE, 1, 1, 1, 1), of(6, 0, 1));
     assert_eq!(module_time_pair(T1, &[], 1, 1, 1), of(6, 0, 2));
     assert_eq!(module_wires_pair(T1, LATE, 3, 1, 1), of(13, 0, 0));
     assert_eq!(lent, [7; PLAN_BYTES]);
@@ -147,7 +149,6 @@ fn empty_slices_are_refused_and_no_more() {
     assert_eq!(read_soc(T1, &mut []), refused(11));
     assert_eq!(write_soc(&[], &mut []), refused(14));
     assert_eq!(layout(&[], 0, 0, 0, 0, &mut []), refused(14));
-    assert_eq!(test_time(&[], 0, 0, 0, 0), refused(14));
     assert_eq!(module_time(&[], 0, 0, 0), refused(14));
     assert_eq!(module_wires(&[], 0, 0, 0), refused(14));
     assert_eq!(plan(&[], 0, 0, 0, &mut []), refused(14));

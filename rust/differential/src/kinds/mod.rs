@@ -6,8 +6,8 @@ mod plans;
 mod records;
 pub mod texts;
 
+use independent::forms::{LAYOUT_BYTES, PLAN_BYTES, SOC_BYTES};
 use independent::limits;
-use tallowwing_library::{LAYOUT_BYTES, PLAN_BYTES, PLAN_FILE_MAX, SOC_BYTES};
 
 use crate::case::{Case, Entry};
 use crate::random::Random;
@@ -36,8 +36,7 @@ pub const KINDS: &[Kind] = &[
     Kind { name: "SOC record, damaged", share: 150, make: records::soc_damaged, must_occur: &[0, 14] },
     Kind { name: "SOC record, numbers at their limits", share: 100, make: records::soc_limits, must_occur: &[0, 14] },
     Kind { name: "SOC record, module 0 with TamUse 1", share: 20, make: records::soc_module_0, must_occur: &[14] },
-    Kind { name: "layout", share: 70, make: records::layout, must_occur: &[0, 7, 11, 13, 16] },
-    Kind { name: "test time", share: 50, make: records::test_time, must_occur: &[0, 7, 13, 16] },
+    Kind { name: "layout", share: 120, make: records::layout, must_occur: &[0, 7, 11, 13, 16] },
     Kind { name: "module time", share: 40, make: records::module_time, must_occur: &[0, 7, 13, 16] },
     Kind { name: "module wires", share: 40, make: records::module_wires, must_occur: &[0, 7, 13, 16] },
     Kind { name: "plan, small", share: 90, make: plans::plan_small, must_occur: &[0, 7, 8, 9, 10, 11, 16] },
@@ -100,7 +99,7 @@ fn exact_room(case: &Case) -> usize {
         Entry::Plan | Entry::PlanPair | Entry::ReadPlan => PLAN_BYTES,
         _ => {
             let mut lent = vec![0; limits::TEXT_BYTES];
-            case.ask_independent(&case.input, &mut lent).figure().map_or(PLAN_FILE_MAX, |length| length as usize)
+            case.ask_independent(&case.input, &mut lent).figure().map_or(limits::PLAN_FILE_BYTES, |length| length as usize)
         }
     }
 }

@@ -39,8 +39,7 @@ fn changed(soc: &Soc, random: &mut Random) -> Soc {
 }
 
 /// What is asked of the combined description, beside the description itself.
-const ASKED: &[Entry] =
-    &[Entry::WritePair, Entry::LayoutPair, Entry::TestTimePair, Entry::ModuleTimePair, Entry::ModuleWiresPair, Entry::PlanPair];
+const ASKED: &[Entry] = &[Entry::WritePair, Entry::LayoutPair, Entry::ModuleTimePair, Entry::ModuleWiresPair, Entry::PlanPair];
 
 /// Every entry that takes a pair judges it in the same way.
 fn case(soc: &Soc, base: &[u8], overlay: &[u8], random: &mut Random) -> Case {
@@ -49,7 +48,7 @@ fn case(soc: &Soc, base: &[u8], overlay: &[u8], random: &mut Random) -> Case {
     let numbers = match entry {
         Entry::ReadPair | Entry::WritePair => [0; 4],
         Entry::ModuleLines => [module, 0, 0, 0],
-        Entry::LayoutPair | Entry::TestTimePair => [module, test, any_width(random), any_capture(random)],
+        Entry::LayoutPair => [module, test, any_width(random), any_capture(random)],
         Entry::PlanPair => {
             let [wires, limit, capture] = any_plan_numbers(random);
             [wires, limit, capture, 0]

@@ -39,11 +39,11 @@ pub fn soc_limits(random: &mut Random) -> Case {
 
 /// Every entry that takes a SOC record judges it in the same way.
 fn handed_to_any(record: Vec<u8>, random: &mut Random) -> Case {
-    let entry = *random.pick(&[Entry::WriteSoc, Entry::Layout, Entry::TestTime, Entry::ModuleTime, Entry::ModuleWires, Entry::Plan]);
+    let entry = *random.pick(&[Entry::WriteSoc, Entry::Layout, Entry::ModuleTime, Entry::ModuleWires, Entry::Plan]);
     let capture = any_capture(random);
     let numbers = match entry {
         Entry::WriteSoc => [0; 4],
-        Entry::Layout | Entry::TestTime => [random.within(0, 2), random.within(0, 2), random.within(0, 9), capture],
+        Entry::Layout => [random.within(0, 2), random.within(0, 2), random.within(0, 9), capture],
         Entry::Plan => [random.within(0, 6), random.within(0, 3), capture, 0],
         _ => [random.within(0, 2), random.within(0, 9), capture, 0],
     };
@@ -86,19 +86,11 @@ pub fn any_test(record: &[u8], number: u32, random: &mut Random) -> u32 {
     }
 }
 
-pub fn asks_a_test(entry: Entry, random: &mut Random) -> Case {
+pub fn layout(random: &mut Random) -> Case {
     let record = any_record(random);
     let module = any_module(&record, random);
     let test = any_test(&record, module.min(39), random);
-    Case::new(entry, [module, test, any_width(random), any_capture(random)], record)
-}
-
-pub fn layout(random: &mut Random) -> Case {
-    asks_a_test(Entry::Layout, random)
-}
-
-pub fn test_time(random: &mut Random) -> Case {
-    asks_a_test(Entry::TestTime, random)
+    Case::new(Entry::Layout, [module, test, any_width(random), any_capture(random)], record)
 }
 
 pub fn asks_a_module(entry: Entry, random: &mut Random) -> Case {

@@ -1,5 +1,5 @@
--- `c_forms::layout_form::layout_bytes` meets its contract: the five lists are put one behind another, and a layout has all its bytes
--- since its arrays have all their places. Assumes nothing.
+-- `c_forms::layout_form::layout_bytes` meets its contract: the five lists and the time are put one behind another, and a layout has all its
+-- bytes since its arrays have all their places. Assumes nothing.
 use borrow.Author.Needs.{needs}
 use native.Mathlib.Omega.{arith}
 use mathlib.Core.Path.{_≡_}
@@ -54,8 +54,12 @@ slice-aggregate-put-words-3 c = search needs
 
 put-words-requires-3 : tie.Need-put-words-requires-3
 put-words-requires-3 c κs =
-    let s = start (c .before .before .before .before .before .before .before .before .before .before .before .before .before .before) in
-    omega (arith, inputs s, outputs s, bidirs s)
+    let k3 = c .before .before .before .before in
+    let k2 = k3 .before .before .before .before .before in
+    let k1 = k2 .before .before .before .before .before in
+    let e = k1 .before .before .before .before .before .before .before in
+    let s = start k1 in
+    omega (arith, e .if1 .left, inputs s, outputs s, bidirs s, k1 .put-lengths, k2 .put-words, k3 .put-words2)
 
 put-chains-requires : tie.Need-put-chains-requires
 put-chains-requires c κs =
@@ -67,13 +71,36 @@ put-chains-requires c κs =
     let s = start k1 in
     omega (arith, e .if1 .left, inputs s, outputs s, bidirs s, k1 .put-lengths, k2 .put-words, k3 .put-words2, k4 .put-words3)
 
+put-time-requires : tie.Need-put-time-requires
+put-time-requires c κs =
+    let k5 = c .before .before .before in
+    let k4 = k5 .before .before .before .before in
+    let k3 = k4 .before .before .before .before .before in
+    let k2 = k3 .before .before .before .before .before in
+    let k1 = k2 .before .before .before .before .before in
+    let e = k1 .before .before .before .before .before .before .before in
+    let s = start k1 in
+    omega (
+      arith,
+      e .if1 .left,
+      inputs s,
+      outputs s,
+      bidirs s,
+      k1 .put-lengths,
+      k2 .put-words,
+      k3 .put-words2,
+      k4 .put-words3,
+      k5 .put-chains,
+    )
+
 same-length : tie.Need-same-length
 same-length c = search needs
 
 returns-2 : tie.Need-returns-2
 unfolding layoutBytes
 returns-2 c =
-    let k5 = c .before .before in
+    let k6 = c .before .before in
+    let k5 = k6 .before .before .before .before in
     let k4 = k5 .before .before .before .before in
     let k3 = k4 .before .before .before .before .before in
     let k2 = k3 .before .before .before .before .before in
@@ -84,7 +111,8 @@ returns-2 c =
     let o = put-words (s .args .l .«output_cells») (outputs s) (k3 .put-words2 .ensures) in
     let b = put-words (s .args .l .«bidir_cells») (bidirs s) (k4 .put-words3 .ensures) in
     let cells = then-put (omega arith) (then-put (omega arith) (then-put (omega arith) (k1 .put-lengths .ensures) i) o) b in
-    all-put (layoutBytes (s .args .l)) (s .args .buf .now) (e .if1 .left) (then-put (omega arith) cells (k5 .put-chains .ensures))
+    all-put (layoutBytes (s .args .l)) (s .args .buf .now) (e .if1 .left)
+    (then-put (omega arith) (then-put (omega arith) cells (k5 .put-chains .ensures)) (k6 .put-time .ensures))
 
 pub layout-bytes-spec : {M : Type 1} → statement M
 layout-bytes-spec =
@@ -99,5 +127,6 @@ layout-bytes-spec =
     slice-aggregate-put-words-3
     put-words-requires-3
     put-chains-requires
+    put-time-requires
     same-length
     returns-2)

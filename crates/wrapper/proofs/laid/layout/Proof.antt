@@ -3,21 +3,18 @@
 use borrow.Author.Needs.{needs}
 use Prim.Native.Nat.{ℕ}
 use mathlib.Core.Path.{_≡_, sym, _∙_}
-use Rattle.soc.specs.declared.record.Test.{Test}
 use Rattle.soc.specs.declared.record.Module.{Module}
-use Rattle.wrapper.specs.Chains.{threaded}
 use Rattle.wrapper.specs.WrapperAnswers.{askedTest, layoutOf, noLayout, layoutAnswer}
+use Rattle.wrapper.specs.Held.{foundTest}
+use Rattle.wrapper.specs.declared.asked.AskedTest.the-variants.{Is}
 use Rattle.wrapper.specs.declared.laid.WrapperLayout.{WrapperLayout}
-use Rattle.wrapper.proofs.TimeLaws.{module-refused, module-found, Found, found-kept, test-refused, test-found}
+use Rattle.wrapper.proofs.TimeLaws.{module-refused, module-found, Found, found-kept, test-refused, test-found, found-few}
 use Rattle.wrapper.proofs.laid.layout.Statement.{statement}
 use Rattle.wrapper.proofs.laid.layout.Tie as tie
 
--- the answer for a test, and for a module
-abbrev laid : ℕ → Module → Test → WrapperLayout
-laid w d t = layoutOf d (threaded d (t .«scan_use») w)
-
-abbrev tested : ℕ → ℕ → Module → WrapperLayout
-tested i w d = askedTest d i noLayout (laid w d)
+-- the answer for a module
+abbrev tested : ℕ → ℕ → ℕ → Module → WrapperLayout
+tested i w c d = askedTest d i noLayout (layoutOf c d w)
 
 found : (c : tie.Else1) → Found (c .before .before .asked-module .result .«module») (c .before .before .before .args .width .0)
     (c .before .before .before .args .capture .0)
@@ -29,14 +26,15 @@ found c =
 
 asked : (c : tie.Else1) →
     let a = c .before .before in
-    tested (a .before .args .test) (a .before .args .width .0) (a .asked-module .result .«module») ≡ layoutAnswer (a .before .args .s)
-    (a .before .args .«module») (a .before .args .test) (a .before .args .width .0) (a .before .args .capture .0)
+    tested (a .before .args .test) (a .before .args .width .0) (a .before .args .capture .0) (a .asked-module .result .«module»)
+    ≡ layoutAnswer (a .before .args .s) (a .before .args .«module») (a .before .args .test) (a .before .args .width .0)
+    (a .before .args .capture .0)
 unfolding layoutAnswer
 asked c =
     let a = c .before .before in
     let s = a .before .args in
-    module-found (s .s) (s .«module») (s .width .0) (s .capture .0) noLayout (tested (s .test) (s .width .0)) (a .asked-module .result)
-    (a .asked-module .ensures) (c .if1 .left)
+    module-found (s .s) (s .«module») (s .width .0) (s .capture .0) noLayout (tested (s .test) (s .width .0) (s .capture .0))
+    (a .asked-module .result) (a .asked-module .ensures) (c .if1 .left)
 
 asked-module-requires : tie.Need-asked-module-requires
 asked-module-requires c κs = search needs
@@ -50,8 +48,8 @@ returns c =
     let a = c .before .before .before in
     let s = a .before .args in
     c .no-layout .ensures
-    ∙ module-refused (s .s) (s .«module») (s .width .0) (s .capture .0) noLayout (tested (s .test) (s .width .0)) (a .asked-module .result)
-    (a .asked-module .ensures) (c .before .if1 .taken)
+    ∙ module-refused (s .s) (s .«module») (s .width .0) (s .capture .0) noLayout (tested (s .test) (s .width .0) (s .capture .0))
+    (a .asked-module .result) (a .asked-module .ensures) (c .before .if1 .taken)
 
 asked-test-requires : tie.Need-asked-test-requires
 asked-test-requires c κs = found (c .before) .kept .tests
@@ -68,10 +66,16 @@ enum-known-t c = search needs
 cast-layout-of : tie.Need-cast-layout-of
 cast-layout-of c = search needs
 
+-- the test that is found
+is : (c : tie.After-t) → foundTest (c .before .before .before .before .before .before .asked-module .result .«module»)
+    (c .before .before .before .before .before .before .before .args .test) ≡ Is (c .t .given .0 .0)
+is c = sym (c .before .before .asked-test .ensures) ∙ c .t .given .1
+
 layout-of-requires : tie.Need-layout-of-requires
 layout-of-requires c κs =
-    let f = found (c .before .before .before .before .before .before) in
-    (f .kept, f .some, f .most)
+    let t = c .before .before in
+    let f = found (t .before .before .before .before) in
+    (f .kept, found-few _ _ _ (f .kept) (is t), f .some, f .most, f .capture)
 
 returns-2 : tie.Need-returns-2
 returns-2 c =
@@ -82,7 +86,7 @@ returns-2 c =
     let s = a .before .args in
     let d = a .asked-module .result .«module» in
     c .no-layout2 .ensures
-    ∙ test-refused d (s .test) noLayout (laid (s .width .0) d) _ (sym (t .asked-test .ensures) ∙ n .n .given .1)
+    ∙ test-refused d (s .test) noLayout (layoutOf (s .capture .0) d (s .width .0)) _ (sym (t .asked-test .ensures) ∙ n .n .given .1)
     ∙ asked e
 
 returns-3 : tie.Need-returns-3
@@ -94,7 +98,7 @@ returns-3 c =
     let s = a .before .args in
     let d = a .asked-module .result .«module» in
     c .layout-of .ensures
-    ∙ test-found d (s .test) noLayout (laid (s .width .0) d) _ (sym (t .asked-test .ensures) ∙ n .t .given .1)
+    ∙ test-found d (s .test) noLayout (layoutOf (s .capture .0) d (s .width .0)) _ (sym (t .asked-test .ensures) ∙ n .t .given .1)
     ∙ asked e
 
 pub layout-spec : {M : Type 1} → statement M
