@@ -8,7 +8,7 @@
  *
  * An answer is one number:
  *
- *   answer % 256   0, or the number of the refusal (1 to 17)
+ *   answer % 256   0, or the number of the refusal (1 to 18)
  *   answer / 256   of a refusal its line, counted from 1, or 0 where it has none; else the figure that the function gives
  *
  * A refused call leaves every lent byte as it was. One that is not refused writes its result at the front of the bytes lent for it and
@@ -23,7 +23,7 @@
  *    5 a module or test number, a level or an X/Y pair breaks its rule
  *    6 the text ends while lines are still due
  *    7 the number of wires is not from 1 to 64
- *    8 the limit of buses is not from 1 to 3
+ *    8 the limit of buses is not from 1 to 3, or to 8 for the planner with a spending limit
  *    9 no module is planned: none has a test with TamUse 1
  *   10 more than 12 modules are planned
  *   11 the bytes lent for the result are too few
@@ -33,6 +33,7 @@
  *   15 the overlay does not fit the base: another name or options, a module that is not there, or another level
  *   16 the number of capture cycles is not from 1 to 4
  *   17 a test of module 0 has TamUse 1: its terminals are the SOC's pins and need no access mechanism
+ *   18 the number of tries is not from 1 to 1,099,511,627,776
  */
 #ifndef TALLOWWING_H
 #define TALLOWWING_H
@@ -62,18 +63,27 @@ extern "C" {
 #define TALLOWWING_LAYOUT_BYTES 1304
 
 /*
- * A plan record, 396 bytes. Spare places are 0.
+ * A plan record, 1,212 bytes. Spare places are 0.
  *
  *   offset  0  W (4); 4 B (4); 8 number of buses (4); 12 number of modules (4); 16 time (8)
- *   offset 24 + 12 i  bus i + 1, of 3: width (4), busy (8)
- *   offset 60 + 28 j  planned module, of 12, ascending: number (4), bus (4), wires (4), cycles (8), start (8), the cycle at which it begins
+ *   offset 24 + 12 i  bus i + 1, of 8: width (4), busy (8)
+ *   offset 120 + 28 j  planned module, of 39, ascending: number (4), bus (4), wires (4), cycles (8), start (8), the cycle at which it
+ *                      begins
  */
-#define TALLOWWING_PLAN_BYTES 396
+#define TALLOWWING_PLAN_BYTES 1212
+
+/*
+ * What the planner with a spending limit found, 1,228 bytes.
+ *
+ *   offset  0  1 where the search was finished, else 0 (4); 4 1 where a plan is known, else 0 (4); 8 the tries spent (8)
+ *   offset 16  the plan record of the best plan met; where no plan is known it is all 0
+ */
+#define TALLOWWING_BUDGET_BYTES 1228
 
 /* The most bytes that a SOC text, a plan file and a listing can have. */
 #define TALLOWWING_TEXT_MAX 61440
-#define TALLOWWING_PLAN_FILE_MAX 292
-#define TALLOWWING_LISTING_MAX 2048
+#define TALLOWWING_PLAN_FILE_MAX 892
+#define TALLOWWING_LISTING_MAX 6144
 
 /* Reads a SOC text to its record. Refusals 1 to 6 and 17 with their line, then 11. The figure is 16,688, the bytes written. */
 uint64_t tallowwing_read_soc(const uint8_t *text, size_t text_len, uint8_t *record, size_t record_len);
@@ -122,24 +132,30 @@ uint64_t tallowwing_module_time(const uint8_t *record, size_t record_len, uint32
 /* A module's wires on a bus of a width: the fewest that give its time. Refusals 14, 7, 16, 13. */
 uint64_t tallowwing_module_wires(const uint8_t *record, size_t record_len, uint32_t module, uint32_t width, uint32_t capture);
 
-/* Finds the first plan of least time for W wires and limit B. Refusals 14, 7, 8, 16, 9, 10, 11. The figure is 396, the bytes written. */
+/* Finds the first plan of least time for W wires and limit B. Refusals 14, 7, 8, 16, 9, 10, 11. The figure is 1,212, the bytes written. */
 uint64_t tallowwing_plan(
     const uint8_t *record, size_t record_len, uint32_t wires, uint32_t limit, uint32_t capture, uint8_t *plan, size_t plan_len);
 
+/* Searches for a plan within a number of tries, with up to 8 buses and as many planned modules as a text can have. A plan that is known is
+ * the best one met; where the search was finished it is the first plan of least time, that of tallowwing_plan where both take the input.
+ * Refusals 14, 7, 8, 16, 9, 18, 11. The figure is 1,228, the bytes written. */
+uint64_t tallowwing_budget(const uint8_t *record, size_t record_len, uint32_t wires, uint32_t limit, uint32_t capture, uint64_t tries,
+                           uint8_t *found, size_t found_len);
+
 /* Writes the plan file of a plan record. Refusals 12, 11. The figure is the number of bytes written. A plan record of another length than
- * 396 bytes is not good: 12. */
+ * 1,212 bytes is not good: 12. */
 uint64_t tallowwing_write_plan(const uint8_t *plan, size_t plan_len, uint8_t *file, size_t file_len);
 
 /* Reads a plan file, the part used and no more, to its record. Refusals 12, 11; a file of the old 12-byte module
- * records is 12. The figure is 396, the bytes written. */
+ * records is 12. The figure is 1,212, the bytes written. */
 uint64_t tallowwing_read_plan(const uint8_t *file, size_t file_len, uint8_t *plan, size_t plan_len);
 
-/* Lists a plan record: the line `wires W limit B time T`, then its buses and modules as in a listing. Refusals 12, 11; 2,048 bytes are
+/* Lists a plan record: the line `wires W limit B time T`, then its buses and modules as in a listing. Refusals 12, 11; 6,144 bytes are
  * always enough. The figure is the number of bytes written. */
 uint64_t tallowwing_show(const uint8_t *plan, size_t plan_len, uint8_t *listing, size_t listing_len);
 
 /* Lists the plan for a line `Plan W B` and the SOC text behind it, or the line `refused N line L`. A third number on the line is the number
- * of capture cycles, 1 if it is absent. Refusal 11 alone; 2,048 bytes are always enough. The figure is the number of bytes written. */
+ * of capture cycles, 1 if it is absent. Refusal 11 alone; 6,144 bytes are always enough. The figure is the number of bytes written. */
 uint64_t tallowwing_listing(const uint8_t *input, size_t input_len, uint8_t *listing, size_t listing_len);
 
 #ifdef __cplusplus

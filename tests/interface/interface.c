@@ -79,7 +79,7 @@ int main(void)
     static uint8_t soc[TALLOWWING_SOC_BYTES], written[TALLOWWING_TEXT_MAX], layout[TALLOWWING_LAYOUT_BYTES];
     static uint8_t plan[TALLOWWING_PLAN_BYTES], again[TALLOWWING_PLAN_BYTES], file[TALLOWWING_PLAN_FILE_MAX];
     static uint8_t input[11 + sizeof text], listed[TALLOWWING_LISTING_MAX];
-    static uint8_t pair[TALLOWWING_SOC_BYTES];
+    static uint8_t pair[TALLOWWING_SOC_BYTES], found[TALLOWWING_BUDGET_BYTES];
     static const char other[] =
         "SocName t1\nTotalModules 1\nOptions Power 0 XY 0\n"
         "Module 0 Level 0 Inputs 0 Outputs 0 Bidirs 0 ScanChains 0 :\nModule 0 TotalTests 0\n";
@@ -148,10 +148,22 @@ int main(void)
     expect("read a longer plan", tallowwing_read_plan(file, 81, again, sizeof again), 12, 0);
     expect("read a plan of 12-byte records", tallowwing_read_plan(old, sizeof old, again, sizeof again), 12, 0);
     expect("plan on one bus", tallowwing_plan(soc, sizeof soc, 4, 1, 1, again, sizeof again), 0, TALLOWWING_PLAN_BYTES);
-    expect_bytes("start of the second module", again + 60 + 28 + 20, start, sizeof start);
+    expect_bytes("start of the second module", again + 120 + 28 + 20, start, sizeof start);
+    expect("budget", tallowwing_budget(soc, sizeof soc, 4, 2, 1, 1000, found, sizeof found), 0, TALLOWWING_BUDGET_BYTES);
+    expect_bytes("finished, with a plan", found, "\1\0\0\0\1\0\0\0", 8);
+    expect_bytes("the plan of both planners", found + 16, plan, sizeof plan);
+    expect("budget of one try", tallowwing_budget(soc, sizeof soc, 4, 2, 1, 1, found, sizeof found), 0, TALLOWWING_BUDGET_BYTES);
+    memset(again, 0, sizeof again);
+    expect_bytes("unfinished, without a plan", found, "\0\0\0\0\0\0\0\0\1\0\0\0\0\0\0\0", 16);
+    expect_bytes("no plan", found + 16, again, sizeof again);
+    expect("eight buses", tallowwing_budget(soc, sizeof soc, 4, 8, 1, 1, found, sizeof found), 0, TALLOWWING_BUDGET_BYTES);
+    expect("nine buses", tallowwing_budget(soc, sizeof soc, 4, 9, 1, 0, found, sizeof found), 8, 0);
+    expect("budget of 0", tallowwing_budget(soc, sizeof soc, 4, 2, 1, 0, found, sizeof found), 18, 0);
+    expect("budget over the limit", tallowwing_budget(soc, sizeof soc, 4, 2, 1, 1099511627777u, found, sizeof found), 18, 0);
+    expect("budget, no room", tallowwing_budget(soc, sizeof soc, 4, 2, 1, 9, found, sizeof found - 1), 11, 0);
     file[0] = 0;
     expect("plan file of module 0", tallowwing_read_plan(file, 80, again, sizeof again), 12, 0);
-    plan[60] = 0;
+    plan[120] = 0;
     expect("plan record of module 0", tallowwing_write_plan(plan, sizeof plan, file, sizeof file), 12, 0);
     memcpy(input, "Plan 4 2\n", 9);
     memcpy(input + 9, text, length);

@@ -1,6 +1,7 @@
 -- Laws of how many bytes each part of a record has, where its arrays have the lengths that their types say. Assumes nothing.
 use Prim.Native.Nat.{ℕ, _*_}
 use mathlib.Core.Path.{_≡_}
+use mathlib.Core.Bool.{Bool}
 use lib.ListN.{length, length-append}
 use Rattle.buffer.specs.Rows.{each}
 use Rattle.buffer.proofs.LittleLaws.{little-length}
@@ -26,6 +27,7 @@ use Rattle.c_forms.specs.SocForm.{lengthBytes, moduleBytes, headBytes, s
 use Rattle.c_forms.specs.PlanForm.{busStride, placedStride, busesFrom, planLength, busBytes}
 use Rattle.c_forms.specs.PlanForm.{placedBytes, countBytes, planBytes}
 use Rattle.c_forms.specs.LayoutForm.{layoutLength, timeBytes, layoutBytes}
+use Rattle.c_forms.specs.BudgetForm.{foundFrom, budgetLength, stateWords, spentBytes, budgetBytes}
 use Rattle.c_forms.proofs.WordLaws.{words-length}
 
 pub test-length : (t : Test) → length (testBytes t) ≡ testLength
@@ -79,6 +81,14 @@ plan-length p w =
     let m : length (each placedBytes (p .modules)) ≡ placedStride * modulePlaces = each-length placedBytes placedStride
     (p .modules) modulePlaces noPlaced (w .modules) (λ i h. placed-length _) in
     simp (length-append, count-length, buses-length p w, m)
+
+spent-length : (f k : Bool) (t : ℕ) → length (spentBytes f k t) ≡ foundFrom
+unfolding spentBytes
+spent-length f k t = simp (length-append, little-length, words-length)
+
+pub budget-length : (f k : Bool) (t : ℕ) (p : BusPlan) → Whole p → length (budgetBytes f k t p) ≡ budgetLength
+unfolding budgetBytes
+budget-length f k t p w = simp (length-append, spent-length f k t, plan-length p w)
 
 time-length : (si so cycles : ℕ) → length (timeBytes si so cycles) ≡ longLength * 3
 unfolding timeBytes

@@ -1,4 +1,4 @@
--- A plan record as bytes: 396 of them. Each bus and each planned module has its place, spare ones included.
+-- A plan record as bytes: 1,212 of them. Each bus and each planned module has its place, spare ones included.
 use Prim.Native.Nat.{ℕ, _+_, _*_}
 use mathlib.Core.Bool.{cond}
 use mathlib.Core.List.{List, [], _∷_, _++_}
@@ -26,7 +26,7 @@ startFrom = cyclesFrom + longLength
 abbrev pub placedStride : ℕ
 placedStride = startFrom + longLength
 
--- in a record, where its time begins, its buses and its planned modules, and how many bytes it has: 16, 24, 60 and 396
+-- in a record, where its time begins, its buses and its planned modules, and how many bytes it has: 16, 24, 120 and 1,212
 abbrev pub timeFrom : ℕ
 timeFrom = wordLength * 4
 

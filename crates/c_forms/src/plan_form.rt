@@ -42,7 +42,7 @@ fn put_bus(buf: &mut [u8], at: usize, b: Bus) -> usize
     buffer::put_u64(&mut *buf, a, b.busy.0)
 }
 
-fn put_buses(buf: &mut [u8], at: usize, p: BusPlan) -> usize
+pub(crate) fn put_buses(buf: &mut [u8], at: usize, p: BusPlan) -> usize
     requires { ⌜ at + busStride * busPlaces ≤ length (now buf) ⌝ }
     ensures { λ r. ⌜ PutOf (busStride * busPlaces) (each busBytes (p .buses)) at (now (buf .entry)) (now (buf .exit)) r ⌝ }
 {
@@ -66,7 +66,7 @@ fn put_placed(buf: &mut [u8], at: usize, m: PlacedModule) -> usize
     buffer::put_u64(&mut *buf, b, m.start.0)
 }
 
-fn put_modules(buf: &mut [u8], at: usize, p: BusPlan) -> usize
+pub(crate) fn put_modules(buf: &mut [u8], at: usize, p: BusPlan) -> usize
     requires { ⌜ at + placedStride * modulePlaces ≤ length (now buf) ⌝ }
     ensures { λ r. ⌜ PutOf (placedStride * modulePlaces) (each placedBytes (p .modules)) at (now (buf .entry)) (now (buf .exit)) r ⌝ }
 {
@@ -80,7 +80,7 @@ fn put_modules(buf: &mut [u8], at: usize, p: BusPlan) -> usize
     e
 }
 
-fn put_counts(buf: &mut [u8], at: usize, p: BusPlan) -> usize
+pub(crate) fn put_counts(buf: &mut [u8], at: usize, p: BusPlan) -> usize
     requires { ⌜ at + busesFrom ≤ length (now buf) ⌝ }
     ensures { λ r. ⌜ PutOf busesFrom (countBytes p) at (now (buf .entry)) (now (buf .exit)) r ⌝ }
 {

@@ -20,6 +20,8 @@ use Rattle.wrapper.specs.WrapperAnswers.{layoutAnswer, moduleTimeAnswer}
 use Rattle.wrapper.proofs.WrapperAnswerLaws.{layout-told, module-time-told}
 use Rattle.plan.specs.PlanAnswers.{planAnswer}
 use Rattle.plan.proofs.PlannerLaws.{answer-told}
+use Rattle.budget.specs.BudgetAnswers.{budgetAnswer}
+use Rattle.budget.proofs.EntryLaws as budgetlaws
 use Rattle.plan_file.specs.Files as planfile
 use Rattle.plan_file.proofs.FileAnswerLaws as filelaws
 use Rattle.listing.specs.Listing.{listingAnswer, showAnswer}
@@ -29,6 +31,7 @@ use Rattle.c_forms.specs.PlanForm.{planIn, planBytes}
 use Rattle.c_forms.specs.LayoutForm.{layoutBytes}
 use Rattle.c_interface.specs.Codes.{aboveMax, above, code, given, givenUnless, readCode, writeCode, layoutCode}
 use Rattle.c_interface.specs.Codes.{moduleTimeCode, moduleWiresCode, planCode, writePlanCode, readPlanCode, listingCode, showCode}
+use Rattle.c_interface.specs.Codes.{foundBytes, budgetCode}
 use Rattle.c_interface.specs.Apart.{Says, roomed}
 
 module _ (n v : ℕ) (small : n < 256) where
@@ -45,7 +48,7 @@ record Small (r : Refusal) : Type 0 where
   number : r .number < 256
   line : r .line < aboveMax
 
-told-small : (r : Refusal) → r .number ≤ 17 → r .line ≡ 0 → Small r
+told-small : (r : Refusal) → r .number ≤ 18 → r .line ≡ 0 → Small r
 told-small r h e = record { number = omega arith; line = omega arith }
 
 code-says : (r : Refusal) (v : ℕ) → Small r → v < aboveMax → Says (code r v) r v
@@ -121,6 +124,14 @@ module _ (buf : List ℕ) (short : length buf < aboveMax) where
       let l = answer-told (socIn b) W B c in
       given-says (planAnswer (socIn b) W B c .refusal) (planBytes (planAnswer (socIn b) W B c .plan))
       (told-small (planAnswer (socIn b) W B c .refusal) (omega (arith, l .0)) (l .1))
+
+  pub budget-says : (b : List ℕ) (W B c budget : ℕ) →
+      let a = budgetAnswer (socIn b) W B c budget in
+      Says (budgetCode b W B c budget buf) (roomed (a .refusal) (foundBytes a) buf) (length (foundBytes a))
+  budget-says b W B c budget =
+      let l = budgetlaws.answer-told (socIn b) W B c budget in
+      given-says (budgetAnswer (socIn b) W B c budget .refusal) (foundBytes (budgetAnswer (socIn b) W B c budget))
+      (told-small (budgetAnswer (socIn b) W B c budget .refusal) (l .0) (l .1))
 
 -- times and wires
 module _ (b : List ℕ) (m w c : ℕ) where

@@ -1,7 +1,7 @@
 -- What the functions for other languages answer: one number, whose lowest byte is the refusal's number or 0, above it the refusal's line, or the figure
 -- that the function gives.
 use Prim.Native.Nat.{ℕ, _+_, _*_, _%_}
-use mathlib.Core.Bool.{Bool, cond}
+use mathlib.Core.Bool.{Bool, true, false, cond}
 use mathlib.Core.List.{List}
 use lib.ListN.{length}
 use lib.Dec.{leb, eqb}
@@ -20,11 +20,16 @@ use Rattle.pair_entries.specs.TimedPair.{moduleTimePair}
 use Rattle.pair_entries.specs.WrittenPair.{writePair}
 use Rattle.wrapper.specs.WrapperAnswers.{layoutAnswer, moduleTimeAnswer}
 use Rattle.plan.specs.PlanAnswers.{planAnswer}
+use Rattle.budget.specs.BudgetAnswers.{budgetAnswer}
+use Rattle.budget.specs.declared.answer.BudgetAnswer.{BudgetAnswer}
+use Rattle.budget.specs.declared.answer.Ended.{Ended}
+use Rattle.budget.specs.declared.answer.Ended.the-variants as ended
 use Rattle.plan_file.specs.Files as planfile
 use Rattle.listing.specs.Listing.{listingAnswer, listingLeaves, showAnswer, showLeaves}
 use Rattle.c_forms.specs.SocForm.{socIn, socBytes}
 use Rattle.c_forms.specs.PlanForm.{planIn, planBytes}
 use Rattle.c_forms.specs.LayoutForm.{layoutBytes}
+use Rattle.c_forms.specs.BudgetForm.{budgetBytes}
 
 -- what stands above the lowest byte has 56 bits
 abbrev pub aboveMax : ℕ
@@ -82,6 +87,20 @@ planCode b W B c buf = givenUnless (planAnswer (socIn b) W B c .refusal) (planBy
 
 abbrev pub planHeld : List ℕ → ℕ → ℕ → ℕ → List ℕ → List ℕ
 planHeld b W B c buf = heldUnless (planAnswer (socIn b) W B c .refusal) (planBytes (planAnswer (socIn b) W B c .plan)) buf
+
+-- what the planner with a spending limit found
+unfoldable pub isFinished : Ended → Bool
+isFinished ended.Finished = true
+isFinished ended.Unfinished = false
+
+abbrev pub foundBytes : BudgetAnswer → List ℕ
+foundBytes a = budgetBytes (isFinished (a .ended)) (a .known) (a .tries) (a .plan)
+
+abbrev pub budgetCode : List ℕ → ℕ → ℕ → ℕ → ℕ → List ℕ → ℕ
+budgetCode b W B c budget buf = givenUnless (budgetAnswer (socIn b) W B c budget .refusal) (foundBytes (budgetAnswer (socIn b) W B c budget)) buf
+
+abbrev pub budgetHeld : List ℕ → ℕ → ℕ → ℕ → ℕ → List ℕ → List ℕ
+budgetHeld b W B c budget buf = heldUnless (budgetAnswer (socIn b) W B c budget .refusal) (foundBytes (budgetAnswer (socIn b) W B c budget)) buf
 
 abbrev pub writePlanCode : List ℕ → List ℕ → ℕ
 writePlanCode b buf = code (planfile.writeAnswer (planIn b) buf .refusal) (planfile.writeAnswer (planIn b) buf .len)

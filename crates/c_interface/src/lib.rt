@@ -1,5 +1,6 @@
 // Every entry of the library for callers in other languages, on numbers and bytes (include/tallowwing.h). An answer is one number: its lowest byte
 // is the refusal's number or 0, above it stands the refusal's line, or the figure that the function gives.
+use budget::Ended;
 use pair::Meant;
 use units::CaptureCycles;
 use units::Refusal;
@@ -8,6 +9,7 @@ ghost use mathlib.Core.Path.{_≡_};
 ghost use Rattle.c_interface.specs.Codes.{above, code, bytesCode, readCode, readHeld, writeCode, writeHeld, layoutCode, layoutHeld, moduleTimeCode, moduleWiresCode, planCode, planHeld, writePlanCode, writePlanHeld, readPlanCode, readPlanHeld, listingCode, listingHeld, showCode, showHeld, meantNumber, pairRefused, readPairCode, readPairHeld, partFigure, moduleLinesCode};
 ghost use Rattle.c_interface.specs.Codes.{pairFigure, writePairCode, layoutPairCode, layoutPairHeld};
 ghost use Rattle.c_interface.specs.Codes.{moduleTimePairCode, moduleWiresPairCode, planPairCode, planPairHeld};
+ghost use Rattle.c_interface.specs.Codes.{isFinished, budgetCode, budgetHeld};
 ghost use Rattle.pair_entries.specs.WrittenPair.{writePairLeaves};
 
 // v has 56 bits: a line and a length stay far below, and a time has at most 46.
@@ -109,6 +111,43 @@ pub extern "C" fn tallowwing_plan(
         return code_of(answer.refusal, 0);
     }
     code_of_bytes(c_forms::plan_bytes(answer.plan, &mut *into))
+}
+
+fn is_finished(e: Ended) -> bool
+    ensures { λ r. ⌜ r ≡ isFinished e ⌝ }
+{
+    match e {
+        Ended::Finished => true,
+        Ended::Unfinished => false,
+    }
+}
+
+#[no_mangle]
+pub extern "C" fn tallowwing_budget(
+    soc: &[u8],
+    wires: u32,
+    limit: u32,
+    capture: u32,
+    tries: u64,
+    into: &mut [u8],
+) -> u64
+    ensures { λ r. ⌜ (r ≡ budgetCode (now (soc .entry)) wires limit capture tries (now (into .entry)))
+        × (now (into .exit) ≡ budgetHeld (now (soc .entry)) wires limit capture tries (now (into .entry))) ⌝ }
+{
+    let s = c_forms::soc_in(soc);
+    let answer = budget::plan_within(s, Wires(wires), limit, CaptureCycles(capture), tries);
+    if answer.refusal.number != 0 {
+        return code_of(answer.refusal, 0);
+    }
+    let ended = answer.ended;
+    let finished = is_finished(ended);
+    code_of_bytes(c_forms::budget_bytes(
+        finished,
+        answer.known,
+        answer.tries,
+        answer.plan,
+        &mut *into,
+    ))
 }
 
 #[no_mangle]

@@ -89,7 +89,7 @@ listed input = writtenLines (printed (asked input) (textBehind input))
 
 -- a buffer of this length is always enough
 abbrev pub listingMax : ℕ
-listingMax = 2048
+listingMax = 6144
 
 unfoldable pub listingAnswer : List ℕ → List ℕ → Written
 listingAnswer input buf = written (listed input) buf

@@ -20,7 +20,7 @@ ghost use Rattle.listing.specs.Listing.{planPrinted, textPrinted, listed
 ghost use Rattle.listing.specs.Rest.{wanted, Printed};
 
 // A buffer of this length is always enough.
-pub const LISTING_MAX: usize = 2048;
+pub const LISTING_MAX: usize = 6144;
 
 // What is printed for a record.
 fn put_answer(buf: &mut [u8], s: Soc, wires: u32, limit: u32, capture: u32) -> usize

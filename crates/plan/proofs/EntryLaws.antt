@@ -25,9 +25,9 @@ use Rattle.plan_rules.proofs.Demand.{best-first}
 use Rattle.plan_rules.proofs.BoundLaws.{width-in}
 use Rattle.plan_record.specs.Record.{busPlaces, modulePlaces, noBus, noPlaced, busRecords, moduleRecords, planRecord}
 use Rattle.plan_record.proofs.RecordLaws.{length-records}
-use Rattle.plan_search.specs.Search.{searchBuses, searchModules, tableTime, IsTable, foundOf}
-use Rattle.plan.specs.PlanAnswers.{limitMax, timeIn, wiresIn, bestFor, recordOf}
-use Rattle.plan.specs.Records.{IsFound, busesIs, placedAt, placedFrom, modulesIs}
+use Rattle.plan_search.specs.Search.{foundBuses, foundModules, tableTime, AreTimes, foundOf}
+use Rattle.plan.specs.PlanAnswers.{timeIn, wiresIn, bestFor, recordOf}
+use Rattle.plan.specs.Records.{IsFound, busesIs, placedAt, placedFrom, modulesIs, recordFrom}
 use Rattle.plan.specs.Tables.{TablesAre}
 use Rattle.plan_record.specs.declared.record.Bus.{Bus}
 use Rattle.plan_record.specs.declared.record.BusPlan.{BusPlan}
@@ -123,11 +123,11 @@ module _ (p : Planned) (t : Tables) (f : Found) where
 
 module _ {W B n : ℕ} {p : Plan} (r : IsPlan W B n p) where
   -- what was found keeps the limits of a plan
-  found-is : (time : ℕ → ℕ → ℕ) → W ≤ widthMax → B ≤ limitMax → IsFound (foundOf time p) n
+  found-is : (time : ℕ → ℕ → ℕ) → W ≤ widthMax → B ≤ busPlaces → IsFound (foundOf time p) n
   found-is time h k = record {
     few = omega (arith, r .limit);
-    wide = λ b l. rw (padded-at searchBuses 0 (p .widths) b) (width-in r b l .0, omega (arith, width-in r b l .1));
-    placed = λ i l. rw (padded-at searchModules 0 (p .buses) i) (r .low i l, r .high i l);
+    wide = λ b l. rw (padded-at foundBuses 0 (p .widths) b) (width-in r b l .0, omega (arith, width-in r b l .1));
+    placed = λ i l. rw (padded-at foundModules 0 (p .buses) i) (r .low i l, r .high i l);
   }
 
   module _ {c : ℕ} {s : Soc} {t : Tables} (a : TablesAre c s W n t) where
@@ -135,8 +135,8 @@ module _ {W B n : ℕ} {p : Plan} (r : IsPlan W B n p) where
         ≡ padded busPlaces noBus (busRecords (p .widths) (busies (timeIn c s) (p .buses) 1 (p .widths)))
     unfolding busesIs
     buses-are =
-        let e : take n (padded searchModules 0 (p .buses)) ≡ p .buses = rw (← r .placed) (padded-take searchModules 0 (p .buses)) in
-        rw (padded-take searchBuses 0 (p .widths), e, busies-same (a .cycles-are) r)
+        let e : take n (padded foundModules 0 (p .buses)) ≡ p .buses = rw (← r .placed) (padded-take foundModules 0 (p .buses)) in
+        rw (padded-take foundBuses 0 (p .widths), e, busies-same (a .cycles-are) r)
 
     -- the times of the modules before module i on a bus, over the tables
     starts-are : (time : ℕ → ℕ → ℕ) (i b : ℕ) → i < n →
@@ -145,7 +145,7 @@ module _ {W B n : ℕ} {p : Plan} (r : IsPlan W B n p) where
         → busyFrom (tableTime (t .cycles)) 0 b w (take i (foundOf time p .buses)) ≡ busyFrom (timeIn c s) 0 b w (take i (p .buses))
     unfolding padded
     starts-are time i b h k l =
-        let spare : List ℕ = replicate (searchModules - length (p .buses)) 0 in
+        let spare : List ℕ = replicate (foundModules - length (p .buses)) 0 in
         let e : take i (p .buses ++ spare) ≡ take i (p .buses) = take-append-le i (p .buses) spare (omega (arith, r .placed)) in
         rw e (busy-same (a .cycles-are) 0 b (getD (p .widths) (b - 1) 0) (take i (p .buses)) (omega (arith, length-take i (p .buses))) k l)
 
@@ -162,7 +162,7 @@ module _ {W B n : ℕ} {p : Plan} (r : IsPlan W B n p) where
         let k : i < n = omega arith in
         rw (
           padded-at modulesMax 0 (plannedOf s) i,
-          padded-at searchBuses 0 (p .widths) (b - 1),
+          padded-at foundBuses 0 (p .widths) (b - 1),
           a .cycles-are i (getD (p .widths) (b - 1) 0) k (v .0) (v .1),
           a .wires-are i (getD (p .widths) (b - 1) 0) k (v .0) (v .1),
           starts-are time i b k (v .0) (v .1),
@@ -174,42 +174,38 @@ module _ {W B n : ℕ} {p : Plan} (r : IsPlan W B n p) where
         ≡ padded modulePlaces noPlaced (moduleRecords (plannedOf s) (timeIn c s) (wiresIn c s) (p .widths) (p .buses) 0 (p .buses))
     unfolding modulesIs
     modules-are time count =
-        let e : take (length (plannedOf s)) (padded searchModules 0 (p .buses)) ≡ p .buses = rw (← count, ← r .placed) (padded-take searchModules 0 (p .buses)) in
+        let e : take (length (plannedOf s)) (padded foundModules 0 (p .buses)) ≡ p .buses = rw (← count, ← r .placed) (padded-take foundModules 0 (p .buses)) in
         rw (e, modules-from time 0 (p .buses) (omega (arith, r .placed)) (λ j g. (r .low j (omega (arith, r .placed)), r .high j (omega (arith, r .placed)))))
 
--- a table for n modules is one for fewer
-pub table-fewer : {t : List ℕ} {n i : ℕ} → IsTable t n → i ≤ n → IsTable t i
-table-fewer a h = record {
-  few = omega (arith, a .few);
-  long = omega (arith, a .long);
-  times = a .times;
-  falls = λ j v w k. a .falls j v w (omega arith);
-}
+-- a table of the times of n modules is one of fewer
+pub times-fewer : {t : List ℕ} {n i : ℕ} → AreTimes t n → i ≤ n → AreTimes t i
+times-fewer a h = record { few = omega (arith, a .few); long = omega (arith, a .long); times = a .times }
 
--- the plan that the search finds over the tables of the planned modules
-module _ {c : ℕ} {s : Soc} {W B : ℕ} {t : Tables} {p : Planned} {f : Found}
-    (a : TablesAre c s W (length (plannedOf s)) t) (numbers : p ≡ plannedIs (plannedOf s))
-    (found : f ≡ foundOf (tableTime (t .cycles)) (bestPlan (tableTime (t .cycles)) W B (p .count)))
-    (some : 1 ≤ W) (narrow : W ≤ widthMax) (limit : 1 ≤ B) (few : B ≤ limitMax) where
+-- a plan that a search found over the tables of the planned modules: it keeps the limits of a record, and its record is the plan's
+module _ {c : ℕ} {s : Soc} {W B : ℕ} {t : Tables} {p : Planned} {q : Plan} {f : Found}
+    (a : TablesAre c s W (length (plannedOf s)) t) (numbers : p ≡ plannedIs (plannedOf s)) (is : IsPlan W B (length (plannedOf s)) q)
+    (found : f ≡ foundOf (tableTime (t .cycles)) q) (narrow : W ≤ widthMax) (few : B ≤ busPlaces) where
   count-is : p .count ≡ length (plannedOf s)
   count-is = ap (λ x. x .count) numbers
 
-  best-plan : IsPlan W B (length (plannedOf s)) (bestFor c s W B)
+  pub found-fits : IsFound f (p .count)
+  found-fits = rw (found, count-is) (found-is is (tableTime (t .cycles)) narrow few)
+
+  pub record-is : recordFrom p t W B f ≡ recordOf c s W B q
+  unfolding planRecord
+  record-is =
+      let ms = modules-are is a (tableTime (t .cycles)) refl in
+      rw (found, numbers, buses-are is a, ms, time-same (a .cycles-are) is)
+
+-- the plan that the first planner's search finds
+module _ {c : ℕ} {s : Soc} {W B : ℕ} {t : Tables} {p : Planned} {f : Found}
+    (a : TablesAre c s W (length (plannedOf s)) t) (numbers : p ≡ plannedIs (plannedOf s))
+    (found : f ≡ foundOf (tableTime (t .cycles)) (bestPlan (tableTime (t .cycles)) W B (p .count)))
+    (some : 1 ≤ W) (limit : 1 ≤ B) where
+  pub best-plan : IsPlan W B (length (plannedOf s)) (bestFor c s W B)
   unfolding bestFor
   best-plan = best-first (timeOf (timeIn c s)) W B (length (plannedOf s)) some limit .is-plan
 
-  found-best : f ≡ foundOf (tableTime (t .cycles)) (bestFor c s W B)
+  pub found-best : f ≡ foundOf (tableTime (t .cycles)) (bestFor c s W B)
   unfolding bestFor
-  found-best = found ∙ rw (count-is, best-same (a .cycles-are) B)
-
-  pub found-fits : IsFound f (p .count)
-  found-fits = rw (found-best, count-is) (found-is best-plan (tableTime (t .cycles)) narrow few)
-
-  pub record-is : {buses : List Bus} {modules : List PlacedModule} → buses ≡ busesIs (tableTime (t .cycles)) f (p .count) → modules ≡ modulesIs p t f
-      → _≡_ {A = BusPlan}
-      (record { wires = wires W; limit = B; «bus_count» = f .count; buses = buses; «module_count» = p .count; modules = modules; time = f .time })
-      (recordOf c s W B (bestFor c s W B))
-  unfolding planRecord
-  record-is u v =
-      let ms = modules-are best-plan a (tableTime (t .cycles)) refl in
-      rw (u, v, found-best, numbers, buses-are best-plan a, ms, time-same (a .cycles-are) best-plan)
+  found-best = found ∙ rw (ap (λ x. x .count) numbers, best-same (a .cycles-are) B)

@@ -1,6 +1,7 @@
 -- What document 01 demands of the planner's answer ("The plan"), of the answer itself: the plan that its record holds is the first of least
 -- time, there is no other, its time is what its own buses come to, and its modules are the planned ones; and when these run (document 02,
 -- item 1); none is module 0 (item 6). Assumes nothing.
+use native.Mathlib.Omega.{arith}
 use Prim.Native.Nat.{ℕ, suc, _≤_, _<_}
 use mathlib.Core.Path.{_≡_, refl, sym, ap, _∙_}
 use mathlib.Core.Bool.{true}
@@ -70,8 +71,8 @@ module _ (s : Soc) (W B c : ℕ) (h : planAnswer s W B c .refusal .number ≡ 0)
   whole =
       let p = bestFor c s W B in
       rw (told .is) (record {
-        buses = record-bus-places (plannedOf s) (timeIn c s) (wiresIn c s) W B p (best .is-plan) (told .few);
-        modules = record-module-places (plannedOf s) (timeIn c s) (wiresIn c s) W B p (best .is-plan) (told .most);
+        buses = record-bus-places (plannedOf s) (timeIn c s) (wiresIn c s) W B p (best .is-plan) (omega (arith, told .few));
+        modules = record-module-places (plannedOf s) (timeIn c s) (wiresIn c s) W B p (best .is-plan) (omega (arith, told .most));
       })
 
   -- "the top module's terminals are the SOC's pins and need no access mechanism": it names no module 0

@@ -23,12 +23,13 @@ use Rattle.wrapper.specs.Maxima.{moduleTimeMax}
 use Rattle.wrapper.specs.WrapperAnswers.{widthMax, captureMax}
 use Rattle.wrapper.proofs.BestLaws.{time-wires}
 use Rattle.wrapper.proofs.PromisedTimes.{time-most, time-some}
+use Rattle.plan_record.specs.Record.{busPlaces, modulePlaces}
 use Rattle.plan_record.specs.Good.{ascendingFrom, goodPlan}
 use Rattle.plan_record.proofs.RecordLaws.{Recordable, record-good}
 use Rattle.plan.specs.PlanAnswers.{limitMax, plannedMax, plannedModule, timeIn, wiresIn, bestFor, recordOf, refusedPlan, planAnswer}
 use Rattle.plan.specs.declared.answer.PlanAnswer.{PlanAnswer}
 use Rattle.plan.proofs.TableLaws.{planned-number}
-use Rattle.plan_rules.specs.Plans.{timeOf}
+use Rattle.plan_rules.specs.Plans.{Plan, IsPlan, timeOf}
 use Rattle.plan_rules.specs.First.{IsFirst}
 use Rattle.plan_rules.proofs.Demand.{best-first}
 
@@ -103,7 +104,7 @@ best-for-first c s W B some limit = best-first (timeOf (timeIn c s)) W B (length
 
 -- the planned modules of a good SOC make a record
 recordable : (c : ℕ) → 1 ≤ c → c ≤ captureMax → (s : Soc) → goodSoc s ≡ true → 1 ≤ length (plannedOf s)
-    → length (plannedOf s) ≤ plannedMax → Recordable (plannedOf s) (timeIn c s) (wiresIn c s)
+    → length (plannedOf s) ≤ modulePlaces → Recordable (plannedOf s) (timeIn c s) (wiresIn c s)
 recordable c first last s good some most =
     record {
       some = some;
@@ -113,12 +114,17 @@ recordable c first last s good some most =
       wires = λ i w k. wires-within c s i w k;
     }
 
--- "A plan of the planner is always a good record"
 module _ (c : ℕ) (first : 1 ≤ c) (last : c ≤ captureMax) (s : Soc) (W B : ℕ) (good : goodSoc s ≡ true) (low : 1 ≤ W) (narrow : W ≤ widthMax)
-    (limit : 1 ≤ B) (few : B ≤ limitMax) (some : 1 ≤ length (plannedOf s)) (most : length (plannedOf s) ≤ plannedMax) where
-  pub planner-good : goodPlan (recordOf c s W B (bestFor c s W B)) ≡ true
-  planner-good = record-good (plannedOf s) (timeIn c s) (wiresIn c s) W B (bestFor c s W B) (best-for-first c s W B low limit .is-plan)
-      (recordable c first last s good some most) low narrow limit few
+    (limit : 1 ≤ B) (some : 1 ≤ length (plannedOf s)) where
+  -- the record of any plan of the planned modules is good, whichever planner gives it
+  pub plan-good : B ≤ busPlaces → length (plannedOf s) ≤ modulePlaces → (p : Plan) → IsPlan W B (length (plannedOf s)) p
+      → goodPlan (recordOf c s W B p) ≡ true
+  plan-good few most p is =
+      record-good (plannedOf s) (timeIn c s) (wiresIn c s) W B p is (recordable c first last s good some most) low narrow limit few
+
+  -- "A plan of the planner is always a good record"
+  pub planner-good : B ≤ limitMax → length (plannedOf s) ≤ plannedMax → goodPlan (recordOf c s W B (bestFor c s W B)) ≡ true
+  planner-good few most = plan-good (omega arith) (omega arith) (bestFor c s W B) (best-for-first c s W B low limit .is-plan)
 
 -- what the planner answers where it refuses nothing: the limits hold, and the plan is the best one's record
 pub record Answered (s : Soc) (W B c : ℕ) (a : PlanAnswer) : Type 0 where
@@ -176,7 +182,7 @@ module _ (s : Soc) (W B c : ℕ) (a : PlanAnswer) (e : a ≡ planAnswer s W B c)
   planner-answers-good =
       let r = answered s W B c (rw e at h) in
       rw (e, r .is)
-      (planner-good c (r .first) (r .last) s W B (r .good) (r .low) (r .narrow) (r .limit) (r .few) (r .some) (r .most))
+      (planner-good c (r .first) (r .last) s W B (r .good) (r .low) (r .narrow) (r .limit) (r .some) (r .few) (r .most))
 
   pub planner-accepts-good : goodSoc s ≡ true
   planner-accepts-good = answered s W B c (rw e at h) .good

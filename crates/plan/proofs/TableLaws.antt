@@ -20,9 +20,10 @@ use Rattle.plan_rules.specs.Plans.{Plan, IsPlan, busyFrom, busies, largest, tim
 use Rattle.plan_rules.specs.Listed.{plans, firstLeast, firstOf, bestPlan, bestOf}
 use Rattle.plan_rules.proofs.ListedLaws.{sound}
 use Rattle.plan_rules.proofs.BoundLaws.{width-in}
+use Rattle.plan_record.specs.Record.{modulePlaces}
 use Rattle.plan.specs.PlanAnswers.{limitMax, plannedMax, plannedModule, timeIn, wiresIn}
 use Rattle.wrapper.specs.Maxima.{moduleTimeMax}
-use Rattle.plan_search.specs.Search.{searchBuses, searchModules, rowPlaces, tableTime, IsTable}
+use Rattle.plan_search.specs.Search.{searchBuses, searchModules, rowPlaces, tableTime, AreTimes, IsTable}
 use Rattle.plan.specs.Tables.{tablePlaces, TimesStand, TablesAre}
 use Rattle.plan.specs.declared.tables.Tables.{Tables}
 
@@ -91,13 +92,13 @@ module _ {c : ℕ} {s : Soc} {W n : ℕ} {t : Tables} (a : TablesAre c s W n t) 
       (λ l. rw (a .cycles-are i w h (omega arith) l, a .cycles-are i v h k (omega arith)) (time-fall c s i v w k o))
       (below-or W w)
 
+  pub times-are : length (t .cycles) ≡ tablePlaces → n ≤ modulePlaces → AreTimes (t .cycles) n
+  times-are l m = record { few = m; long = omega arith; times = λ i w. omega (arith, table-most (i * rowPlaces + (w - 1))) }
+
   pub table-is : length (t .cycles) ≡ tablePlaces → n ≤ plannedMax → IsTable (t .cycles) n
-  table-is l m = record {
-    few = m;
-    long = omega arith;
-    times = λ i w. omega (arith, table-most (i * rowPlaces + (w - 1)));
-    falls = row-falls;
-  }
+  table-is l m =
+      let r = times-are l (omega arith) in
+      record { few = m; long = r .long; times = r .times; falls = row-falls }
 
 -- a table has a place for each width of the wrapper layer, and the search has room for as many buses and modules as the planner takes
 pub row-width : rowPlaces ≡ widthMax

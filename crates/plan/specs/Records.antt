@@ -9,14 +9,14 @@ use Rattle.plan_rules.specs.Plans.{busyFrom, busies}
 use Rattle.plan_record.specs.Record.{busPlaces, modulePlaces, noBus, noPlaced, busRecords}
 use Rattle.plan_record.specs.declared.record.Bus.{Bus}
 use Rattle.plan_record.specs.declared.record.PlacedModule.{PlacedModule}
-use Rattle.plan.specs.PlanAnswers.{limitMax}
+use Rattle.plan_record.specs.declared.record.BusPlan.{BusPlan}
 use Rattle.plan.specs.declared.tables.Tables.{Tables}
 use Rattle.plan_search.specs.Search.{rowPlaces, tableTime}
 use Rattle.plan_search.specs.declared.widths.Found.{Found}
 
 -- the counts, widths and bus numbers of what was found keep their limits
 pub record IsFound (f : Found) (n : ℕ) : Type 0 where
-  pub few : f .count ≤ limitMax
+  pub few : f .count ≤ busPlaces
   pub wide : (b : ℕ) → b < f .count → (1 ≤ getD (f .widths) b 0) × (getD (f .widths) b 0 ≤ widthMax)
   pub placed : (i : ℕ) → i < n → (1 ≤ getD (f .buses) i 0) × (getD (f .buses) i 0 ≤ f .count)
 
@@ -41,3 +41,16 @@ placedFrom p t f i (b ∷ bs) = placedAt p t f i b ∷ placedFrom p t f (suc i) 
 
 unfoldable pub modulesIs : Planned → Tables → Found → List PlacedModule
 modulesIs p t f = padded modulePlaces noPlaced (placedFrom p t f 0 (take (p .count) (f .buses)))
+
+-- the record of what was found for W wires and limit B
+abbrev pub recordFrom : Planned → Tables → ℕ → ℕ → Found → BusPlan
+recordFrom p t W B f =
+    record {
+      wires = wires W;
+      limit = B;
+      «bus_count» = f .count;
+      buses = busesIs (tableTime (t .cycles)) f (p .count);
+      «module_count» = p .count;
+      modules = modulesIs p t f;
+      time = f .time;
+    }

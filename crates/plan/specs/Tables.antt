@@ -10,20 +10,21 @@ use Rattle.soc.specs.declared.planned.Planned.{Planned}
 use Rattle.soc.specs.declared.record.Soc.{Soc}
 use Rattle.wrapper.specs.WrapperAnswers.{wires, cycles, widthMax, captureMax}
 use Rattle.wrapper.specs.declared.times.Times.{Times}
+use Rattle.plan_record.specs.Record.{modulePlaces}
 use Rattle.plan_search.specs.Search.{rowPlaces}
-use Rattle.plan.specs.PlanAnswers.{plannedMax, timeIn, wiresIn}
+use Rattle.plan.specs.PlanAnswers.{timeIn, wiresIn}
 use Rattle.plan.specs.declared.tables.Tables.{Tables}
 
 -- the places of a table
 abbrev pub tablePlaces : ℕ
-tablePlaces = plannedMax * rowPlaces
+tablePlaces = modulePlaces * rowPlaces
 
--- tables can be made: p has the planned modules of a good SOC, no more than the planner takes, W is a width, and c is a number of capture
+-- tables can be made: p has the planned modules of a good SOC, no more than a plan record has places for, W is a width, and c is a number of capture
 -- cycles
 pub record Plannable (c : ℕ) (s : Soc) (p : Planned) (W : ℕ) : Type 0 where
   pub good : goodSoc s ≡ true
   pub numbers : p ≡ plannedIs (plannedOf s)
-  pub most : length (plannedOf s) ≤ plannedMax
+  pub most : length (plannedOf s) ≤ modulePlaces
   pub low : 1 ≤ W
   pub narrow : W ≤ widthMax
   pub captures : 1 ≤ c

@@ -27,9 +27,9 @@ use wrapper::CAPTURE_MAX;
 use wrapper::WIDTH_MAX;
 ghost use mathlib.Core.Path.{_≡_};
 ghost use Prim.Native.Nat.{_≤_};
-ghost use Rattle.plan_search.specs.Search.{tableTime, IsTable};
+ghost use Rattle.plan_search.specs.Search.{tableTime, AreTimes};
 ghost use Rattle.plan.specs.PlanAnswers.{limitMax, plannedMax, refusedPlan, bestFor, recordOf, planAnswer};
-ghost use Rattle.plan.specs.Records.{IsFound, busesIs, modulesIs};
+ghost use Rattle.plan.specs.Records.{IsFound, busesIs, modulesIs, recordFrom};
 ghost use Rattle.plan.specs.Tables.{Plannable};
 
 fn refused_plan(n: u8) -> PlanAnswer
@@ -43,7 +43,7 @@ fn refused_plan(n: u8) -> PlanAnswer
 
 // The buses of the plan that was found.
 fn buses_of(table: &[u64], f: Found, n: usize) -> [Bus; BUS_PLACES]
-    requires { ⌜ IsTable (now table) n × IsFound f n ⌝ }
+    requires { ⌜ AreTimes (now table) n × IsFound f n ⌝ }
     ensures { λ r. ⌜ r ≡ busesIs (tableTime (now (table .entry))) f n ⌝ }
 {
     let mut list = [no_bus(); BUS_PLACES];
@@ -62,7 +62,7 @@ fn buses_of(table: &[u64], f: Found, n: usize) -> [Bus; BUS_PLACES]
 
 // The planned modules of the plan that was found.
 fn modules_of(p: Planned, t: Tables, f: Found) -> [PlacedModule; MODULE_PLACES]
-    requires { ⌜ (p .count ≤ plannedMax) × IsTable (t .cycles) (p .count) × IsFound f (p .count) ⌝ }
+    requires { ⌜ AreTimes (t .cycles) (p .count) × IsFound f (p .count) ⌝ }
     ensures { λ r. ⌜ r ≡ modulesIs p t f ⌝ }
 {
     let mut list = [no_placed(); MODULE_PLACES];
@@ -87,16 +87,13 @@ fn modules_of(p: Planned, t: Tables, f: Found) -> [PlacedModule; MODULE_PLACES]
     list
 }
 
-// The plan for W wires and limit B, where nothing is refused.
-fn found_plan(s: Soc, p: Planned, wires: Wires, limit: u32, capture: CaptureCycles) -> BusPlan
-    requires { ⌜ Plannable (capture .0) s p (wires .0) × (1 ≤ limit) × (limit ≤ limitMax) ⌝ }
-    ensures { λ r. ⌜ r ≡ recordOf (capture .0) s (wires .0) limit (bestFor (capture .0) s (wires .0) limit) ⌝ }
+// The record of what was found over the tables of the planned modules, whichever search found it.
+pub fn record_of(p: Planned, t: Tables, wires: Wires, limit: u32, f: Found) -> BusPlan
+    requires { ⌜ AreTimes (t .cycles) (p .count) × IsFound f (p .count) ⌝ }
+    ensures { λ r. ⌜ r ≡ recordFrom p t (wires .0) limit f ⌝ }
 {
-    let t = tables_of(s, p, wires, capture);
     let cycles = t.cycles;
     let n = p.count;
-    let b = limit as usize;
-    let f = search(&cycles, wires, b, n);
     let time = f.time;
     BusPlan {
         wires,
@@ -107,6 +104,19 @@ fn found_plan(s: Soc, p: Planned, wires: Wires, limit: u32, capture: CaptureCycl
         modules: modules_of(p, t, f),
         time,
     }
+}
+
+// The plan for W wires and limit B, where nothing is refused.
+fn found_plan(s: Soc, p: Planned, wires: Wires, limit: u32, capture: CaptureCycles) -> BusPlan
+    requires { ⌜ Plannable (capture .0) s p (wires .0) × (p .count ≤ plannedMax) × (1 ≤ limit) × (limit ≤ limitMax) ⌝ }
+    ensures { λ r. ⌜ r ≡ recordOf (capture .0) s (wires .0) limit (bestFor (capture .0) s (wires .0) limit) ⌝ }
+{
+    let t = tables_of(s, p, wires, capture);
+    let cycles = t.cycles;
+    let n = p.count;
+    let b = limit as usize;
+    let f = search(&cycles, wires, b, n);
+    record_of(p, t, wires, limit, f)
 }
 
 // The first plan of least time.

@@ -9,7 +9,7 @@ use wrapper::Times;
 ghost use Prim.Native.Nat.{_<_};
 ghost use lib.ListN.{length};
 ghost use Rattle.soc.specs.Planned.{plannedOf};
-ghost use Rattle.plan.specs.PlanAnswers.{plannedMax};
+ghost use Rattle.plan_record.specs.Record.{modulePlaces};
 ghost use Rattle.plan.specs.Tables.{Plannable, TablesAre, TimesStand};
 
 // A row of places for each planned module, with a place for each width.
@@ -20,7 +20,7 @@ pub struct Tables {
 
 // The tables with the times of the planned module k.
 fn with_times(t: Tables, k: usize, times: Times) -> Tables
-    requires { ⌜ k < plannedMax ⌝ }
+    requires { ⌜ k < modulePlaces ⌝ }
     ensures { λ r. ⌜ TimesStand t k times r ⌝ }
 {
     let mut cycles = t.cycles;
@@ -36,7 +36,7 @@ fn with_times(t: Tables, k: usize, times: Times) -> Tables
     Tables { cycles, wires }
 }
 
-pub(crate) fn tables_of(s: Soc, p: Planned, w: Wires, capture: CaptureCycles) -> Tables
+pub fn tables_of(s: Soc, p: Planned, w: Wires, capture: CaptureCycles) -> Tables
     requires { ⌜ Plannable (capture .0) s p (w .0) ⌝ }
     ensures { λ r. ⌜ TablesAre (capture .0) s (w .0) (length (plannedOf s)) r ⌝ }
 {

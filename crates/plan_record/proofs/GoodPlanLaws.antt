@@ -13,7 +13,7 @@ use lib.Dec.{leb, eqb}
 use Rattle.units.proofs.TestLaws.{and-both, and-third}
 use Rattle.units.specs.Places.{allOf}
 use Rattle.units.proofs.PlaceLaws.{front-has, front-ends}
-use Rattle.plan_record.specs.Record.{noBus, noPlaced, busesOf, modulesOf, widthsOf, cyclesOn, busiesOf, numbersOf, modulePlaces, runsBefore, startOf}
+use Rattle.plan_record.specs.Record.{busPlaces, noBus, noPlaced, busesOf, modulesOf, widthsOf, cyclesOn, busiesOf, numbersOf, modulePlaces, runsBefore, startOf}
 use Rattle.plan_record.specs.Whole.{Whole}
 use Rattle.wrapper.specs.Maxima.{moduleTimeMax}
 use Rattle.plan_record.specs.declared.record.Bus.{Bus}
@@ -141,13 +141,13 @@ pub record GoodFigures (p : BusPlan) : Type 0 where
   pub wires-low : 1 ≤ p .wires .0
   pub wires-high : p .wires .0 ≤ 64
   pub limit-low : 1 ≤ p .limit
-  pub limit-high : p .limit ≤ 3
+  pub limit-high : p .limit ≤ busPlaces
   pub buses-low : 1 ≤ p .«bus_count»
-  pub buses-high : p .«bus_count» ≤ 3
+  pub buses-high : p .«bus_count» ≤ busPlaces
   pub modules-low : 1 ≤ p .«module_count»
-  pub modules-high : p .«module_count» ≤ 12
+  pub modules-high : p .«module_count» ≤ modulePlaces
   pub number : (i : ℕ) → i < p .«module_count» → getD (p .modules) i noPlaced .number ≤ 39
-  pub bus : (i : ℕ) → i < p .«module_count» → getD (p .modules) i noPlaced .bus ≤ 3
+  pub bus : (i : ℕ) → i < p .«module_count» → getD (p .modules) i noPlaced .bus ≤ busPlaces
   pub wires : (i : ℕ) → i < p .«module_count» → getD (p .modules) i noPlaced .wires .0 ≤ 64
   pub cycles : (i : ℕ) → i < p .«module_count» → getD (p .modules) i noPlaced .cycles .0 ≤ moduleTimeMax
   pub width : (b : ℕ) → b < p .«bus_count» → getD (p .buses) b noBus .width .0 ≤ 64
@@ -157,9 +157,9 @@ pub record GoodCounts (p : BusPlan) : Type 0 where
   pub wires-low : 1 ≤ p .wires .0
   pub wires-high : p .wires .0 ≤ 64
   pub limit-low : 1 ≤ p .limit
-  pub limit-high : p .limit ≤ 3
+  pub limit-high : p .limit ≤ busPlaces
   pub modules-low : 1 ≤ p .«module_count»
-  pub modules-high : p .«module_count» ≤ 12
+  pub modules-high : p .«module_count» ≤ modulePlaces
 
 pub good-counts : (p : BusPlan) → goodCounts p ≡ true → GoodCounts p
 unfolding goodCounts
@@ -167,8 +167,8 @@ good-counts p e =
     let a = and-both _ _ e in
     let b = and-both _ _ (a .1) in
     let w = within-both 1 64 (p .wires .0) (a .0) in
-    let l = within-both 1 3 (p .limit) (b .0) in
-    let n = within-both 1 12 (p .«module_count») (b .1) in
+    let l = within-both 1 busPlaces (p .limit) (b .0) in
+    let n = within-both 1 modulePlaces (p .«module_count») (b .1) in
     record {
       wires-low = w .0;
       wires-high = w .1;

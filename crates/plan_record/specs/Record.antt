@@ -14,10 +14,10 @@ use Rattle.plan_record.specs.declared.record.BusPlan.{BusPlan}
 
 -- the places of a record: for buses, and for planned modules
 abbrev pub busPlaces : ℕ
-busPlaces = 3
+busPlaces = 8
 
 abbrev pub modulePlaces : ℕ
-modulePlaces = 12
+modulePlaces = 39
 
 -- spare places are 0
 abbrev pub noBus : Bus

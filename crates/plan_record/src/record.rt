@@ -5,9 +5,9 @@ ghost use mathlib.Core.Path.{_≡_};
 ghost use Rattle.plan_record.specs.Record.{noBus, noPlaced, noPlan};
 
 // The places of a record: for buses, and for planned modules.
-pub const BUS_PLACES: usize = 3;
+pub const BUS_PLACES: usize = 8;
 
-pub const MODULE_PLACES: usize = 12;
+pub const MODULE_PLACES: usize = 39;
 
 pub struct Bus {
     pub width: Wires,

@@ -20,7 +20,8 @@ use Rattle.plan_rules.proofs.FirstLaws.{keep-none}
 use Rattle.plan_rules.proofs.WiderLaws.{wider-behind, wider-none, widest-wider, length-widest, widest-most, widest-rising, rising-behind}
 use Rattle.plan_search.specs.Search.{searchBuses, rowPlaces, tableTime, IsTable, AreWidths}
 use Rattle.plan_search.specs.Lists.{startingWith, group, Group}
-use Rattle.plan_search.proofs.ListLaws.{upward-append, width-lists-one, lists-group}
+use Rattle.plan_rules.proofs.WidthListLaws.{upward-append, width-lists-one}
+use Rattle.plan_search.proofs.ListLaws.{lists-group}
 
 share-of : (k m high left : ℕ) → m ≤ high → k * high ≤ left → k * m ≤ left
 share-of k m high left h s = omega (arith, mul-le-mul-left k h)

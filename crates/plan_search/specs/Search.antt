@@ -18,6 +18,13 @@ searchBuses = 3
 abbrev pub searchModules : ℕ
 searchModules = 12
 
+-- the places of an answer for buses and for modules, whichever search gives it: those of a plan record
+abbrev pub foundBuses : ℕ
+foundBuses = 8
+
+abbrev pub foundModules : ℕ
+foundModules = 39
+
 -- the places of each module in a table: one for each width
 abbrev pub rowPlaces : ℕ
 rowPlaces = 64
@@ -61,6 +68,12 @@ pub record Placed (t ws : List ℕ) (i : ℕ) (loads loads′ buses buses′ bes
   pub buses-same : take i buses′ ≡ take i buses
   pub best-is : best′ ≡ keepAll (timeOn t ws) best (map (λ bs. take i buses ++ bs) (placements (length buses - i) (length ws)))
 
+-- a table of the times of n modules, no more than an answer has places for, which keep their limit
+pub record AreTimes (t : List ℕ) (n : ℕ) : Type 0 where
+  pub few : n ≤ foundModules
+  pub long : n * rowPlaces ≤ length t
+  pub times : (i w : ℕ) → tableTime t i w ≤ timeBound
+
 -- a table of n modules, no more than there is room for, whose times keep their limit and do not rise with the width
 pub record IsTable (t : List ℕ) (n : ℕ) : Type 0 where
   pub few : n ≤ searchModules
@@ -75,23 +88,26 @@ pub record AreWidths (ws : List ℕ) : Type 0 where
   pub rising : Rising 1 ws
   pub narrow : largest ws ≤ rowPlaces
 
--- the plan that was found, as an answer has it
-abbrev pub foundOf : (ℕ → ℕ → ℕ) → Plan → Found
-foundOf time p =
+-- a plan that was found and its time, as an answer has them
+abbrev pub foundAs : ℕ → Plan → Found
+foundAs t p =
     record {
       count = length (p .widths);
-      widths = padded searchBuses 0 (p .widths);
-      buses = padded searchModules 0 (p .buses);
-      time = record { 0 = timeOf time p };
+      widths = padded foundBuses 0 (p .widths);
+      buses = padded foundModules 0 (p .buses);
+      time = record { 0 = t };
     }
+
+abbrev pub foundOf : (ℕ → ℕ → ℕ) → Plan → Found
+foundOf time p = foundAs (timeOf time p) p
 
 -- what buffers hold of it: the time before the bus numbers, and how many widths before the widths
 abbrev pub foundIn : List ℕ → List ℕ → Found
 foundIn best found =
     record {
       count = getD found 0 0;
-      widths = padded searchBuses 0 (take (getD found 0 0) (drop 1 found));
-      buses = padded searchModules 0 (drop 1 best);
+      widths = padded foundBuses 0 (take (getD found 0 0) (drop 1 found));
+      buses = padded foundModules 0 (drop 1 best);
       time = record { 0 = getD best 0 0 };
     }
 

@@ -9,6 +9,8 @@ mod thumb;
 mod widths;
 
 pub use busy::busy_of;
+pub use place::FOUND_BUSES;
+pub use place::FOUND_MODULES;
 pub use place::ROW_PLACES;
 pub use place::SEARCH_BUSES;
 pub use place::SEARCH_MODULES;

@@ -13,6 +13,11 @@ pub const SEARCH_BUSES: usize = 3;
 
 pub const SEARCH_MODULES: usize = 12;
 
+// The places of an answer for buses and for modules, whichever search gives it: those of a plan record.
+pub const FOUND_BUSES: usize = 8;
+
+pub const FOUND_MODULES: usize = 39;
+
 // The places of each module in a table of times: one for each width.
 pub const ROW_PLACES: usize = 64;
 

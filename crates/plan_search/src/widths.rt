@@ -3,6 +3,8 @@
 use super::groups::over_group;
 use super::order::rows_in;
 use super::order::sort_order;
+use super::place::FOUND_BUSES;
+use super::place::FOUND_MODULES;
 use super::place::SEARCH_BUSES;
 use super::place::SEARCH_MODULES;
 use super::place::place;
@@ -21,8 +23,8 @@ ghost use Rattle.plan_search.specs.Lists.{kept, Rooms, Listing};
 // The first plan of least time: its buses, their widths, the bus of each module, and its time. Spare places are 0.
 pub struct Found {
     pub count: usize,
-    pub widths: [u32; SEARCH_BUSES],
-    pub buses: [u64; SEARCH_MODULES],
+    pub widths: [u32; FOUND_BUSES],
+    pub buses: [u64; FOUND_MODULES],
     pub time: Cycles,
 }
 
@@ -121,13 +123,13 @@ fn found_in(best: &[u64], found: &[u32]) -> Found
     ensures { λ r. ⌜ r ≡ foundIn (now (best .entry)) (now (found .entry)) ⌝ }
 {
     let count = found[0] as usize;
-    let mut widths = [0u32; SEARCH_BUSES];
+    let mut widths = [0u32; FOUND_BUSES];
     let mut i: usize = 0;
     while i < count {
         widths[i] = found[i + 1];
         i += 1;
     }
-    let mut buses = [0u64; SEARCH_MODULES];
+    let mut buses = [0u64; FOUND_MODULES];
     let mut j: usize = 1;
     while j < best.len() {
         buses[j - 1] = best[j];

@@ -1,5 +1,5 @@
 // Runs the product on the texts in data/ and prints what it finds: texts read and written, layouts and times, plans, plan files, pairs
-// (document 01, "The SOC text", "The wrapper rule", "The plan", "The plan file"; document 02, items 1, 3 and 5). The file args names the
+// (document 01, "The SOC text", "The wrapper rule", "The plan", "The plan file"; document 02, items 1, 3, 5 and 7). The file args names the
 // texts, and stdout is what must be printed.
 use pairs::show_lines;
 use pairs::show_pair;
@@ -8,6 +8,7 @@ use plan_files::show_longest;
 use plan_files::show_old;
 use plan_files::show_part;
 use plan_files::show_plan_file;
+use plans::show_budget;
 use plans::show_plan;
 use plans::show_table_9;
 use print::CAPTURE;
@@ -127,7 +128,7 @@ fn show_plan_files() {
     show_plan_file(T1, 4, 2, 2, 79);
     show_plan_file(T1, 4, 2, 2, 80);
     show_plan_file(T1, 4, 2, 2, 300);
-    show_plan_file(T1, 4, 2, 4, 300);
+    show_plan_file(T1, 4, 2, 9, 300);
     show_plan_file(T1, 4, 1, 1, 300);
     show_plan_file(TWELVE, 24, 3, 3, 300);
     show_part(0, 80);
@@ -178,6 +179,24 @@ fn show_captures(c: u32) {
     show_plan(NONE, 24, 3, c);
 }
 
+// Within a number of tries (document 02, item 7): d695 with as many tries as the search needs, and one fewer; t1 with as many as there are
+// modules, and one fewer, which leaves no plan; 13 modules and eight buses; and the refusals in their order, with all that comes behind.
+fn show_budgets() {
+    show_budget(D695, 64, 3, 1, 328463);
+    show_budget(D695, 64, 3, 1, 328462);
+    show_budget(T1, 4, 2, 1, 2);
+    show_budget(T1, 4, 2, 1, 1);
+    show_budget(T1, 4, 8, 4, 1099511627776);
+    show_budget(THIRTEEN, 24, 8, 1, 1000);
+    show_budget(REFUSED, 0, 0, 0, 0);
+    show_budget(NONE, 65, 9, 0, 0);
+    show_budget(NONE, 64, 9, 0, 0);
+    show_budget(NONE, 64, 8, 0, 0);
+    show_budget(NONE, 64, 8, 1, 0);
+    show_budget(T1, 4, 2, 1, 0);
+    show_budget(T1, 4, 2, 1, 1099511627777);
+}
+
 fn main() {
     show_texts();
     show_wrappers();
@@ -188,4 +207,5 @@ fn main() {
     show_captures(2);
     show_captures(4);
     show_captures(5);
+    show_budgets();
 }

@@ -1,10 +1,13 @@
-// Prints plans (document 01, "The plan"; document 02, items 1 and 5).
+// Prints plans (document 01, "The plan"; document 02, items 1 and 5), also those of the planner with a spending limit (item 7).
+use super::print::BUDGET;
 use super::print::BUS;
 use super::print::PLACED;
 use super::print::PLAN;
+use super::print::SPENT;
 use super::print::START;
 use super::print::print_line;
 use super::print::soc_in;
+use budget::Ended;
 use plan_record::BUS_PLACES;
 use plan_record::BusPlan;
 use plan_record::MODULE_PLACES;
@@ -51,6 +54,36 @@ pub(crate) fn show_plan(i: usize, w: u32, b: u32, capture: u32) {
         w as u64,
         b as u64,
         answer.refusal.number as u64,
+        p.time.0,
+    );
+    print_buses(p);
+    print_placed(p);
+}
+
+fn finished_number(e: Ended) -> u64 {
+    match e {
+        Ended::Finished => 1,
+        Ended::Unfinished => 0,
+    }
+}
+
+// What is found of the text that is argument i within a number of tries.
+pub(crate) fn show_budget(i: usize, w: u32, b: u32, capture: u32, tries: u64) {
+    let answer = budget::plan_within(soc_in(i), Wires(w), b, CaptureCycles(capture), tries);
+    let p = answer.plan;
+    let ended = answer.ended;
+    print_line(
+        BUDGET,
+        tries,
+        w as u64,
+        b as u64,
+        answer.refusal.number as u64,
+    );
+    print_line(
+        SPENT,
+        finished_number(ended),
+        answer.tries,
+        answer.known as u64,
         p.time.0,
     );
     print_buses(p);

@@ -61,6 +61,10 @@ pub const CAPTURE: usize = 27;
 
 pub const SCANS: usize = 28;
 
+pub const BUDGET: usize = 29;
+
+pub const SPENT: usize = 30;
+
 // Stands for a figure that is not given, and is printed as the text has it: -1. All other figures are smaller.
 pub const NOT_GIVEN: u64 = 18446744073709551615;
 
@@ -128,7 +132,9 @@ pub(crate) fn print_line(line: usize, a: u64, b: u64, c: u64, d: u64) {
         |, internal chain in #\n\
         |refused # line # text #, time #\n\
         |capture cycles #\n\
-        | si # so # cycles #\n";
+        | si # so # cycles #\n\
+        |tries # wires # limit #: refused #\n\
+        | finished # spent #, a plan is known #, time #\n";
     print_part(lines, line, [a, b, c, d]);
 }
 

@@ -25,6 +25,7 @@ pub fn print() {
     row("planner, twelve modules whose time never falls, W 64, B 3", &planning(&inputs::twelve_that_never_fall(), 64, 3));
     row("planner, the largest SOC, twelve planned, W 64, B 3", &planning(&inputs::largest(), 64, 3));
     overlays();
+    budgets();
     growth();
 }
 
@@ -34,6 +35,34 @@ fn overlays() {
     println!("| Measured | pair | combined text | ratio |\n|---|---:|---:|---:|");
     row("d695 with examples/d695.overlay, W 64, B 3", &planning_a_pair(inputs::D695, inputs::D695_OVERLAY, 64, 3));
     row("twelve that never fall, an overlay of all of them", &never_falling_pair());
+}
+
+/// Tries of the planner with a spending limit, which both sides count alike.
+const TRIES: u64 = 20_000_000;
+
+/// The same number of tries on both sides: a ratio of 0.8 of the tries a second is one of 1.25 of the times.
+fn budgets() {
+    println!("\n## Tries within a budget\n\n{TRIES} tries of the planner with a spending limit, W 64 and B 8; tries a second.\n");
+    println!("| Measured | library | independent | ratio |\n|---|---:|---:|---:|");
+    for (name, text) in [("d695", inputs::D695.to_string()), ("39 modules that differ", inputs::mixed(39))] {
+        let Pair { library, independent } = searching(&text, 64, 8, TRIES);
+        let each_second = |time: Duration| TRIES as f64 / time.as_secs_f64().max(1e-9);
+        let (one, other) = (each_second(library), each_second(independent));
+        println!("| {name} | {:.0} million | {:.0} million | {:.2} |", one / 1e6, other / 1e6, one / other);
+    }
+}
+
+fn searching(text: &str, wires: u32, limit: u32, tries: u64) -> Pair {
+    let record = record(text);
+    let (mut one, mut other) = (vec![0; library::BUDGET_BYTES], vec![0; library::BUDGET_BYTES]);
+    pair(
+        || {
+            black_box(library::budget(black_box(&record), wires, limit, 1, tries, &mut one));
+        },
+        || {
+            let _ = black_box(entries::budget(black_box(&record), wires, limit, 1, tries, &mut other));
+        },
+    )
 }
 
 fn never_falling_pair() -> Pair {

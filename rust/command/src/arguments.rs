@@ -3,6 +3,7 @@
 use std::ffi::OsString;
 use std::os::unix::ffi::OsStrExt;
 use std::path::PathBuf;
+use std::str::FromStr;
 
 use clap::builder::PossibleValuesParser;
 use clap::error::ErrorKind;
@@ -18,6 +19,7 @@ use crate::refusals::NOT_DECIMAL;
 /// What the user asks for.
 pub enum Job {
     Plan { file: PathBuf, overlay: Option<PathBuf>, wires: u32, limit: u32, capture: u32 },
+    Budget { file: PathBuf, wires: u32, limit: u32, tries: u64, capture: u32 },
     Soc { file: PathBuf },
     Layout { file: PathBuf, overlay: Option<PathBuf>, module: u32, test: u32, width: u32, capture: u32 },
     Time { file: PathBuf, overlay: Option<PathBuf>, module: u32, width: u32, capture: u32 },
@@ -57,6 +59,7 @@ pub fn command() -> Command {
         .subcommand_required(true)
         .disable_help_subcommand(true)
         .subcommand(subcommand("plan", help::PLAN).arg(soc_file()).arg(wires()).arg(limit()).arg(capture()).arg(over()).arg(json()))
+        .subcommand(subcommand("budget", help::BUDGET).args([soc_file(), wires(), more_buses(), tries(), capture(), json()]))
         .subcommand(subcommand("soc", help::SOC).arg(soc_file()))
         .subcommand(subcommand("layout", help::LAYOUT).args([soc_file(), module(), test(), width(), capture(), over(), json()]))
         .subcommand(subcommand("time", help::TIME).arg(soc_file()).arg(module()).arg(width()).arg(capture()).arg(over()).arg(json()))
@@ -132,6 +135,15 @@ fn limit() -> Arg {
     word_argument("B", "The most buses, 1 to 3")
 }
 
+/// The limit of the planner with a spending limit.
+fn more_buses() -> Arg {
+    word_argument("B", "The most buses, 1 to 8")
+}
+
+fn tries() -> Arg {
+    number_argument("TRIES", "The most tries, 1 to 1,099,511,627,776")
+}
+
 fn number_argument(name: &'static str, help: &'static str) -> Arg {
     Arg::new(name).help(help).required(true).value_parser(value_parser!(OsString))
 }
@@ -181,6 +193,10 @@ impl Given<'_> {
                 let (wires, limit, capture) = (self.word("W")?, self.word("B")?, self.number("C")?);
                 Job::Plan { file: file(), overlay: overlay(), wires, limit, capture }
             }
+            "budget" => {
+                let (wires, limit, tries, capture) = (self.word("W")?, self.word("B")?, self.long_number("TRIES")?, self.number("C")?);
+                Job::Budget { file: file(), wires, limit, tries, capture }
+            }
             "soc" => Job::Soc { file: file() },
             "layout" => {
                 let (module, test, width) = (self.number("MODULE")?, self.number("TEST")?, self.number("WIDTH")?);
@@ -224,6 +240,12 @@ impl Given<'_> {
         decimal(&typed).ok_or_else(|| self.wrong_call(format!("{argument} is not a decimal of {DECIMALS}: '{}'", typed.escape_ascii())))
     }
 
+    fn long_number(&self, argument: &str) -> Result<u64, Failure> {
+        let typed = self.bytes(argument);
+        decimal(&typed)
+            .ok_or_else(|| self.wrong_call(format!("{argument} is not a decimal of {LONG_DECIMALS}: '{}'", typed.escape_ascii())))
+    }
+
     /// An error that shows the usage of the subcommand.
     fn wrong_call(&self, message: String) -> Failure {
         let mut command = command();
@@ -235,9 +257,10 @@ impl Given<'_> {
 
 /// What an argument that is a number may be.
 const DECIMALS: &str = "0 to 4,294,967,295";
+const LONG_DECIMALS: &str = "0 to 18,446,744,073,709,551,615";
 
-/// Digits without sign or leading zeros, within 32 bits. Which numbers make sense is the library's affair.
-fn decimal(word: &[u8]) -> Option<u32> {
+/// Digits without sign or leading zeros, within 32 bits or 64. Which numbers make sense is the library's affair.
+fn decimal<N: FromStr>(word: &[u8]) -> Option<N> {
     let plain = word.iter().all(u8::is_ascii_digit) && (word == b"0" || !word.starts_with(b"0"));
     let word = std::str::from_utf8(word).ok()?;
     if plain {

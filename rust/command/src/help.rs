@@ -40,6 +40,13 @@ Prints `soc NAME wires W limit B time T`, then `bus I width W busy CYCLES` for e
 start CYCLES` for each planned module: how long it takes, and at which cycle it begins. A test of P patterns takes (C + the \
 longer of scan-in and scan-out) × P + the shorter of them, C being the capture cycles.";
 
+pub const BUDGET: &str = "\
+Searches for a plan for W wires and at most B buses within TRIES tries.
+
+Takes up to 8 buses and as many planned modules as a text can have. Prints `finished` or `unfinished`, then `tries N`, the tries that \
+were spent, then the best plan met as `tallowwing plan` lists it, if one was met. A plan of a finished search is the one of least time \
+that `tallowwing plan` lists too.";
+
 pub const SOC: &str = "\
 Writes a SOC text in its written form.
 

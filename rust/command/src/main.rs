@@ -3,6 +3,7 @@
 #![forbid(unsafe_code)]
 
 mod arguments;
+mod budget;
 mod completions;
 mod excerpt;
 mod failure;
@@ -16,6 +17,7 @@ mod overlay;
 mod pair_file;
 mod plan;
 mod plan_record;
+mod progress;
 mod refusals;
 mod report;
 mod show;
@@ -44,6 +46,9 @@ fn main() -> ExitCode {
 fn run(job: &Job, form: Form) -> Result<(), Failure> {
     match job {
         Job::Plan { file, overlay, wires, limit, capture } => plan::run(file, overlay.as_deref(), *wires, *limit, *capture, form),
+        Job::Budget { file, wires, limit, tries, capture } => {
+            budget::run(file, &budget::Asked { wires: *wires, limit: *limit, tries: *tries, capture: *capture }, form)
+        }
         Job::Soc { file } => soc::run(file),
         Job::Layout { file, overlay, module, test, width, capture } => {
             layout::run(file, overlay.as_deref(), &layout::Asked { module: *module, test: *test, width: *width, capture: *capture }, form)

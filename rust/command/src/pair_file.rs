@@ -40,7 +40,7 @@ impl PairFile {
 
     /// The lines of a module, of the text that has them.
     pub fn lines(&self, module: u32) -> Result<&[u8], Failure> {
-        let figure = self.figure(library::module_lines(&self.base_text, &self.overlay_text, module), &[("MODULE", module)])?;
+        let figure = self.figure(library::module_lines(&self.base_text, &self.overlay_text, module), &[("MODULE", module.into())])?;
         let text = if figure % 2 == 1 { &self.overlay_text } else { &self.base_text };
         Ok(&text[(figure / 131_072) as usize..(figure / 2 % 65_536) as usize])
     }

@@ -26,6 +26,11 @@ impl PlanRecord {
         Ok(PlanRecord { file: file.into(), record, capture: Some(capture) })
     }
 
+    /// A plan that was found otherwise.
+    pub fn found(record: &[u8; PLAN_BYTES], file: &Path, capture: u32) -> Self {
+        PlanRecord { file: file.into(), record: *record, capture: Some(capture) }
+    }
+
     /// The plan that a plan file holds.
     pub fn read(bytes: &[u8], file: &Path) -> Result<Self, Failure> {
         let mut plan = PlanRecord { file: file.into(), record: [0; PLAN_BYTES], capture: None };
@@ -42,16 +47,24 @@ impl PlanRecord {
         Ok(bytes)
     }
 
-    /// Prints the plan. Lines are the library's own; a SOC's name stands before them as in a listing.
+    /// Prints the plan.
     pub fn print(&self, name: Option<&[u8]>, form: Form) -> Result<(), Failure> {
+        output::print(&self.printed(name, Row::new(), form)?)
+    }
+
+    /// The plan as it is printed. Lines are the library's own; a SOC's name stands before them as in a listing. JSON tells what is told of
+    /// the search too.
+    pub fn printed(&self, name: Option<&[u8]>, told: Row, form: Form) -> Result<Vec<u8>, Failure> {
         let name = name.map(String::from_utf8_lossy);
         if form != Form::Lines {
-            return output::print(self.report(name.as_deref()).printed(form).as_bytes());
+            let mut report = self.report(name.as_deref());
+            report.asked.extend(told);
+            return Ok(report.printed(form).into_bytes());
         }
         let mut lines = vec![0; LISTING_MAX];
         let length = self.figure(library::show(&self.record, &mut lines))?;
         let front = name.map_or(String::new(), |name| format!("soc {name} "));
-        output::print(&[front.as_bytes(), &lines[..length as usize]].concat())
+        Ok([front.as_bytes(), &lines[..length as usize]].concat())
     }
 
     /// What the lines say, by name.

@@ -16,7 +16,7 @@ pub const REFUSALS: &[Words] = &[
     of_file(5, "a module or test number, a level or an X/Y pair breaks its rule"),
     of_file(6, "the text ends while lines are still due"),
     Words { number: 7, words: "the number of wires is not from 1 to 64", arguments: &["W", "WIDTH"] },
-    Words { number: 8, words: "the limit of buses is not from 1 to 3", arguments: &["B"] },
+    Words { number: 8, words: "the limit of buses is not from 1 to 3, or to 8 for the planner with a spending limit", arguments: &["B"] },
     of_file(9, "no module is planned: none has a test with TamUse 1"),
     of_file(MANY_PLANNED, "more than 12 modules are planned"),
     of_file(11, "the bytes lent for the result are too few"),
@@ -26,6 +26,7 @@ pub const REFUSALS: &[Words] = &[
     of_file(15, "the overlay does not fit the base: another name or options, a module that is not there, or another level"),
     Words { number: 16, words: "the number of capture cycles is not from 1 to 4", arguments: &["C"] },
     of_file(MODULE_0_ON_TAM, "a test of module 0 has TamUse 1: its terminals are the SOC's pins and need no access mechanism"),
+    Words { number: 18, words: "the number of tries is not from 1 to 1,099,511,627,776", arguments: &["TRIES"] },
 ];
 
 /// Refusals that are told with more than their words.

@@ -14,7 +14,7 @@ pub struct SocFile {
 }
 
 /// An argument of the call, by name, and its number.
-pub type Argument = (&'static str, u32);
+pub type Argument = (&'static str, u64);
 
 impl SocFile {
     pub fn read(path: &Path) -> Result<Self, Failure> {
@@ -58,7 +58,7 @@ impl SocFile {
     /// Which of module and test is not there, and which are.
     fn not_there(&self, arguments: &[Argument]) -> Refusal {
         let number = |name: &str| arguments.iter().find(|argument| argument.0 == name).map_or(0, |argument| argument.1);
-        let module = number("MODULE");
+        let module = number("MODULE") as u32;
         let (name, known) = match self.view().module(module).map(|module| module.test_count()) {
             None => ("MODULE", format!("the modules are 0 to {}", self.view().module_count() - 1)),
             Some(0) => ("TEST", format!("module {module} has no test")),

@@ -30,7 +30,7 @@ impl Source {
     }
 
     pub fn plan(&self, wires: u32, limit: u32, capture: u32, plan: &mut [u8]) -> Result<u64, Failure> {
-        let asked = [("W", wires), ("B", limit), ("C", capture)];
+        let asked = [("W", wires.into()), ("B", limit.into()), ("C", capture.into())];
         match self {
             Source::Text(soc) => soc.figure(library::plan(soc.record(), wires, limit, capture, plan), &asked),
             Source::Pair(pair) => pair.figure(library::plan_pair(pair.base(), pair.overlay(), wires, limit, capture, plan), &asked),
@@ -38,7 +38,7 @@ impl Source {
     }
 
     pub fn layout(&self, module: u32, test: u32, width: u32, capture: u32, layout: &mut [u8]) -> Result<u64, Failure> {
-        let asked = [("MODULE", module), ("TEST", test), ("WIDTH", width), ("C", capture)];
+        let asked = [("MODULE", module.into()), ("TEST", test.into()), ("WIDTH", width.into()), ("C", capture.into())];
         match self {
             Source::Text(soc) => soc.figure(library::layout(soc.record(), module, test, width, capture, layout), &asked),
             Source::Pair(pair) => {
@@ -48,7 +48,7 @@ impl Source {
     }
 
     pub fn module_time(&self, module: u32, width: u32, capture: u32) -> Result<u64, Failure> {
-        let asked = [("MODULE", module), ("WIDTH", width), ("C", capture)];
+        let asked = [("MODULE", module.into()), ("WIDTH", width.into()), ("C", capture.into())];
         match self {
             Source::Text(soc) => soc.figure(library::module_time(soc.record(), module, width, capture), &asked),
             Source::Pair(pair) => pair.figure(library::module_time_pair(pair.base(), pair.overlay(), module, width, capture), &asked),
@@ -56,7 +56,7 @@ impl Source {
     }
 
     pub fn module_wires(&self, module: u32, width: u32, capture: u32) -> Result<u64, Failure> {
-        let asked = [("MODULE", module), ("WIDTH", width), ("C", capture)];
+        let asked = [("MODULE", module.into()), ("WIDTH", width.into()), ("C", capture.into())];
         match self {
             Source::Text(soc) => soc.figure(library::module_wires(soc.record(), module, width, capture), &asked),
             Source::Pair(pair) => pair.figure(library::module_wires_pair(pair.base(), pair.overlay(), module, width, capture), &asked),

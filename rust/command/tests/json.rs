@@ -39,6 +39,19 @@ fn plan_and_show() {
 }
 
 #[test]
+fn budget() {
+    let folder = Folder::holding("t1.soc", T1);
+    let found = object(&folder, &["budget", "--json", "t1.soc", "4", "2", "1000"], 0);
+    let mut expected = plan_of_t1();
+    expected["ended"] = json!("finished");
+    expected["tries"] = found["tries"].clone();
+    assert_eq!(found, expected);
+    let none = json!({"capture": 4, "ended": "unfinished", "tries": 1});
+    assert_eq!(object(&folder, &["budget", "--json", "t1.soc", "4", "2", "1", "--capture", "4"], 0), none);
+    assert_eq!(object(&folder, &["budget", "--json", "t1.soc", "4", "2", "0"], 1), json!({"refused": 18, "line": 0}));
+}
+
+#[test]
 fn a_name_of_digits_is_no_number() {
     let folder = Folder::holding("x.soc", T1.replace("SocName t1", "SocName 695"));
     assert_eq!(object(&folder, &["plan", "--json", "x.soc", "4", "2"], 0)["soc"], json!("695"));
@@ -105,6 +118,7 @@ fn the_manual_names_every_key() {
     let words: Vec<&str> = output.split(|byte: char| !byte.is_ascii_alphanumeric()).collect();
     let mut calls = vec![object(&folder, &["plan", "--json", "t1.soc", "0", "2"], 1)];
     calls.push(object(&folder, &["plan", "--json", "t1.soc", "4", "2"], 0));
+    calls.push(object(&folder, &["budget", "--json", "t1.soc", "4", "2", "1000"], 0));
     calls.push(object(&folder, &["layout", "--json", "t1.soc", "1", "1", "4"], 0));
     calls.push(object(&folder, &["time", "--json", "t1.soc", "1", "4"], 0));
     for key in calls.iter().flat_map(keys) {

@@ -4,9 +4,13 @@ mod common;
 
 use common::{Folder, Ran, T1};
 
+/// The words of refusal 8.
+const LIMIT: &str = "the limit of buses is not from 1 to 3, or to 8 for the planner with a spending limit";
+
 /// The subcommands that read a SOC text, with numbers that are all right.
-const READERS: [&[&str]; 5] = [
+const READERS: [&[&str]; 6] = [
     &["plan", "x.soc", "4", "2"],
+    &["budget", "x.soc", "4", "2", "9"],
     &["soc", "x.soc"],
     &["layout", "x.soc", "1", "1", "4"],
     &["time", "x.soc", "1", "4"],
@@ -118,7 +122,7 @@ fn words_are_refused_before_the_text() {
 #[test]
 fn refusals_7_and_8() {
     let folder = Folder::holding("x.soc", T1);
-    let (wires, limit) = ("the number of wires is not from 1 to 64", "the limit of buses is not from 1 to 3");
+    let (wires, limit) = ("the number of wires is not from 1 to 64", LIMIT);
     for w in ["0", "65", "4294967295"] {
         for call in [&["plan", "x.soc", w, "9"][..], &["write", "x.soc", w, "9", "x.plan"]] {
             folder.run(call).refused(7, 0, &format!("W {w}: {wires}"), "");
@@ -162,6 +166,9 @@ fn refusal_10() {
         folder.run(call).refused(10, 0, "x.soc: more than 12 modules are planned: 13", "");
     }
     assert_eq!(folder.run(&["plan", "twelve.soc", "4", "2"]).status, Some(0));
+    // The planner with a spending limit takes them all.
+    let met = folder.run(&["budget", "x.soc", "4", "2", "13"]);
+    assert_eq!((met.status, met.out.lines().take(2).collect::<Vec<_>>()), (Some(0), vec!["unfinished", "tries 13"]));
 }
 
 #[test]
@@ -210,7 +217,7 @@ fn refusal_16() {
             folder.run(&[call, &["--capture", c]].concat()).refused(16, 0, &format!("C {c}: {words}"), "");
         }
         folder.run(&["time", "x.soc", "9", "4", "--capture", c]).refused(16, 0, &format!("C {c}: {words}"), "");
-        folder.run(&["plan", "x.soc", "4", "4", "--capture", c]).refused(8, 0, "B 4: the limit of buses is not from 1 to 3", "");
+        folder.run(&["plan", "x.soc", "4", "4", "--capture", c]).refused(8, 0, &format!("B 4: {LIMIT}"), "");
         folder.run(&["time", "x.soc", "9", "0", "--capture", c]).refused(7, 0, "WIDTH 0: the number of wires is not from 1 to 64", "");
     }
     folder.put("x.soc", T1.replace("TamUse 1", "TamUse 0"));
@@ -241,6 +248,32 @@ fn refusal_17() {
     }
     let accepted = top("ScanUse 1 TamUse 0 Patterns 5");
     Folder::holding("x.soc", &accepted).run(&["soc", "x.soc"]).done(&accepted);
+}
+
+#[test]
+fn refusals_of_the_planner_with_a_spending_limit() {
+    let folder = Folder::holding("x.soc", T1);
+    let tries = "the number of tries is not from 1 to 1,099,511,627,776";
+    for n in ["0", "1099511627777", "18446744073709551615"] {
+        folder.run(&["budget", "x.soc", "4", "2", n]).refused(18, 0, &format!("TRIES {n}: {tries}"), "");
+        folder.run(&["budget", "x.soc", "4", "2", n, "--capture", "0"]).refused(
+            16,
+            0,
+            "C 0: the number of capture cycles is not from 1 to 4",
+            "",
+        );
+        for b in ["0", "9", "4294967295"] {
+            folder.run(&["budget", "x.soc", "4", b, n, "--capture", "0"]).refused(8, 0, &format!("B {b}: {LIMIT}"), "");
+        }
+        folder.run(&["budget", "x.soc", "65", "9", n]).refused(7, 0, "W 65: the number of wires is not from 1 to 64", "");
+    }
+    let words = "a number is not decimal or is outside its limit: 0 to 4,294,967,295";
+    folder.run(&["budget", "x.soc", "x", "2", "9"]).refused(4, 0, &format!("W x: {words}"), "");
+    for n in ["", "x", "-1", "09", "1e6", "18446744073709551616"] {
+        folder.run(&["budget", "x.soc", "4", "2", n]).wrong_call();
+    }
+    folder.put("x.soc", T1.replace("TamUse 1", "TamUse 0"));
+    folder.run(&["budget", "x.soc", "4", "2", "0"]).refused(9, 0, "x.soc: no module is planned: none has a test with TamUse 1", "");
 }
 
 #[test]

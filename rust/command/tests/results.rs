@@ -18,6 +18,21 @@ fn plan_lists_the_best_plan() {
     folder.run(&["plan", "t1.soc", "4", "1"]).done(on_one_bus);
 }
 
+/// d695 needs 328,463 tries at 64 wires and three buses.
+#[test]
+fn budget_finishes_the_search_or_stops_it() {
+    let folder = Folder::holding("t1.soc", T1);
+    folder.put("d695.soc", include_str!("../../../examples/d695.soc"));
+    let planned = folder.run(&["plan", "d695.soc", "64", "3"]).out;
+    let finished = format!("finished\ntries 328463\n{planned}");
+    folder.run(&["budget", "d695.soc", "64", "3", "328463"]).done(&finished);
+    folder.run(&["budget", "d695.soc", "64", "3", "1099511627776"]).done(&finished);
+    let stopped = folder.run(&["budget", "d695.soc", "64", "3", "328462"]);
+    assert_eq!((stopped.status, stopped.out.starts_with("unfinished\ntries 328462\nsoc d695 ")), (Some(0), true));
+    folder.run(&["budget", "t1.soc", "4", "2", "1"]).done("unfinished\ntries 1\n");
+    folder.run_with(&["budget", "-", "4", "2", "1"], T1.as_bytes()).done("unfinished\ntries 1\n");
+}
+
 #[test]
 fn plan_goes_on_with_the_longest_text() {
     let longest = format!("{T1}{}", "\n".repeat(61_440 - T1.len()));
@@ -209,7 +224,7 @@ fn help_and_version() {
     assert_eq!((short.status, full.status), (Some(0), Some(0)));
     assert!(short.out.len() < full.out.len());
     assert!(full.out.contains("Exit status:") && full.out.contains("refused N line L"));
-    for subcommand in ["plan", "soc", "layout", "time", "write", "show", "completions", "manual"] {
+    for subcommand in ["plan", "budget", "soc", "layout", "time", "write", "show", "completions", "manual"] {
         assert!(short.out.contains(subcommand) && full.out.contains(subcommand));
         assert!(folder.run(&[subcommand, "--help"]).out.contains("Usage: tallowwing"));
     }

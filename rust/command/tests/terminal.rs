@@ -36,6 +36,17 @@ module  bus  wires  cycles  start
 }
 
 #[test]
+fn a_long_search_tells_how_far_it_is() {
+    let folder = Folder::holding("d695.soc", include_str!("../../../examples/d695.soc"));
+    let shown = on_a_terminal(&folder, "budget d695.soc 64 8 24000000 2>&1");
+    let (told, found) = shown.rsplit_once("\x1b[K").expect("a line that is cleared");
+    assert!(told.contains("tries 4000000, best time ") && told.ends_with(" tries a second"), "{told}");
+    assert!(found.starts_with("unfinished\ntries 24000000\nsoc d695 wires 64 limit 8 time "), "{found}");
+    let short = on_a_terminal(&folder, "budget d695.soc 64 3 328463");
+    assert!(short.starts_with("finished\ntries 328463\nsoc d695 wires 64 limit 3 time "), "{short}");
+}
+
+#[test]
 fn a_time_is_one_line_and_json_one_object() {
     let folder = Folder::holding("t1.soc", T1);
     assert_eq!(on_a_terminal(&folder, "time t1.soc 2 4"), "cycles 9 wires 3\n");

@@ -17,7 +17,7 @@ fn refusals() -> Vec<(u32, String)> {
 
 #[test]
 fn the_help_has_them() {
-    assert_eq!(refusals().iter().map(|refusal| refusal.0).collect::<Vec<_>>(), (1..=17).collect::<Vec<_>>());
+    assert_eq!(refusals().iter().map(|refusal| refusal.0).collect::<Vec<_>>(), (1..=18).collect::<Vec<_>>());
 }
 
 #[test]
@@ -45,7 +45,7 @@ fn every_subcommand_is_in_the_manual() {
     let help = Folder::new().run(&["-h"]).out;
     let list = help.split_once("Commands:\n").expect("the list").1.split_once("\n\n").expect("its end").0;
     let names: Vec<&str> = list.lines().map(|line| line.split_whitespace().next().expect("a name")).collect();
-    assert_eq!(names.len(), 10, "{names:?}");
+    assert_eq!(names.len(), 11, "{names:?}");
     for name in names {
         assert!(page.contains(&format!(".B tallowwing {name}\n")), "{name}");
     }

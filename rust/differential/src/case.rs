@@ -24,9 +24,10 @@ pub enum Entry {
     ModuleTimePair,
     ModuleWiresPair,
     PlanPair,
+    Budget,
 }
 
-pub const ENTRIES: [Entry; 17] = [
+pub const ENTRIES: [Entry; 18] = [
     Entry::ReadSoc,
     Entry::WriteSoc,
     Entry::Layout,
@@ -44,6 +45,7 @@ pub const ENTRIES: [Entry; 17] = [
     Entry::ModuleTimePair,
     Entry::ModuleWiresPair,
     Entry::PlanPair,
+    Entry::Budget,
 ];
 
 /// The most numbers that an entry takes.
@@ -69,6 +71,7 @@ impl Entry {
             Entry::ModuleTimePair => "module_time_pair",
             Entry::ModuleWiresPair => "module_wires_pair",
             Entry::PlanPair => "plan_pair",
+            Entry::Budget => "budget",
         }
     }
 
@@ -87,7 +90,7 @@ impl Entry {
 #[derive(Clone, Debug, PartialEq, Eq)]
 pub struct Case {
     pub entry: Entry,
-    pub numbers: [u32; NUMBERS],
+    pub numbers: [u64; NUMBERS],
     /// Where the overlay of a pair begins, whose base stands before it; else 0.
     pub overlay_at: usize,
     pub room: usize,
@@ -98,8 +101,14 @@ impl Case {
     /// A case with the numbers that its entry takes.
     pub fn new<const N: usize>(entry: Entry, numbers: [u32; N], input: Vec<u8>) -> Self {
         let mut all = [0; NUMBERS];
-        all[..N].copy_from_slice(&numbers);
+        all[..N].copy_from_slice(&numbers.map(u64::from));
         Case { entry, numbers: all, overlay_at: 0, room: 0, input }
+    }
+
+    /// A case of the second planner, whose budget alone has more than 32 bits.
+    pub fn of_budget([wires, limit, capture]: [u32; 3], budget: u64, record: Vec<u8>) -> Self {
+        let numbers = [wires.into(), limit.into(), capture.into(), budget];
+        Case { numbers, ..Case::new(Entry::Budget, [], record) }
     }
 
     /// A case of a base and an overlay.
@@ -114,7 +123,7 @@ impl Case {
 
     /// What the library answers.
     pub fn ask_library(&self, input: &[u8], lent: &mut [u8]) -> Answer {
-        let [a, b, c, d] = self.numbers;
+        let ([a, b, c, d], [.., budget]) = (self.numbers.map(|number| number as u32), self.numbers);
         let (base, overlay) = self.pair(input);
         match self.entry {
             Entry::ReadSoc => library::read_soc(input, lent),
@@ -134,12 +143,13 @@ impl Case {
             Entry::ModuleTimePair => library::module_time_pair(base, overlay, a, b, c),
             Entry::ModuleWiresPair => library::module_wires_pair(base, overlay, a, b, c),
             Entry::PlanPair => library::plan_pair(base, overlay, a, b, c, lent),
+            Entry::Budget => library::budget(input, a, b, c, budget, lent),
         }
     }
 
     /// What the independent implementation answers.
     pub fn ask_independent(&self, input: &[u8], lent: &mut [u8]) -> Answer {
-        let [a, b, c, d] = self.numbers;
+        let ([a, b, c, d], [.., budget]) = (self.numbers.map(|number| number as u32), self.numbers);
         let (base, overlay) = self.pair(input);
         answer(match self.entry {
             Entry::ReadSoc => entries::read_soc(input, lent),
@@ -159,6 +169,7 @@ impl Case {
             Entry::ModuleTimePair => pair_entries::module_time_pair(base, overlay, a, b, c).map_err(for_c),
             Entry::ModuleWiresPair => pair_entries::module_wires_pair(base, overlay, a, b, c).map_err(for_c),
             Entry::PlanPair => pair_entries::plan_pair(base, overlay, a, b, c, lent).map_err(for_c),
+            Entry::Budget => entries::budget(input, a, b, c, budget, lent),
         })
     }
 }

@@ -81,8 +81,8 @@ pub fn read(file: &str) -> Result<Case, String> {
 }
 
 /// Numbers that are left out are 0.
-fn read_numbers(numbers: &str) -> Option<[u32; NUMBERS]> {
-    let mut numbers: Vec<u32> = numbers.split(' ').map(|number| number.parse().ok()).collect::<Option<_>>()?;
+fn read_numbers(numbers: &str) -> Option<[u64; NUMBERS]> {
+    let mut numbers: Vec<u64> = numbers.split(' ').map(|number| number.parse().ok()).collect::<Option<_>>()?;
     numbers.resize(numbers.len().max(NUMBERS), 0);
     numbers.try_into().ok()
 }
@@ -132,7 +132,7 @@ mod tests {
         for entry in crate::case::ENTRIES {
             for input in inputs {
                 for overlay_at in [0, 4] {
-                    let case = Case { entry, numbers: [1, 0, 0, u32::MAX], overlay_at, room: 300, input: input.to_vec() };
+                    let case = Case { entry, numbers: [1, 0, 0, u64::MAX], overlay_at, room: 300, input: input.to_vec() };
                     let file = written(&case, "why it is kept\nin two lines");
                     assert_eq!(read(&file), Ok(case), "{file}");
                 }

@@ -4,7 +4,7 @@ use crate::compare::Outcome;
 use crate::kinds::Kind;
 
 /// The highest refusal number.
-pub const REFUSALS: usize = 17;
+pub const REFUSALS: usize = 18;
 
 #[derive(Clone, Default)]
 pub struct Tally {

@@ -35,7 +35,7 @@ impl LoosePlan {
         let count = random.within(1, limit);
         let widths = make_widths(count, random);
         let mut numbers: Vec<u32> = (1..limits::MODULES as u32).collect();
-        let modules = random.within(1, limits::PLANNED as u32) as usize;
+        let modules = make_module_count(random);
         while numbers.len() > modules {
             numbers.remove(random.below(numbers.len()));
         }
@@ -99,9 +99,10 @@ impl LoosePlan {
         match random.below(6) {
             0 => self.wires = *random.pick(&[0, 1, 64, 65, 128, 255, 256]),
             1 => self.wires = step(self.wires, random),
-            2 => self.limit = *random.pick(&[0, 1, 2, 3, 4, 255]),
+            2 => self.limit = *random.pick(&[0, 1, 2, 3, 4, 7, 8, 9, 255]),
             3 => self.modules.clear(),
             4 => {
+                // Behind 39 modules there is no number left.
                 let extra = LooseModule { number: 39, bus: 1, wires: 1, cycles: 1, start: 0 };
                 self.modules.push(extra);
             }
@@ -246,9 +247,18 @@ impl LoosePlan {
     }
 }
 
+/// Mostly no more than the first planner takes, now and then as many as there can be.
+fn make_module_count(random: &mut Random) -> usize {
+    match random.below(10) {
+        0 => limits::PLANNED,
+        1..=2 => 1 + random.below(limits::PLANNED),
+        _ => 1 + random.below(limits::FIRST_PLANNER_PLANNED),
+    }
+}
+
 /// Non-decreasing widths that sum to 64 at most.
 fn make_widths(count: u32, random: &mut Random) -> Vec<u32> {
-    let most = *random.pick(&[1, 2, 5, 21]);
+    let most = (*random.pick(&[1, 2, 5, 21])).min(limits::WIRES / count);
     let mut widths: Vec<u32> = (0..count).map(|_| random.within(1, most)).collect();
     widths.sort_unstable();
     if random.chance(20) {

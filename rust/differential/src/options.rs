@@ -6,7 +6,7 @@ pub const USAGE: &str = "\
 usage: differential [--cases N] [--seed S] [--corpus FOLDER] [--found FOLDER]
        differential --self-test [--cases N] [--seed S]
 
-  --cases N         cases to make, 20000 by default (2000 for --self-test); below 20000 it is not asked that every outcome occurs
+  --cases N         cases to make, 20000 by default (4000 for --self-test); below 20000 it is not asked that every outcome occurs
   --seed S          what they are made from; the same seed gives the same cases
   --corpus FOLDER   cases that are put first, by default the corpus beside the sources
   --found FOLDER    where a case that differs is written, by default the current folder
@@ -15,7 +15,7 @@ usage: differential [--cases N] [--seed S] [--corpus FOLDER] [--found FOLDER]
 Exit status: 0 no difference; 1 a difference, or an outcome that never occurred; 2 a wrong call.";
 
 const CASES: u64 = 20_000;
-const SELF_TEST_CASES: u64 = 2_000;
+const SELF_TEST_CASES: u64 = 4_000;
 const SEED: u64 = 695;
 
 #[derive(PartialEq, Eq)]

@@ -1,10 +1,10 @@
 //! Every entry of the C interface, on slices: the figure, or the refusal.
 
-use crate::forms::{layout_bytes, plan_bytes, plan_from, soc_bytes, soc_from};
+use crate::forms::{budget_bytes, layout_bytes, plan_bytes, plan_from, soc_bytes, soc_from};
 use crate::plan::Plan;
 use crate::refusal::{demand, Refusal};
 use crate::soc::Soc;
-use crate::{listing, plan_file, planner, soc_text, soc_written, time};
+use crate::{budget, listing, plan_file, planner, soc_text, soc_written, time};
 
 pub type Outcome = Result<u64, Refusal>;
 
@@ -30,6 +30,11 @@ pub fn module_wires(record: &[u8], module: u32, width: u32, capture: u32) -> Out
 
 pub fn plan(record: &[u8], wires: u32, limit: u32, capture: u32, plan: &mut [u8]) -> Outcome {
     give(&plan_bytes(&planner::plan(&good_soc(record)?, wires, limit, capture)?), plan)
+}
+
+/// The second planner, which stops after so many tries.
+pub fn budget(record: &[u8], wires: u32, limit: u32, capture: u32, tries: u64, into: &mut [u8]) -> Outcome {
+    give(&budget_bytes(&budget::plan_within(&good_soc(record)?, wires, limit, capture, tries)?), into)
 }
 
 pub fn write_plan(plan: &[u8], file: &mut [u8]) -> Outcome {

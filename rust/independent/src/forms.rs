@@ -1,5 +1,6 @@
 //! The records as little-endian bytes, in the forms of the C interface.
 
+use crate::budget::Budgeted;
 use crate::plan::{Bus, Plan, Planned};
 use crate::soc::{Module, Soc, Test};
 use crate::time::LayoutAndTime;
@@ -7,7 +8,8 @@ use crate::units::{Cycles, FlipFlops, Wires};
 
 pub const SOC_BYTES: usize = 16_688;
 pub const LAYOUT_BYTES: usize = 1_304;
-pub const PLAN_BYTES: usize = 396;
+pub const PLAN_BYTES: usize = 1_212;
+pub const BUDGET_BYTES: usize = 1_228;
 
 /// Takes numbers from the front of bytes.
 pub struct Source<'a>(pub &'a [u8]);
@@ -159,6 +161,17 @@ pub fn plan_bytes(plan: &Plan) -> Vec<u8> {
         put_cycles(&mut bytes, module.cycles);
         put_cycles(&mut bytes, module.start);
     }
+    bytes
+}
+
+/// Whether the search is finished, whether there is a plan, the tries, and the plan's record, which is all 0 where there is none.
+pub fn budget_bytes(answer: &Budgeted) -> Vec<u8> {
+    let mut bytes = Vec::with_capacity(BUDGET_BYTES);
+    for flag in [answer.finished, answer.plan.is_some()] {
+        put(&mut bytes, u32::from(flag));
+    }
+    bytes.extend_from_slice(&answer.tries.to_le_bytes());
+    bytes.extend_from_slice(&plan_bytes(answer.plan.as_ref().unwrap_or(&Plan::default())));
     bytes
 }
 

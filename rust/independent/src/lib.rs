@@ -6,6 +6,7 @@
 #![forbid(unsafe_code)]
 
 pub mod block;
+pub mod budget;
 pub mod entries;
 pub mod forms;
 pub mod layout;

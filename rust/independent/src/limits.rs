@@ -13,8 +13,14 @@ pub const POSITION: u32 = 1_000_000;
 pub const POWER: u32 = 16_777_215;
 
 pub const WIRES: u32 = 64;
-pub const BUSES: usize = 3;
-pub const PLANNED: usize = 12;
+/// Buses and planned modules of a plan, and of the second planner.
+pub const BUSES: usize = 8;
+pub const PLANNED: usize = 39;
+/// Buses and planned modules of the first planner.
+pub const FIRST_PLANNER_BUSES: usize = 3;
+pub const FIRST_PLANNER_PLANNED: usize = 12;
+/// The most tries that the second planner may be allowed.
+pub const BUDGET: u64 = 1_099_511_627_776;
 
 /// Capture cycles, from 1; and those where none are asked for.
 pub const CAPTURE: u32 = 4;
@@ -25,7 +31,7 @@ pub const TEST_CYCLES: u64 = 4_672_957_972_476;
 pub const MODULE_CYCLES: u64 = 37_383_663_779_808;
 
 /// The most bytes of a plan file.
-pub const PLAN_FILE_BYTES: usize = 292;
+pub const PLAN_FILE_BYTES: usize = 892;
 
 /// The most bytes of the line `Plan W B c`, its end included.
 pub const PLAN_LINE_BYTES: usize = 32;

@@ -21,7 +21,7 @@ pub struct Planned {
 }
 
 /// Places past a count are spare, and 0 in a good record.
-#[derive(Clone, Debug, Default, PartialEq, Eq)]
+#[derive(Clone, Debug, PartialEq, Eq)]
 pub struct Plan {
     pub wires: Wires,
     pub limit: u32,
@@ -30,6 +30,21 @@ pub struct Plan {
     pub time: Cycles,
     pub buses: [Bus; limits::BUSES],
     pub modules: [Planned; limits::PLANNED],
+}
+
+/// All places 0.
+impl Default for Plan {
+    fn default() -> Self {
+        Plan {
+            wires: Wires(0),
+            limit: 0,
+            bus_count: 0,
+            module_count: 0,
+            time: Cycles(0),
+            buses: [Bus::default(); limits::BUSES],
+            modules: [Planned::default(); limits::PLANNED],
+        }
+    }
 }
 
 impl Plan {

@@ -1,30 +1,40 @@
-//! The planner: the first plan of least time in the order of plans.
+//! The first planner: the first plan of least time in the order of plans, for up to twelve modules and three buses.
 
 use crate::limits;
 use crate::plan::{Bus, Plan, Planned};
 use crate::refusal::{demand, Refusal};
 use crate::soc::Soc;
 use crate::time::{check_capture, check_width, times, ModuleTime};
-use crate::units::{Cycles, Wires};
+use crate::units::{Capture, Cycles, Wires};
 
 /// Finds the plan for W wires, limit B and c capture cycles (refusals 7, 8, 16, 9, 10; the record is good).
 pub fn plan(soc: &Soc, wires: u32, limit: u32, capture: u32) -> Result<Plan, Refusal> {
     let wires = check_width(wires)?;
-    demand((1..=limits::BUSES as u32).contains(&limit), 8)?;
+    demand((1..=limits::FIRST_PLANNER_BUSES as u32).contains(&limit), 8)?;
     let capture = check_capture(capture)?;
-    let planned: Vec<u32> = (0..soc.module_count).filter(|&number| soc.modules[number as usize].planned()).collect();
+    let planned = planned_modules(soc);
     demand(!planned.is_empty(), 9)?;
-    demand(planned.len() <= limits::PLANNED, 10)?;
-    let table: Vec<Vec<ModuleTime>> = planned.iter().map(|&number| times(&soc.modules[number as usize], wires, capture)).collect();
+    demand(planned.len() <= limits::FIRST_PLANNER_PLANNED, 10)?;
+    let table = table(soc, &planned, wires, capture);
     let best = search(&table, wires, limit);
     Ok(record(&planned, &table, &best, wires, limit))
 }
 
+/// The numbers of the planned modules, ascending.
+pub fn planned_modules(soc: &Soc) -> Vec<u32> {
+    (0..soc.module_count).filter(|&number| soc.modules[number as usize].planned()).collect()
+}
+
+/// Of each planned module its times on buses of the widths from 1 to W.
+pub fn table(soc: &Soc, planned: &[u32], wires: Wires, capture: Capture) -> Vec<Vec<ModuleTime>> {
+    planned.iter().map(|&number| times(&soc.modules[number as usize], wires, capture)).collect()
+}
+
 /// Widths of the buses, and for each planned module its bus counted from 0.
-struct Choice {
-    widths: Vec<Wires>,
-    buses: Vec<usize>,
-    time: Cycles,
+pub struct Choice {
+    pub widths: Vec<Wires>,
+    pub buses: Vec<usize>,
+    pub time: Cycles,
 }
 
 /// Goes through the plans in their order and keeps one only if it is better than all before, so the first of least time is left.
@@ -139,7 +149,8 @@ impl<'a> Assignment<'a> {
     }
 }
 
-fn record(planned: &[u32], table: &[Vec<ModuleTime>], best: &Choice, wires: Wires, limit: u32) -> Plan {
+/// The plan record of a choice.
+pub fn record(planned: &[u32], table: &[Vec<ModuleTime>], best: &Choice, wires: Wires, limit: u32) -> Plan {
     let mut plan =
         Plan { wires, limit, bus_count: best.widths.len() as u32, module_count: planned.len() as u32, time: best.time, ..Plan::default() };
     for (bus, &width) in plan.buses.iter_mut().zip(&best.widths) {

@@ -6,7 +6,7 @@ use common::{soc, t1};
 use independent::entries;
 use independent::forms::{plan_bytes, plan_from, PLAN_BYTES};
 use independent::limits;
-use independent::plan::{Plan, Planned};
+use independent::plan::{Bus, Plan, Planned};
 use independent::plan_file;
 use independent::planner::plan;
 use independent::refusal::Refusal;
@@ -40,18 +40,22 @@ fn a_wrong_place_in_a_plan_record_is_12() {
         |plan| plan.wires = Wires(0),
         |plan| plan.wires = Wires(5),
         |plan| plan.limit = 1,
-        |plan| plan.limit = 4,
+        |plan| plan.limit = 0,
+        |plan| plan.limit = 9,
         |plan| plan.bus_count = 0,
         |plan| plan.bus_count = 1,
         |plan| plan.bus_count = 3,
+        |plan| plan.bus_count = 9,
         |plan| plan.module_count = 0,
         |plan| plan.module_count = 3,
-        |plan| plan.module_count = 13,
+        |plan| plan.module_count = 39,
+        |plan| plan.module_count = 40,
         |plan| plan.time = Cycles(66),
         |plan| plan.buses.swap(0, 1),
         |plan| plan.buses[0].width = Wires(0),
         |plan| plan.buses[1].busy = Cycles(8),
         |plan| plan.buses[2].busy = Cycles(1),
+        |plan| plan.buses[7].width = Wires(1),
         |plan| plan.modules[0].number = 0,
         |plan| plan.modules[0].number = 2,
         |plan| plan.modules[1].number = 40,
@@ -63,7 +67,7 @@ fn a_wrong_place_in_a_plan_record_is_12() {
         |plan| plan.modules[1].cycles = Cycles(10),
         |plan| plan.modules[1].start = Cycles(65),
         |plan| plan.modules[11] = Planned { number: 39, ..Planned::default() },
-        |plan| plan.modules[11] = Planned { start: Cycles(1), ..Planned::default() },
+        |plan| plan.modules[38] = Planned { start: Cycles(1), ..Planned::default() },
     ];
     for (index, fault) in faults.iter().enumerate() {
         let mut plan = best();
@@ -110,6 +114,41 @@ fn plan_file_of_t1() {
     let file = [module(1, 1, 1, 65, 0), module(2, 1, 3, 9, 65), bus(4, 74), trailer].concat();
     assert_eq!(plan_file::write(&on_one_bus()), file);
     assert_eq!(plan_file::read(&file), Ok(on_one_bus()));
+}
+
+/// A plan of 39 modules, module m with m cycles on bus (m - 1) % 8 + 1, of eight buses of a wire each.
+fn largest() -> Plan {
+    let mut plan = Plan { wires: Wires(8), limit: 8, bus_count: 8, module_count: 39, ..Plan::default() };
+    for (number, module) in (1..).zip(&mut plan.modules) {
+        *module = Planned { number, bus: (number - 1) % 8 + 1, wires: Wires(1), cycles: Cycles(number.into()), start: Cycles(0) };
+    }
+    for index in 0..39 {
+        plan.modules[index].start = plan.start_of(&plan.modules[index]);
+        let bus = &mut plan.buses[index % 8];
+        *bus = Bus { width: Wires(1), busy: bus.busy + Cycles(index as u64 + 1) };
+    }
+    // Modules 7, 15, 23, 31 and 39.
+    plan.time = Cycles(115);
+    plan
+}
+
+#[test]
+fn thirty_nine_modules_on_eight_buses() {
+    let plan = largest();
+    assert_eq!(plan.check(), Ok(()));
+    let bytes = plan_bytes(&plan);
+    assert_eq!((bytes.len(), plan_from(&bytes)), (PLAN_BYTES, Some(plan.clone())));
+    let number = |offset: usize| u32::from_le_bytes(bytes[offset..offset + 4].try_into().unwrap());
+    // Bus 8 has modules 8, 16, 24 and 32; module 39 is the last on bus 7, behind 7, 15, 23 and 31.
+    assert_eq!([24 + 12 * 7, 24 + 12 * 7 + 4].map(number), [1, 80]);
+    assert_eq!([0, 4, 8, 12, 20].map(|place| number(120 + 28 * 38 + place)), [39, 7, 1, 39, 76]);
+    let file = plan_file::write(&plan);
+    assert_eq!((file.len(), plan_file::read(&file)), (limits::PLAN_FILE_BYTES, Ok(plan.clone())));
+    assert_eq!(&file[file.len() - 16..], [&[0, 0, 12, 3, 8, 8, 8, 39][..], &115u64.to_le_bytes()].concat());
+    for limit in 1..=9 {
+        let good = Plan { limit, ..best() }.check().is_ok();
+        assert_eq!(good, (2..=8).contains(&limit), "{limit}");
+    }
 }
 
 /// Module 0 is never planned, so a plan does not name it.

@@ -82,6 +82,16 @@ extern "C" {
         plan: *mut u8,
         plan_len: usize,
     ) -> u64;
+    pub fn tallowwing_budget(
+        record: *const u8,
+        record_len: usize,
+        wires: u32,
+        limit: u32,
+        capture: u32,
+        tries: u64,
+        found: *mut u8,
+        found_len: usize,
+    ) -> u64;
     pub fn tallowwing_write_plan(plan: *const u8, plan_len: usize, file: *mut u8, file_len: usize) -> u64;
     pub fn tallowwing_read_plan(file: *const u8, file_len: usize, plan: *mut u8, plan_len: usize) -> u64;
     pub fn tallowwing_show(plan: *const u8, plan_len: usize, listing: *mut u8, listing_len: usize) -> u64;

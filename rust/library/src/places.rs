@@ -65,7 +65,7 @@ pub mod plan {
     pub const MODULE_COUNT: usize = 12;
     pub const TIME: usize = 16;
     pub const BUSES: usize = 24;
-    pub const MODULES: usize = 60;
+    pub const MODULES: usize = 120;
 
     /// The offset of bus i, counted from 1.
     pub const fn bus(i: usize) -> usize {
@@ -76,6 +76,14 @@ pub mod plan {
     pub const fn module(j: usize) -> usize {
         MODULES + super::planned::BYTES * j
     }
+}
+
+/// What the planner with a spending limit found: offsets from its front.
+pub mod budget {
+    pub const FINISHED: usize = 0;
+    pub const KNOWN: usize = 4;
+    pub const TRIES: usize = 8;
+    pub const PLAN: usize = 16;
 }
 
 /// A bus in a plan record: offsets from the bus's front.
@@ -98,13 +106,14 @@ pub mod planned {
 #[cfg(test)]
 mod tests {
     use super::*;
-    use crate::{LAYOUT_BYTES, PLAN_BYTES, SOC_BYTES};
+    use crate::{BUDGET_BYTES, LAYOUT_BYTES, PLAN_BYTES, SOC_BYTES};
 
     #[test]
     fn records_are_filled_to_their_end() {
         assert_eq!(soc::module(soc::MODULES), SOC_BYTES);
         assert_eq!(module::test(9), module::BYTES);
         assert_eq!((layout::WRAPPER_CHAINS + 64 * 4, layout::CYCLES + 8), (layout::SI, LAYOUT_BYTES));
-        assert_eq!((plan::bus(4), plan::module(12)), (plan::MODULES, PLAN_BYTES));
+        assert_eq!((plan::bus(9), plan::module(39)), (plan::MODULES, PLAN_BYTES));
+        assert_eq!(budget::PLAN + PLAN_BYTES, BUDGET_BYTES);
     }
 }

@@ -1,7 +1,7 @@
 //! Views of records that the library has written: their figures by name. A view is made of bytes of the record's own length.
 
 use crate::places;
-use crate::{LAYOUT_BYTES, PLAN_BYTES, SOC_BYTES};
+use crate::{BUDGET_BYTES, LAYOUT_BYTES, PLAN_BYTES, SOC_BYTES};
 
 /// The 4-byte number at an offset.
 fn u32_at(bytes: &[u8], offset: usize) -> u32 {
@@ -170,5 +170,31 @@ impl<'a> PlanView<'a> {
                 start: u64_at(self.0, front + places::planned::START),
             }
         })
+    }
+}
+
+/// What the planner with a spending limit found.
+#[derive(Clone, Copy)]
+pub struct BudgetView<'a>(&'a [u8; BUDGET_BYTES]);
+
+impl<'a> BudgetView<'a> {
+    pub fn new(found: &'a [u8; BUDGET_BYTES]) -> Self {
+        BudgetView(found)
+    }
+
+    /// Whether the search needed no more tries than it was given.
+    pub fn finished(self) -> bool {
+        u32_at(self.0, places::budget::FINISHED) == 1
+    }
+
+    /// The tries spent.
+    pub fn tries(self) -> u64 {
+        u64_at(self.0, places::budget::TRIES)
+    }
+
+    /// The record of the best plan met, if one is known.
+    pub fn plan(self) -> Option<&'a [u8; PLAN_BYTES]> {
+        let known = u32_at(self.0, places::budget::KNOWN) == 1;
+        self.0[places::budget::PLAN..].first_chunk().filter(|_| known)
     }
 }

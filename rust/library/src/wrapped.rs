@@ -81,6 +81,13 @@ pub fn plan(record: &[u8], wires: u32, limit: u32, capture: u32, plan: &mut [u8]
     Answer::from_number(unsafe { tallowwing_plan(record.as_ptr(), record.len(), wires, limit, capture, plan.as_mut_ptr(), plan.len()) })
 }
 
+/// Searches for a plan for W wires and up to 8 buses within a number of tries: whether the search was finished, the tries spent and the
+/// best plan met.
+pub fn budget(record: &[u8], wires: u32, limit: u32, capture: u32, tries: u64, found: &mut [u8]) -> Answer {
+    let (r, f) = (record.as_ptr(), found.as_mut_ptr());
+    Answer::from_number(unsafe { tallowwing_budget(r, record.len(), wires, limit, capture, tries, f, found.len()) })
+}
+
 /// Writes the plan file of a plan record.
 pub fn write_plan(plan: &[u8], file: &mut [u8]) -> Answer {
     Answer::from_number(unsafe { tallowwing_write_plan(plan.as_ptr(), plan.len(), file.as_mut_ptr(), file.len()) })

@@ -1,6 +1,6 @@
 //! Every entry answers through the wrappers, empty slices included. What the answers have to be is held against `independent` elsewhere.
 
-use tallowwing_library::views::{Bus, Chain, LayoutView, PlanView, Planned, SocView};
+use tallowwing_library::views::{BudgetView, Bus, Chain, LayoutView, PlanView, Planned, SocView};
 use tallowwing_library::*;
 
 /// Document 01's text t1.
@@ -113,6 +113,26 @@ fn a_plan_record_is_shown_as_it_is_listed() {
 }
 
 #[test]
+fn a_budget_finishes_the_search_or_stops_it() {
+    let (mut planned, mut found) = ([0; PLAN_BYTES], [7; BUDGET_BYTES]);
+    assert_eq!(plan(&record(), 4, 2, 1, &mut planned), Answer::Figure(PLAN_BYTES as u64));
+    assert_eq!(budget(&record(), 4, 2, 1, 1_000, &mut found), Answer::Figure(BUDGET_BYTES as u64));
+    let whole = BudgetView::new(&found);
+    assert_eq!((whole.finished(), whole.plan()), (true, Some(&planned)));
+    let needed = whole.tries();
+    assert_eq!(budget(&record(), 4, 2, 1, needed - 1, &mut found), Answer::Figure(BUDGET_BYTES as u64));
+    let stopped = BudgetView::new(&found);
+    assert_eq!((stopped.finished(), stopped.tries(), stopped.plan().is_some()), (false, needed - 1, true));
+    assert_eq!(budget(&record(), 4, 2, 1, 1, &mut found), Answer::Figure(BUDGET_BYTES as u64));
+    let none = BudgetView::new(&found);
+    assert_eq!((none.finished(), none.tries(), none.plan()), (false, 1, None));
+    for (limit, tries, number) in [(9, 0, 8), (8, 0, 18), (8, (1 << 40) + 1, 18), (8, u64::MAX, 18)] {
+        assert_eq!(budget(&record(), 4, limit, 1, tries, &mut found), refused(number));
+    }
+    assert_eq!(budget(&record(), 4, 2, 1, 9, &mut found[1..]), refused(11));
+}
+
+#[test]
 fn views_read_figures_by_name() {
     let record: [u8; SOC_BYTES] = record().try_into().expect("a record's length");
     let soc = SocView::new(&record);
@@ -152,6 +172,7 @@ fn empty_slices_are_refused_and_no_more() {
     assert_eq!(module_time(&[], 0, 0, 0), refused(14));
     assert_eq!(module_wires(&[], 0, 0, 0), refused(14));
     assert_eq!(plan(&[], 0, 0, 0, &mut []), refused(14));
+    assert_eq!(budget(&[], 0, 0, 0, 0, &mut []), refused(14));
     assert_eq!(write_plan(&[], &mut []), refused(12));
     assert_eq!(read_plan(&[], &mut []), refused(12));
     assert_eq!(show(&[], &mut []), refused(12));

@@ -1,12 +1,13 @@
 //! The kinds of cases: how each is made, how often, and what must come of it at least once.
 
+mod budgets;
 mod listings;
 mod pairs;
 mod plans;
 mod records;
 pub mod texts;
 
-use independent::forms::{LAYOUT_BYTES, PLAN_BYTES, SOC_BYTES};
+use independent::forms::{BUDGET_BYTES, LAYOUT_BYTES, PLAN_BYTES, SOC_BYTES};
 use independent::limits;
 
 use crate::case::{Case, Entry};
@@ -41,6 +42,8 @@ pub const KINDS: &[Kind] = &[
     Kind { name: "module wires", share: 40, make: records::module_wires, must_occur: &[0, 7, 13, 16] },
     Kind { name: "plan, small", share: 90, make: plans::plan_small, must_occur: &[0, 7, 8, 9, 10, 11, 16] },
     Kind { name: SLOW, share: 2, make: plans::plan_large, must_occur: &[0] },
+    Kind { name: "budget, about the tries needed", share: 90, make: budgets::budget_small, must_occur: &[0, 7, 8, 9, 11, 16, 18] },
+    Kind { name: "budget, many modules", share: 30, make: budgets::budget_large, must_occur: &[0, 11, 18] },
     Kind { name: "plan record, good", share: 60, make: plans::plan_record_good, must_occur: &[0, 11] },
     Kind { name: "plan record, damaged", share: 150, make: plans::plan_record_damaged, must_occur: &[0, 12] },
     Kind { name: "plan record or file, most cycles", share: 40, make: plans::plan_most_cycles, must_occur: &[0, 11, 12] },
@@ -97,6 +100,7 @@ fn exact_room(case: &Case) -> usize {
         Entry::ReadSoc | Entry::ReadPair => SOC_BYTES,
         Entry::Layout | Entry::LayoutPair => LAYOUT_BYTES,
         Entry::Plan | Entry::PlanPair | Entry::ReadPlan => PLAN_BYTES,
+        Entry::Budget => BUDGET_BYTES,
         _ => {
             let mut lent = vec![0; limits::TEXT_BYTES];
             case.ask_independent(&case.input, &mut lent).figure().map_or(limits::PLAN_FILE_BYTES, |length| length as usize)

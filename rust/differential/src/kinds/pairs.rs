@@ -44,7 +44,8 @@ const ASKED: &[Entry] = &[Entry::WritePair, Entry::LayoutPair, Entry::ModuleTime
 /// Every entry that takes a pair judges it in the same way.
 fn case(soc: &Soc, base: &[u8], overlay: &[u8], random: &mut Random) -> Case {
     let entry = *if random.chance(50) { random.pick(&[Entry::ReadPair, Entry::ModuleLines]) } else { random.pick(ASKED) };
-    let (module, test) = (random.within(0, soc.module_count), random.within(0, 3));
+    let module = if random.chance(10) { soc.module_count } else { random.below(soc.module_count as usize) as u32 };
+    let test = if random.chance(70) { 1 } else { random.within(0, 3) };
     let numbers = match entry {
         Entry::ReadPair | Entry::WritePair => [0; 4],
         Entry::ModuleLines => [module, 0, 0, 0],

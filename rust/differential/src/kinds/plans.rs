@@ -28,7 +28,7 @@ pub fn any_plan_numbers(random: &mut Random) -> [u32; 3] {
         1 => random.within(13, limits::WIRES),
         _ => random.within(1, 12),
     };
-    let limit = if random.chance(5) { *random.pick(&[0, 4, 5, 4_294_967_295]) } else { random.within(1, 3) };
+    let limit = if random.chance(5) { *random.pick(&[0, 4, 5, 8, 4_294_967_295]) } else { random.within(1, 3) };
     [wires, limit, any_capture(random)]
 }
 
@@ -38,8 +38,12 @@ pub fn plan_small(random: &mut Random) -> Case {
 }
 
 pub fn plan_large(random: &mut Random) -> Case {
-    let shape = Shape { modules: random.within(13, 15), planned: limits::PLANNED as u32, large: false };
-    Case::new(Entry::Plan, [limits::WIRES, limits::BUSES as u32, random.within(1, limits::CAPTURE)], soc_bytes(&make_soc(shape, random)))
+    let shape = Shape { modules: random.within(13, 15), planned: limits::FIRST_PLANNER_PLANNED as u32, large: false };
+    Case::new(
+        Entry::Plan,
+        [limits::WIRES, limits::FIRST_PLANNER_BUSES as u32, random.within(1, limits::CAPTURE)],
+        soc_bytes(&make_soc(shape, random)),
+    )
 }
 
 pub fn plan_record_good(random: &mut Random) -> Case {

@@ -39,12 +39,13 @@ pub fn soc_limits(random: &mut Random) -> Case {
 
 /// Every entry that takes a SOC record judges it in the same way.
 fn handed_to_any(record: Vec<u8>, random: &mut Random) -> Case {
-    let entry = *random.pick(&[Entry::WriteSoc, Entry::Layout, Entry::ModuleTime, Entry::ModuleWires, Entry::Plan]);
+    let entry = *random.pick(&[Entry::WriteSoc, Entry::Layout, Entry::ModuleTime, Entry::ModuleWires, Entry::Plan, Entry::Budget]);
     let capture = any_capture(random);
     let numbers = match entry {
         Entry::WriteSoc => [0; 4],
         Entry::Layout => [random.within(0, 2), random.within(0, 2), random.within(0, 9), capture],
         Entry::Plan => [random.within(0, 6), random.within(0, 3), capture, 0],
+        Entry::Budget => [random.within(0, 6), random.within(0, 8), capture, random.within(0, 2_000)],
         _ => [random.within(0, 2), random.within(0, 9), capture, 0],
     };
     Case::new(entry, numbers, record)

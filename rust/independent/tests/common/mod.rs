@@ -1,6 +1,8 @@
 //! Texts that several tests read.
 #![allow(dead_code)]
 
+pub mod small;
+
 use independent::soc::Soc;
 use independent::soc_text;
 

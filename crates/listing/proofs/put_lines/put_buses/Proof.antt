@@ -8,7 +8,7 @@ use mathlib.Core.List.{[], _∷_, _++_}
 use lib.ListN.{length, getD, take, length-map, length-append}
 use Rattle.buffer.specs.Puts.{Put}
 use Rattle.buffer.proofs.PutLaws.{put-none, put-then}
-use Rattle.plan_record.specs.Record.{noBus}
+use Rattle.plan_record.specs.Record.{busPlaces, noBus}
 use Rattle.fields.specs.WrittenLines.{writtenLines}
 use Rattle.listing.specs.Listing.{busFields, busLines}
 use Rattle.listing.specs.Room.{busRoom}
@@ -22,7 +22,7 @@ Inv-loop buf₀ at p n e₀ i₀ buf e i = (i ≤ n) × (length buf ≡ length b
 abbrev μ-loop : tie.MeasureT-loop
 μ-loop buf₀ at p n e₀ i₀ buf e i = n - i
 
-len : (c : tie.Start Inv-loop μ-loop) → length (c .args .t3 .buses) ≡ 3
+len : (c : tie.Start Inv-loop μ-loop) → length (c .args .t3 .buses) ≡ busPlaces
 len c = simp length-map at (c .good .1 .1 .0 .1 .1 .1 .1 .1 .0 .1 .0 .1)
 
 -- the text of one bus more

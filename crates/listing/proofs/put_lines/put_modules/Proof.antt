@@ -8,7 +8,7 @@ use mathlib.Core.List.{[], _∷_, _++_}
 use lib.ListN.{length, getD, take, length-map, length-append}
 use Rattle.buffer.specs.Puts.{Put}
 use Rattle.buffer.proofs.PutLaws.{put-none, put-then}
-use Rattle.plan_record.specs.Record.{noPlaced}
+use Rattle.plan_record.specs.Record.{modulePlaces, noPlaced}
 use Rattle.fields.specs.WrittenLines.{writtenLines}
 use Rattle.listing.specs.Listing.{moduleFields, moduleLines}
 use Rattle.listing.specs.Room.{moduleRoom}
@@ -22,7 +22,7 @@ Inv-loop buf₀ at p n e₀ i₀ buf e i = (i ≤ n) × (length buf ≡ length b
 abbrev μ-loop : tie.MeasureT-loop
 μ-loop buf₀ at p n e₀ i₀ buf e i = n - i
 
-len : (c : tie.Start Inv-loop μ-loop) → length (c .args .t3 .modules) ≡ 12
+len : (c : tie.Start Inv-loop μ-loop) → length (c .args .t3 .modules) ≡ modulePlaces
 len c = simp length-map at (c .good .1 .1 .0 .1 .1 .1 .1 .1 .1 .1 .0 .1 .0 .1)
 
 -- the text of one module more

@@ -7,7 +7,7 @@ use mathlib.Core.Path.{_≡_, sym, _∙_}
 use lib.ListN.{length, take}
 use Rattle.units.specs.Places.{padded}
 use Rattle.units.proofs.PlaceLaws.{padded-none}
-use Rattle.plan_search.specs.Search.{searchBuses, tableTime}
+use Rattle.plan_search.specs.Search.{foundBuses, tableTime}
 use Rattle.plan_record.specs.Record.{busPlaces, noBus}
 use Rattle.plan.proofs.EntryLaws.{cycles-of, busFront, front-none, front-fill, front-all}
 use Rattle.plan.proofs.entry.buses_of.Statement.{statement}
@@ -20,7 +20,7 @@ Inv-loop table n f list₀ b₀ list b =
 abbrev μ-loop : tie.MeasureT-loop
 μ-loop table n f list₀ b₀ list b = f .count - b
 
-len : (c : tie.Start Inv-loop μ-loop) → length (c .args .t2 .widths) ≡ searchBuses
+len : (c : tie.Start Inv-loop μ-loop) → length (c .args .t2 .widths) ≡ foundBuses
 len c = search needs
 
 no-bus-requires : tie.Need-no-bus-requires Inv-loop μ-loop

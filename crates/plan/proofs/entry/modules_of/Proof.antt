@@ -9,10 +9,10 @@ use Rattle.units.specs.Places.{padded}
 use Rattle.units.proofs.PlaceLaws.{padded-none}
 use Rattle.plan_record.specs.Record.{modulePlaces, noPlaced}
 use Rattle.wrapper.specs.WrapperAnswers.{widthMax}
-use Rattle.plan_search.specs.Search.{searchModules, rowPlaces}
+use Rattle.plan_search.specs.Search.{foundModules, rowPlaces}
 use Rattle.plan.specs.Records.{placedFrom}
 use Rattle.plan.specs.Tables.{tablePlaces}
-use Rattle.plan.proofs.EntryLaws.{cycles-of, table-fewer, placed-none, placed-fill, placed-all}
+use Rattle.plan.proofs.EntryLaws.{cycles-of, times-fewer, placed-none, placed-fill, placed-all}
 use Rattle.plan.proofs.entry.modules_of.Statement.{statement}
 use Rattle.plan.proofs.entry.modules_of.Tie as tie
 
@@ -22,7 +22,7 @@ Inv-loop p t f list₀ n times buses i₀ list i = (i ≤ n) × (list ≡ padded
 abbrev μ-loop : tie.MeasureT-loop
 μ-loop p t f list₀ n times buses i₀ list i = n - i
 
-buses-length : (c : tie.Start Inv-loop μ-loop) → length (c .args .t3 .buses) ≡ searchModules
+buses-length : (c : tie.Start Inv-loop μ-loop) → length (c .args .t3 .buses) ≡ foundModules
 buses-length c = search needs
 
 -- where a turn began from
@@ -38,14 +38,14 @@ width c = getD (start c .args .t3 .widths) (bus c - 1) 0
 
 -- the bus is one of the plan's
 bus-in : (c : tie.In-loop Inv-loop μ-loop) → (1 ≤ bus c) × (bus c ≤ start c .args .t3 .count)
-bus-in c = start c .pre .2 .placed (c .before .loop .i) (c .loop-test .taken)
+bus-in c = start c .pre .1 .placed (c .before .loop .i) (c .loop-test .taken)
 
 -- and its width one of the widths
 width-in : (c : tie.In-loop Inv-loop μ-loop) → (1 ≤ width c) × (width c ≤ widthMax)
-width-in c = start c .pre .2 .wide (bus c - 1) (omega (arith, bus-in c))
+width-in c = start c .pre .1 .wide (bus c - 1) (omega (arith, bus-in c))
 
 place-in : (c : tie.In-loop Inv-loop μ-loop) → c .before .loop .i * rowPlaces + (width c - 1) < tablePlaces
-place-in c = omega (arith, width-in c, start c .pre .0, c .loop-test .taken)
+place-in c = omega (arith, width-in c, start c .pre .0 .few, c .loop-test .taken)
 
 no-placed-requires : tie.Need-no-placed-requires Inv-loop μ-loop
 no-placed-requires c κs = search needs
@@ -72,10 +72,10 @@ sub-t22 : tie.Need-sub-t22 Inv-loop μ-loop
 sub-t22 c = bus-in (c .before .before) .0
 
 mul-t19 : tie.Need-mul-t19 Inv-loop μ-loop
-mul-t19 c = omega (arith, bus-in (c .before .before), start (c .before .before) .pre .2 .few)
+mul-t19 c = omega (arith, bus-in (c .before .before), start (c .before .before) .pre .1 .few)
 
 element-copy-out-t28 : tie.Need-element-copy-out-t28 Inv-loop μ-loop
-element-copy-out-t28 c = omega (arith, bus-in (c .before .before), start (c .before .before) .pre .2 .few)
+element-copy-out-t28 c = omega (arith, bus-in (c .before .before), start (c .before .before) .pre .1 .few)
 
 mul-at : tie.Need-mul-at Inv-loop μ-loop
 mul-at c = search needs
@@ -108,7 +108,7 @@ busy-of-requires : tie.Need-busy-of-requires Inv-loop μ-loop
 busy-of-requires c κs =
     let i = c .before .before .before .before .before .before .before in
     let h : i .before .loop .i < start i .args .t1 .count = i .loop-test .taken in
-    (table-fewer (start i .pre .1) (omega arith), width-in i .0, width-in i .1)
+    (times-fewer (start i .pre .0) (omega arith), width-in i .0, width-in i .1)
 
 mul-list : tie.Need-mul-list Inv-loop μ-loop
 mul-list c = search needs
@@ -129,8 +129,8 @@ loop-again c =
     let s = start i in
     let a = s .args in
     let h : l .loop .i < a .t1 .count = i .loop-test .taken in
-    let b : l .loop .i < length (a .t3 .buses) = omega (arith, buses-length s, s .pre .0) in
-    let fill = placed-fill (a .t1) (a .t2) (a .t3) (l .loop .i) (l .loop .list) b (omega (arith, s .pre .0)) (l .loop .inv .1) in
+    let b : l .loop .i < length (a .t3 .buses) = omega (arith, buses-length s, s .pre .0 .few) in
+    let fill = placed-fill (a .t1) (a .t2) (a .t3) (l .loop .i) (l .loop .list) b (omega (arith, s .pre .0 .few)) (l .loop .inv .1) in
     (omega arith, rw (cycles-of (c .busy-of .ensures)) fill)
 
 returns : tie.Need-returns Inv-loop μ-loop

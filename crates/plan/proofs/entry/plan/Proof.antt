@@ -1,5 +1,6 @@
 -- `plan::entry::plan` meets its contract: its tests are those of `planAnswer`, in order. Assumes nothing.
 use borrow.Author.Needs.{needs}
+use native.Mathlib.Omega.{arith}
 use mathlib.Core.Path.{_≡_, sym, ap, _∙_}
 use mathlib.Core.Bool.{true, _&&_}
 use lib.ListN.{length}
@@ -163,12 +164,13 @@ found-plan-requires c κs =
       record {
         good = good g;
         numbers = m .planned-modules .ensures;
-        most = rw (count-is m) at (c .before .if9 .left);
+        most = omega (arith, rw (count-is m) at (c .before .if9 .left));
         low = e .before .before .if2 .left;
         narrow = e .if3 .left;
         captures = k .before .before .if6 .left;
         capturing = k .if7 .left;
       },
+      c .before .if9 .left,
       l .before .if4 .left,
       l .if5 .left,
     )

@@ -10,7 +10,7 @@ use lib.Seq.{getD-set-same, getD-set-other}
 use lib.ListN.{length, length-set, length-map, getD, set}
 use Rattle.wrapper.specs.WrapperAnswers as answers
 use Rattle.plan_search.specs.Search.{rowPlaces}
-use Rattle.plan.specs.PlanAnswers.{plannedMax}
+use Rattle.plan_record.specs.Record.{modulePlaces}
 use Rattle.plan.specs.Tables.{tablePlaces}
 use Rattle.plan.proofs.tables.with_times.Statement.{statement}
 use Rattle.plan.proofs.tables.with_times.Tie as tie
@@ -41,7 +41,7 @@ module _ {A : Type 0} {f : A → ℕ} {z : A} {at : ℕ} {xs : List A} {old : Li
 
 abbrev Inv-loop : tie.InvT-loop
 Inv-loop k times cycles₀ wires₀ j₀ cycles wires j =
-    (j ≤ rowPlaces) × (k < plannedMax)
+    (j ≤ rowPlaces) × (k < modulePlaces)
     × Stands (λ c. c .0) (answers.cycles 0) (k * rowPlaces) j (times .cycles) cycles₀ cycles
     × Stands (λ c. c .0) (answers.wires 0) (k * rowPlaces) j (times .wires) wires₀ wires
 

@@ -9,18 +9,18 @@ use lib.ListN.{length, length-map, drop}
 use Rattle.units.specs.Places.{allOf}
 use Rattle.units.proofs.PlaceLaws.{all-step, all-fails, all-end}
 use Rattle.units.proofs.TestLaws.{and-stops, and-goes}
-use Rattle.plan_record.specs.Record.{noBus}
+use Rattle.plan_record.specs.Record.{busPlaces, noBus}
 use Rattle.plan_record.specs.Good.{spareBus}
 use Rattle.plan_record.proofs.good.are_spare_buses.Statement.{statement}
 use Rattle.plan_record.proofs.good.are_spare_buses.Tie as tie
 
 abbrev Inv-loop : tie.InvT-loop
-Inv-loop n p i₀ i = (i ≤ 3) × (allOf spareBus (drop n (p .buses)) ≡ allOf spareBus (drop i (p .buses)))
+Inv-loop n p i₀ i = (i ≤ busPlaces) × (allOf spareBus (drop n (p .buses)) ≡ allOf spareBus (drop i (p .buses)))
 
 abbrev μ-loop : tie.MeasureT-loop
-μ-loop n p i₀ i = 3 - i
+μ-loop n p i₀ i = busPlaces - i
 
-len : (c : tie.Start Inv-loop μ-loop) → length (c .args .t1 .buses) ≡ 3
+len : (c : tie.Start Inv-loop μ-loop) → length (c .args .t1 .buses) ≡ busPlaces
 len c = simp length-map at (c .good .0 .1 .1 .1 .1 .1 .0 .1 .0 .1)
 
 loop-holds : tie.Need-loop-holds Inv-loop μ-loop

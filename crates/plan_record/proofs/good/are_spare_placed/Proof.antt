@@ -8,18 +8,18 @@ use native.Mathlib.Omega.{arith}
 use lib.ListN.{length, length-map, drop}
 use Rattle.units.specs.Places.{allOf}
 use Rattle.units.proofs.PlaceLaws.{all-step, all-fails, all-end}
-use Rattle.plan_record.specs.Record.{noPlaced}
+use Rattle.plan_record.specs.Record.{modulePlaces, noPlaced}
 use Rattle.plan_record.specs.Good.{sparePlaced}
 use Rattle.plan_record.proofs.good.are_spare_placed.Statement.{statement}
 use Rattle.plan_record.proofs.good.are_spare_placed.Tie as tie
 
 abbrev Inv-loop : tie.InvT-loop
-Inv-loop n p i₀ i = (i ≤ 12) × (allOf sparePlaced (drop n (p .modules)) ≡ allOf sparePlaced (drop i (p .modules)))
+Inv-loop n p i₀ i = (i ≤ modulePlaces) × (allOf sparePlaced (drop n (p .modules)) ≡ allOf sparePlaced (drop i (p .modules)))
 
 abbrev μ-loop : tie.MeasureT-loop
-μ-loop n p i₀ i = 12 - i
+μ-loop n p i₀ i = modulePlaces - i
 
-len : (c : tie.Start Inv-loop μ-loop) → length (c .args .t1 .modules) ≡ 12
+len : (c : tie.Start Inv-loop μ-loop) → length (c .args .t1 .modules) ≡ modulePlaces
 len c = simp length-map at (c .good .0 .1 .1 .1 .1 .1 .1 .1 .0 .1 .0 .1)
 
 loop-holds : tie.Need-loop-holds Inv-loop μ-loop

@@ -8,7 +8,7 @@ use mathlib.Core.Bool.{true, _&&_}
 use native.Mathlib.Omega.{arith}
 use Rattle.units.specs.Places.{allOf}
 use Rattle.units.proofs.TestLaws.{and-stops, and-goes}
-use Rattle.plan_record.specs.Record.{modulesOf, numbersOf}
+use Rattle.plan_record.specs.Record.{modulePlaces, busPlaces, modulesOf, numbersOf}
 use Rattle.plan_record.specs.Good.{goodCounts, ascendingFrom, goodPlaced, goodBuses, goodTimes, goodStarts, spareRest, goodPlan}
 use Rattle.plan_record.specs.Times.{CyclesFit}
 use Rattle.plan_record.proofs.GoodPlanLaws.{GoodCounts, good-counts, good-bus-count, placed-front, plan-order}
@@ -47,7 +47,7 @@ left-buses c =
     let e = c .before .before in
     plan-order (e .before .before .args .p) ∙ and-goes _ _ (counted e) ∙ and-goes _ _ (bused c)
 
-few : (c : tie.Else2) → let p = c .before .before .before .before .args .p in (p .«bus_count» ≤ 3) × (p .«module_count» ≤ 12)
+few : (c : tie.Else2) → let p = c .before .before .before .before .args .p in (p .«bus_count» ≤ busPlaces) × (p .«module_count» ≤ modulePlaces)
 few c =
     let e = c .before .before in
     let p = e .before .before .args .p in

@@ -9,7 +9,7 @@ use native.Mathlib.Omega.{arith}
 use lib.ListN.{length, length-map, getD, take, drop}
 use lib.Dec.{leb}
 use Rattle.units.proofs.TestLaws.{and-stops, and-goes}
-use Rattle.plan_record.specs.Record.{noBus, busesOf, widthsOf}
+use Rattle.plan_record.specs.Record.{busPlaces, noBus, busesOf, widthsOf}
 use Rattle.plan_record.specs.Good.{risingFrom}
 use Rattle.plan_record.proofs.GoodPlanLaws.{front-none, rising-step}
 use Rattle.plan_record.proofs.good.is_rising.Statement.{statement}
@@ -21,7 +21,7 @@ Inv-loop p n low₀ i₀ low i = (i ≤ n) × (risingFrom 1 (widthsOf (take n (p
 abbrev μ-loop : tie.MeasureT-loop
 μ-loop p n low₀ i₀ low i = n - i
 
-len : (c : tie.Start Inv-loop μ-loop) → length (c .args .t1 .buses) ≡ 3
+len : (c : tie.Start Inv-loop μ-loop) → length (c .args .t1 .buses) ≡ busPlaces
 len c = simp length-map at (c .good .0 .1 .1 .1 .1 .1 .0 .1 .0 .1)
 
 -- what is left to decide in a turn

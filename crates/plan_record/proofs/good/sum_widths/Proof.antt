@@ -6,7 +6,7 @@ use mathlib.Core.Path.{_≡_}
 use native.Mathlib.Omega.{arith}
 use lib.ListN.{length, length-map, take, drop}
 use Rattle.plan_rules.specs.Plans.{sum}
-use Rattle.plan_record.specs.Record.{widthsOf}
+use Rattle.plan_record.specs.Record.{busPlaces, widthsOf}
 use Rattle.plan_record.proofs.GoodPlanLaws.{front-none, sum-widths-step}
 use Rattle.plan_record.proofs.good.sum_widths.Statement.{statement}
 use Rattle.plan_record.proofs.good.sum_widths.Tie as tie
@@ -17,7 +17,7 @@ Inv-loop p n total₀ i₀ total i = (i ≤ n) × (total ≤ i * 4294967295) × 
 abbrev μ-loop : tie.MeasureT-loop
 μ-loop p n total₀ i₀ total i = n - i
 
-len : (c : tie.Start Inv-loop μ-loop) → length (c .args .t1 .buses) ≡ 3
+len : (c : tie.Start Inv-loop μ-loop) → length (c .args .t1 .buses) ≡ busPlaces
 len c = simp length-map at (c .good .0 .1 .1 .1 .1 .1 .0 .1 .0 .1)
 
 loop-holds : tie.Need-loop-holds Inv-loop μ-loop

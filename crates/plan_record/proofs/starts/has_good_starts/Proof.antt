@@ -9,7 +9,7 @@ use native.Mathlib.Omega.{arith}
 use lib.ListN.{length, length-map, take, drop}
 use Rattle.units.specs.Places.{allOf}
 use Rattle.units.proofs.PlaceLaws.{all-front-step, all-front-fails, all-front-end}
-use Rattle.plan_record.specs.Record.{noPlaced, modulesOf}
+use Rattle.plan_record.specs.Record.{modulePlaces, noPlaced, modulesOf}
 use Rattle.plan_record.specs.Good.{startIs, goodStarts}
 use Rattle.plan_record.proofs.starts.has_good_starts.Statement.{statement}
 use Rattle.plan_record.proofs.starts.has_good_starts.Tie as tie
@@ -20,7 +20,7 @@ Inv-loop p n i₀ i = (i ≤ n) × (goodStarts (take n (p .modules)) ≡ allOf (
 abbrev μ-loop : tie.MeasureT-loop
 μ-loop p n i₀ i = n - i
 
-len : (c : tie.Start Inv-loop μ-loop) → length (c .args .t1 .modules) ≡ 12
+len : (c : tie.Start Inv-loop μ-loop) → length (c .args .t1 .modules) ≡ modulePlaces
 len c = simp length-map at (c .good .0 .1 .1 .1 .1 .1 .1 .1 .0 .1 .0 .1)
 
 loop-holds : tie.Need-loop-holds Inv-loop μ-loop

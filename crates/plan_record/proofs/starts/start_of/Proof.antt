@@ -7,7 +7,7 @@ use mathlib.Core.Logic.{⊎-elim}
 use native.Mathlib.Omega.{arith}
 use lib.ListN.{length, length-map, take, drop}
 use Rattle.wrapper.specs.Maxima.{moduleTimeMax}
-use Rattle.plan_record.specs.Record.{modulesOf, startOf}
+use Rattle.plan_record.specs.Record.{modulePlaces, modulesOf, startOf}
 use Rattle.plan_record.proofs.GoodPlanLaws.{front-none, start-before, start-else}
 use Rattle.plan_record.proofs.starts.start_of.Statement.{statement}
 use Rattle.plan_record.proofs.starts.start_of.Tie as tie
@@ -19,7 +19,7 @@ Inv-loop m p n sum₀ i₀ sum i =
 abbrev μ-loop : tie.MeasureT-loop
 μ-loop m p n sum₀ i₀ sum i = n - i
 
-len : (c : tie.Start Inv-loop μ-loop) → length (c .args .t1 .modules) ≡ 12
+len : (c : tie.Start Inv-loop μ-loop) → length (c .args .t1 .modules) ≡ modulePlaces
 len c = simp length-map at (c .good .0 .1 .1 .1 .1 .1 .1 .1 .0 .1 .0 .1)
 
 loop-holds : tie.Need-loop-holds Inv-loop μ-loop

@@ -7,7 +7,7 @@ use mathlib.Core.Logic.{⊎-elim}
 use native.Mathlib.Omega.{arith}
 use lib.ListN.{length, length-map, take, drop}
 use Rattle.wrapper.specs.Maxima.{moduleTimeMax}
-use Rattle.plan_record.specs.Record.{modulesOf, cyclesOn}
+use Rattle.plan_record.specs.Record.{modulePlaces, modulesOf, cyclesOn}
 use Rattle.plan_record.proofs.GoodPlanLaws.{front-none, cycles-on-same, cycles-on-other}
 use Rattle.plan_record.proofs.times.cycles_on.Statement.{statement}
 use Rattle.plan_record.proofs.times.cycles_on.Tie as tie
@@ -18,7 +18,7 @@ Inv-loop b p n sum₀ i₀ sum i = (i ≤ n) × (sum ≤ i * moduleTimeMax) × (
 abbrev μ-loop : tie.MeasureT-loop
 μ-loop b p n sum₀ i₀ sum i = n - i
 
-len : (c : tie.Start Inv-loop μ-loop) → length (c .args .t1 .modules) ≡ 12
+len : (c : tie.Start Inv-loop μ-loop) → length (c .args .t1 .modules) ≡ modulePlaces
 len c = simp length-map at (c .good .0 .1 .1 .1 .1 .1 .1 .1 .0 .1 .0 .1)
 
 loop-holds : tie.Need-loop-holds Inv-loop μ-loop

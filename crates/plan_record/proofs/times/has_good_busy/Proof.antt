@@ -9,7 +9,7 @@ use native.Mathlib.Omega.{arith}
 use lib.ListN.{length, length-map, getD, take, drop}
 use lib.Dec.{eqb}
 use Rattle.units.proofs.TestLaws.{and-stops, and-goes}
-use Rattle.plan_record.specs.Record.{noBus, busesOf, modulesOf, cyclesOn}
+use Rattle.plan_record.specs.Record.{busPlaces, noBus, busesOf, modulesOf, cyclesOn}
 use Rattle.plan_record.specs.Good.{goodBusies}
 use Rattle.plan_record.proofs.GoodPlanLaws.{front-none, busy-step}
 use Rattle.plan_record.proofs.times.has_good_busy.Statement.{statement}
@@ -21,7 +21,7 @@ Inv-loop p n b₀ b = (b ≤ n) × (goodBusies (modulesOf p) 1 (take n (p .buses
 abbrev μ-loop : tie.MeasureT-loop
 μ-loop p n b₀ b = n - b
 
-len : (c : tie.Start Inv-loop μ-loop) → length (c .args .t1 .buses) ≡ 3
+len : (c : tie.Start Inv-loop μ-loop) → length (c .args .t1 .buses) ≡ busPlaces
 len c = simp length-map at (c .good .0 .1 .1 .1 .1 .1 .0 .1 .0 .1)
 
 -- what is left to decide in a turn

@@ -7,7 +7,7 @@ use mathlib.Core.Logic.{⊎-elim}
 use native.Mathlib.Omega.{arith}
 use lib.ListN.{length, length-map, take, drop}
 use Rattle.plan_rules.specs.Plans.{largest}
-use Rattle.plan_record.specs.Record.{busesOf, busiesOf}
+use Rattle.plan_record.specs.Record.{busPlaces, busesOf, busiesOf}
 use Rattle.plan_record.proofs.GoodPlanLaws.{front-none, largest-step}
 use Rattle.plan_record.proofs.times.largest_busy.Statement.{statement}
 use Rattle.plan_record.proofs.times.largest_busy.Tie as tie
@@ -18,7 +18,7 @@ Inv-loop p n most₀ b₀ most b = (b ≤ n) × (largest (busiesOf (take n (p .b
 abbrev μ-loop : tie.MeasureT-loop
 μ-loop p n most₀ b₀ most b = n - b
 
-len : (c : tie.Start Inv-loop μ-loop) → length (c .args .t1 .buses) ≡ 3
+len : (c : tie.Start Inv-loop μ-loop) → length (c .args .t1 .buses) ≡ busPlaces
 len c = simp length-map at (c .good .0 .1 .1 .1 .1 .1 .0 .1 .0 .1)
 
 loop-holds : tie.Need-loop-holds Inv-loop μ-loop

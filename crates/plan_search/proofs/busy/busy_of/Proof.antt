@@ -8,7 +8,7 @@ use mathlib.Core.Logic.{⊎-elim}
 use lib.ListN.{length, take}
 use Rattle.units.specs.declared.Cycles.{Cycles}
 use Rattle.plan_rules.specs.Plans.{busyFrom}
-use Rattle.plan_search.specs.Search.{searchModules, tableTime, timeBound}
+use Rattle.plan_search.specs.Search.{foundModules, tableTime, timeBound}
 use Rattle.plan_search.proofs.BusyLaws.{busy-none, busy-here, busy-else}
 use Rattle.plan_search.proofs.busy.busy_of.Statement.{statement}
 use Rattle.plan_search.proofs.busy.busy_of.Tie as tie
@@ -20,7 +20,7 @@ Inv-loop table n b w buses sum₀ i₀ sum i =
 abbrev μ-loop : tie.MeasureT-loop
 μ-loop table n b w buses sum₀ i₀ sum i = n - i
 
-len : (c : tie.Start Inv-loop μ-loop) → length (c .args .t2) ≡ searchModules
+len : (c : tie.Start Inv-loop μ-loop) → length (c .args .t2) ≡ foundModules
 len c = search needs
 
 loop-holds : tie.Need-loop-holds Inv-loop μ-loop

@@ -7,19 +7,19 @@ use lib.ListN.{length, getD, take, drop, length-set, length-drop}
 use lib.Seq.{take-all, length-take-le}
 use Rattle.units.specs.Places.{padded}
 use Rattle.units.proofs.PlaceLaws.{padded-none}
-use Rattle.plan_search.specs.Search.{searchBuses, searchModules}
+use Rattle.plan_search.specs.Search.{foundBuses, foundModules}
 use Rattle.plan_search.proofs.CopyLaws.{padded-more}
 use Rattle.plan_search.proofs.widths.found_in.Statement.{statement}
 use Rattle.plan_search.proofs.widths.found_in.Tie as tie
 
 abbrev Inv-loop : tie.InvT-loop
-Inv-loop best found count widths₀ i₀ widths i = (i ≤ count) × (length widths ≡ searchBuses) × (widths ≡ padded searchBuses 0 (take i (drop 1 found)))
+Inv-loop best found count widths₀ i₀ widths i = (i ≤ count) × (length widths ≡ foundBuses) × (widths ≡ padded foundBuses 0 (take i (drop 1 found)))
 
 abbrev μ-loop : tie.MeasureT-loop
 μ-loop best found count widths₀ i₀ widths i = count - i
 
 abbrev Inv-loop2 : tie.InvT-loop2
-Inv-loop2 best found count widths i buses₀ j₀ buses j = (1 ≤ j) × (j ≤ length best) × (length buses ≡ searchModules) × (buses ≡ padded searchModules 0 (take (j - 1) (drop 1 best)))
+Inv-loop2 best found count widths i buses₀ j₀ buses j = (1 ≤ j) × (j ≤ length best) × (length buses ≡ foundModules) × (buses ≡ padded foundModules 0 (take (j - 1) (drop 1 best)))
 
 abbrev μ-loop2 : tie.MeasureT-loop2
 μ-loop2 best found count widths i buses₀ j₀ buses j = length best - j
@@ -31,7 +31,7 @@ cast-count : tie.Need-cast-count Inv-loop μ-loop Inv-loop2 μ-loop2
 cast-count c = search needs
 
 loop-holds : tie.Need-loop-holds Inv-loop μ-loop Inv-loop2 μ-loop2
-loop-holds c = (omega arith, refl, sym (padded-none searchBuses 0))
+loop-holds c = (omega arith, refl, sym (padded-none foundBuses 0))
 
 add-widths : tie.Need-add-widths Inv-loop μ-loop Inv-loop2 μ-loop2
 add-widths c = search needs
@@ -61,11 +61,11 @@ loop-again c =
     let h = c .before .loop-test .taken in (
       omega arith,
       simp length-set (l .inv .1),
-      rw (l .inv .2) (padded-more searchBuses (s .args .found .now) (l .i) (l .i + 1) (omega (arith, s .pre .few)) refl (omega (arith, s .pre .count))),
+      rw (l .inv .2) (padded-more foundBuses (s .args .found .now) (l .i) (l .i + 1) (omega (arith, s .pre .few)) refl (omega (arith, s .pre .count))),
     )
 
 loop2-holds : tie.Need-loop2-holds Inv-loop μ-loop Inv-loop2 μ-loop2
-loop2-holds c = (omega arith, c .before .before .before .pre .time, refl, sym (padded-none searchModules 0))
+loop2-holds c = (omega arith, c .before .before .before .pre .time, refl, sym (padded-none foundModules 0))
 
 mul-buses : tie.Need-mul-buses Inv-loop μ-loop Inv-loop2 μ-loop2
 mul-buses c = search needs
@@ -97,7 +97,7 @@ loop2-again c =
       omega arith,
       omega arith,
       simp length-set (l .inv .2),
-      rw (e, l .inv .3) (padded-more searchModules (s .args .best .now) (l .j - 1) (l .j) (omega (arith, s .pre .modules)) (omega (arith, l .inv .0)) h),
+      rw (e, l .inv .3) (padded-more foundModules (s .args .best .now) (l .j - 1) (l .j) (omega (arith, s .pre .modules)) (omega (arith, l .inv .0)) h),
     )
 
 shared-slice-read-t29 : tie.Need-shared-slice-read-t29 Inv-loop μ-loop Inv-loop2 μ-loop2
@@ -114,8 +114,8 @@ returns c =
     let i : l .i ≡ count = omega (arith, l .inv .0, c .before .before .before .loop-test .left) in
     let d : drop 1 best ≡ take (k .j - 1) (drop 1 best) = sym (take-all (k .j - 1) (drop 1 best) (simp length-drop (omega (arith, c .before .loop2-test .left)))) in
     let n : length (take count (drop 1 found)) ≡ count = length-take-le count (drop 1 found) (simp length-drop (omega (arith, s .pre .count))) in
-    let w : l .widths ≡ padded searchBuses 0 (take count (drop 1 found)) = l .inv .2 ∙ ap (λ j. padded searchBuses 0 (take j (drop 1 found))) i in
-    let b : k .buses ≡ padded searchModules 0 (drop 1 best) = k .inv .3 ∙ ap (padded searchModules 0) (sym d) in
+    let w : l .widths ≡ padded foundBuses 0 (take count (drop 1 found)) = l .inv .2 ∙ ap (λ j. padded foundBuses 0 (take j (drop 1 found))) i in
+    let b : k .buses ≡ padded foundModules 0 (drop 1 best) = k .inv .3 ∙ ap (padded foundModules 0) (sym d) in
     cc
 
 pub found-in-spec : {M : Type 1} → statement M

@@ -1,15 +1,16 @@
--- `vectors::plans::print_buses` meets its contract: each bus that it reads is one of the record's three. The loop's invariant: i is at
--- most 3. The measure is what is left of the array. Assumes nothing.
+-- `vectors::plans::print_buses` meets its contract: each bus that it reads is one of the record's places. The loop's invariant: i is at
+-- most their number. The measure is what is left of the array. Assumes nothing.
 use borrow.Author.Needs.{needs}
 use Prim.Native.Nat.{_-_, _≤_}
+use Rattle.plan_record.specs.Record.{busPlaces}
 use Rattle.vectors.proofs.plans.print_buses.Statement.{statement}
 use Rattle.vectors.proofs.plans.print_buses.Tie as tie
 
 abbrev Inv-loop : tie.InvT-loop
-Inv-loop p n i₀ i = i ≤ 3
+Inv-loop p n i₀ i = i ≤ busPlaces
 
 abbrev μ-loop : tie.MeasureT-loop
-μ-loop p n i₀ i = 3 - i
+μ-loop p n i₀ i = busPlaces - i
 
 loop-holds : tie.Need-loop-holds Inv-loop μ-loop
 loop-holds c = search needs

@@ -1,15 +1,16 @@
--- `vectors::plans::print_placed` meets its contract: each module that it reads is one of the record's twelve. The loop's invariant: i is
--- at most 12. The measure is what is left of the array. Assumes nothing.
+-- `vectors::plans::print_placed` meets its contract: each module that it reads is one of the record's places. The loop's invariant: i is
+-- at most their number. The measure is what is left of the array. Assumes nothing.
 use borrow.Author.Needs.{needs}
 use Prim.Native.Nat.{_-_, _≤_}
+use Rattle.plan_record.specs.Record.{modulePlaces}
 use Rattle.vectors.proofs.plans.print_placed.Statement.{statement}
 use Rattle.vectors.proofs.plans.print_placed.Tie as tie
 
 abbrev Inv-loop : tie.InvT-loop
-Inv-loop p n i₀ i = i ≤ 12
+Inv-loop p n i₀ i = i ≤ modulePlaces
 
 abbrev μ-loop : tie.MeasureT-loop
-μ-loop p n i₀ i = 12 - i
+μ-loop p n i₀ i = modulePlaces - i
 
 loop-holds : tie.Need-loop-holds Inv-loop μ-loop
 loop-holds c = search needs

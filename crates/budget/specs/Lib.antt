@@ -1,0 +1,2 @@
+pub mod BudgetAnswers
+pub mod Met

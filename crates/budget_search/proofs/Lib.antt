@@ -1,0 +1,6 @@
+pub mod CopyLaws
+pub mod PlaceLaws
+pub mod SpendLaws
+pub mod ListLaws
+pub mod CountLaws
+pub mod SpentLaws

@@ -1,0 +1,4 @@
+pub mod Steps
+pub mod Place
+pub mod Lists
+pub mod Within
