@@ -71,6 +71,20 @@ const NO_BLOCK: usize = 91;
 
 const OTHER_LEVEL: usize = 92;
 
+const BAD_BYTE: usize = 107;
+
+const KEYWORD: usize = 108;
+
+const PINS: usize = 109;
+
+const OTHER_NAME: usize = 110;
+
+const OTHER_OPTIONS: usize = 111;
+
+const NOT_THERE: usize = 112;
+
+const NONE_PLANNED: usize = 113;
+
 // Beside the texts that the arguments name: the longest, one byte more, and that with a bad byte, which is refused for its length too.
 fn show_texts() {
     show_arguments();
@@ -157,8 +171,16 @@ fn show_pairs() {
     show_pair(T1, FALLING, 0, 0);
     show_pair(T1, BLOCK_40, 0, 0);
     show_pair(T1, NO_BLOCK, 0, 0);
+    show_pair(T1, BAD_BYTE, 0, 0);
+    show_pair(T1, KEYWORD, 0, 0);
+    show_pair(T1, PINS, 0, 0);
     show_pair(T1, OTHER_LEVEL, 0, 0);
+    show_pair(T1, OTHER_NAME, 0, 0);
+    show_pair(T1, OTHER_OPTIONS, 0, 0);
+    show_pair(T1, NOT_THERE, 0, 0);
     show_pair(T1, SPACED, 0, 0);
+    show_pair(T1, SPACED, 4, 4);
+    show_pair(T1, NONE_PLANNED, 4, 2);
     show_lines(T1, FALLING, 1);
     show_lines(T1, SPACED, 3);
 }
