@@ -1,5 +1,5 @@
--- What the planner with a spending limit found, as bytes: 1,228 of them. Whether the search was finished, whether a plan is known, the tries,
--- and the plan record, which says nothing where no plan is known.
+-- What the planner with a spending limit found, as bytes: 1,228 of them. Whether the search was finished, whether a plan is known, the
+-- tries, and the plan record, which says nothing where no plan is known.
 use Prim.Native.Nat.{ℕ, _+_, _*_}
 use mathlib.Core.Bool.{Bool}
 use mathlib.Core.List.{List, [], _∷_, _++_}

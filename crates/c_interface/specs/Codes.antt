@@ -97,10 +97,12 @@ abbrev pub foundBytes : BudgetAnswer → List ℕ
 foundBytes a = budgetBytes (isFinished (a .ended)) (a .known) (a .tries) (a .plan)
 
 abbrev pub budgetCode : List ℕ → ℕ → ℕ → ℕ → ℕ → List ℕ → ℕ
-budgetCode b W B c budget buf = givenUnless (budgetAnswer (socIn b) W B c budget .refusal) (foundBytes (budgetAnswer (socIn b) W B c budget)) buf
+budgetCode b W B c budget buf =
+    givenUnless (budgetAnswer (socIn b) W B c budget .refusal) (foundBytes (budgetAnswer (socIn b) W B c budget)) buf
 
 abbrev pub budgetHeld : List ℕ → ℕ → ℕ → ℕ → ℕ → List ℕ → List ℕ
-budgetHeld b W B c budget buf = heldUnless (budgetAnswer (socIn b) W B c budget .refusal) (foundBytes (budgetAnswer (socIn b) W B c budget)) buf
+budgetHeld b W B c budget buf =
+    heldUnless (budgetAnswer (socIn b) W B c budget .refusal) (foundBytes (budgetAnswer (socIn b) W B c budget)) buf
 
 abbrev pub writePlanCode : List ℕ → List ℕ → ℕ
 writePlanCode b buf = code (planfile.writeAnswer (planIn b) buf .refusal) (planfile.writeAnswer (planIn b) buf .len)

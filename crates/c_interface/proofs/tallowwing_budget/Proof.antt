@@ -1,5 +1,5 @@
--- `c_interface::tallowwing_budget` meets its contract: what is refused is said, and else the result's bytes are put, of which there are some.
--- Assumes nothing.
+-- `c_interface::tallowwing_budget` meets its contract: what is refused is said, and else the result's bytes are put, of which there are
+-- some. Assumes nothing.
 use borrow.Author.Needs.{needs}
 use native.Mathlib.Omega.{arith}
 use mathlib.Core.Path.{_≡_, sym, ap, _∙_}

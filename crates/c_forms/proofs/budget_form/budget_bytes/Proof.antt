@@ -1,4 +1,5 @@
--- `c_forms::budget_form::budget_bytes` meets its contract: what was spent and the plan record are put one behind the other. Assumes nothing.
+-- `c_forms::budget_form::budget_bytes` meets its contract: what was spent and the plan record are put one behind the other. Assumes
+-- nothing.
 use borrow.Author.Needs.{needs}
 use native.Mathlib.Omega.{arith}
 use lib.ListN.{length-map}
@@ -47,7 +48,8 @@ returns-2 c =
     let k1 = k2 .before .before .before .before in
     let e = k1 .before .before in
     let s = e .before .before in
-    let plan = then-put (omega arith) (then-put (omega arith) (k2 .put-counts .ensures) (k3 .put-buses .ensures)) (k4 .put-modules .ensures) in
+    let buses = then-put (omega arith) (k2 .put-counts .ensures) (k3 .put-buses .ensures) in
+    let plan = then-put (omega arith) buses (k4 .put-modules .ensures) in
     all-put (budgetBytes (s .args .finished) (s .args .known) (s .args .tries) (s .args .p)) (s .args .buf .now) (e .if1 .left)
     (then-put (omega arith) (k1 .put-spent .ensures) plan)
 
