@@ -24,7 +24,7 @@ pub fn run(file: &Path, overlay: Option<&Path>, asked: &Asked, form: Form) -> Re
     let &Asked { module, test, width, capture } = asked;
     let mut layout = [0; LAYOUT_BYTES];
     source.layout(module, test, width, capture, &mut layout)?;
-    let internal = source.soc()?.view().module(module).map_or(0, |module| module.chain_count());
+    let internal = source.soc().view().module(module).map_or(0, |module| module.chain_count());
     let mut report = report(LayoutView::new(&layout), width, internal);
     report.asked = vec![("module", module.into()), ("test", test.into()), ("width", width.into()), ("capture", capture.into())];
     output::print(report.printed(form).as_bytes())
