@@ -10,7 +10,7 @@ use Rattle.soc.specs.Rules.{goodSoc}
 use Rattle.soc.specs.Planned.{plannedOf, plannedIs}
 use Rattle.soc.specs.declared.planned.Planned.{Planned}
 use Rattle.soc.specs.declared.record.Soc.{Soc}
-use Rattle.wrapper.specs.WrapperAnswers.{widthMax, captureMax}
+use Rattle.wrapper_fit.specs.Maxima.{widthMax, captureMax}
 use Rattle.plan_rules.specs.Plans.{Plan, IsPlan, timeOf}
 use Rattle.plan_search.specs.Search.{tableTime, AreTimes, foundAs, foundOf}
 use Rattle.plan.specs.PlanAnswers.{timeIn}

@@ -12,7 +12,7 @@ use Rattle.soc.specs.Rules.{goodSoc}
 use Rattle.soc.specs.Planned.{plannedOf}
 use Rattle.soc.specs.declared.record.Soc.{Soc}
 use Rattle.soc.proofs.PinsLaws.{planned-most}
-use Rattle.wrapper.specs.WrapperAnswers.{widthMax, captureMax}
+use Rattle.wrapper_fit.specs.Maxima.{widthMax, captureMax}
 use Rattle.plan_rules.specs.Plans.{Plan, IsPlan, timeOf}
 use Rattle.plan_record.specs.Record.{modulePlaces}
 use Rattle.plan.specs.PlanAnswers.{timeIn, recordOf}

@@ -8,7 +8,7 @@ use Rattle.units.specs.Refusals.{accepted, refused}
 use Rattle.soc.specs.Rules.{goodSoc}
 use Rattle.soc.specs.Planned.{plannedOf}
 use Rattle.soc.specs.declared.record.Soc.{Soc}
-use Rattle.wrapper.specs.WrapperAnswers.{widthMax, captureMax}
+use Rattle.wrapper_fit.specs.Maxima.{widthMax, captureMax}
 use Rattle.plan_record.specs.Record.{noPlan}
 use Rattle.plan_record.specs.declared.record.BusPlan.{BusPlan}
 use Rattle.plan.specs.PlanAnswers.{timeIn, recordOf}

@@ -4,7 +4,7 @@ use mathlib.Core.Path.{_≡_}
 use mathlib.Core.Bool.{true, cond, _&&_}
 use lib.Dec.{leb}
 use Rattle.soc.specs.declared.planned.Planned.{Planned}
-use Rattle.wrapper.specs.WrapperAnswers.{widthMax, captureMax}
+use Rattle.wrapper_fit.specs.Maxima.{widthMax, captureMax}
 use Rattle.plan_record.specs.Record.{noPlan}
 use Rattle.plan_record.specs.declared.record.BusPlan.{BusPlan}
 use Rattle.plan.specs.Records.{IsFound, recordFrom}

@@ -14,8 +14,8 @@ use Rattle.soc.specs.Sized.{SizedModule, Sized}
 use Rattle.soc.specs.declared.record.Test.{Test}
 use Rattle.soc.specs.declared.record.Module.{Module}
 use Rattle.soc.specs.declared.record.Soc.{Soc}
-use Rattle.wrapper.specs.WrapperAnswers.{widthMax}
-use Rattle.wrapper.specs.declared.laid.WrapperLayout.{WrapperLayout}
+use Rattle.wrapper_fit.specs.Maxima.{widthMax}
+use Rattle.wrapper_layout.specs.declared.laid.WrapperLayout.{WrapperLayout}
 use Rattle.plan_record.specs.Record.{busPlaces, modulePlaces, noBus, noPlaced}
 use Rattle.plan_record.specs.Whole.{Whole}
 use Rattle.plan_record.specs.declared.record.Bus.{Bus}

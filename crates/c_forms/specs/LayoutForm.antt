@@ -4,8 +4,8 @@ use Prim.Native.Nat.{ℕ, _+_, _*_}
 use mathlib.Core.List.{List, _++_}
 use Rattle.buffer.specs.Rows.{each}
 use Rattle.soc.specs.Limits.{chainsMax}
-use Rattle.wrapper.specs.WrapperAnswers.{widthMax}
-use Rattle.wrapper.specs.declared.laid.WrapperLayout.{WrapperLayout}
+use Rattle.wrapper_fit.specs.Maxima.{widthMax}
+use Rattle.wrapper_layout.specs.declared.laid.WrapperLayout.{WrapperLayout}
 use Rattle.c_forms.specs.Words.{wordLength, longLength, words, long}
 use Rattle.c_forms.specs.SocForm.{lengthBytes}
 

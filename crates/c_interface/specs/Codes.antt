@@ -18,7 +18,8 @@ use Rattle.pair_entries.specs.LaidPair.{layoutPair}
 use Rattle.pair_entries.specs.PlannedPair.{planPair}
 use Rattle.pair_entries.specs.TimedPair.{moduleTimePair}
 use Rattle.pair_entries.specs.WrittenPair.{writePair}
-use Rattle.wrapper.specs.WrapperAnswers.{layoutAnswer, moduleTimeAnswer}
+use Rattle.wrapper_times.specs.TimeAnswers.{moduleTimeAnswer}
+use Rattle.wrapper_layout.specs.LayoutAnswers.{layoutAnswer}
 use Rattle.plan.specs.PlanAnswers.{planAnswer}
 use Rattle.budget.specs.BudgetAnswers.{budgetAnswer}
 use Rattle.budget.specs.declared.answer.BudgetAnswer.{BudgetAnswer}

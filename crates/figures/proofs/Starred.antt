@@ -6,9 +6,10 @@ use Rattle.fields.specs.Names.{nameBytes}
 use Rattle.soc.specs.Rules.{goodPower, goodPosition, pinsRule, goodTest, spareTest, levelRule, goodTerminals, goodChains, goodTests, goodModule, goodModules, spareModule, goodName, goodSoc}
 use Rattle.soc.specs.Planned.{isPlanned, plannedFrom}
 use Rattle.units.specs.Places.{padded, allOf, anyOf}
-use Rattle.wrapper.specs.Fit.{longest, total, better, bestFrom, goes, placed, withCells, longestAfter}
-use Rattle.wrapper.specs.Chains.{numberedFrom, insert, ordered, sumOver, howMany, usedChains, thread, threaded}
-use Rattle.wrapper.specs.Times.{scanIn, scanOut, testCycles, testTime, sumTimes, figure, bestTo, moduleBest}
+use Rattle.wrapper_fit.specs.Fit.{longest, total, better, bestFrom, goes, placed, withCells, longestAfter}
+use Rattle.wrapper_scans.specs.Chains.{numberedFrom, insert, ordered, sumOver, howMany, usedChains, thread, threaded}
+use Rattle.wrapper_scans.specs.TestTimes.{scanIn, scanOut, testCycles, testTime}
+use Rattle.wrapper_times.specs.Times.{sumTimes, figure, bestTo, moduleBest}
 use Rattle.plan_rules.specs.Plans.{sum, busyFrom, busies, largest, timeOf}
 use Rattle.plan_rules.specs.Listed.{upward, widthLists, placements, plansOn, plans, firstLeast, firstOf, bestOf}
 use Rattle.plan_record.specs.Record.{cyclesOn, busRecords, moduleRecords, planRecord}

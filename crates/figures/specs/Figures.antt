@@ -4,7 +4,8 @@ use Prim.Native.Nat.{ℕ}
 use mathlib.Core.Bool.{true}
 use mathlib.Core.List.{List, [], _∷_, _++_}
 use lib.ListN.{getD}
-use Rattle.wrapper.specs.Times.{figure, scanIn, scanOut, moduleBest}
+use Rattle.wrapper_scans.specs.TestTimes.{scanIn, scanOut}
+use Rattle.wrapper_times.specs.Times.{figure, moduleBest}
 use Rattle.soc.specs.declared.record.Soc.{Soc}
 use Rattle.text_reader.specs.Reading.{readSoc}
 use Rattle.plan_record.specs.Record.{modulesOf, placesOf}

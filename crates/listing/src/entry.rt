@@ -76,7 +76,7 @@ pub fn listing(input: &[u8], buf: &mut [u8]) -> Written
 pub fn show(p: BusPlan, buf: &mut [u8]) -> Written
     ensures { λ r. ⌜ (r ≡ showAnswer p (now (buf .entry))) × (now (buf .exit) ≡ showLeaves p (now (buf .entry))) ⌝ }
 {
-    if !plan_record::is_good_plan(p) {
+    if !plan_good::is_good_plan(p) {
         return buffer::refused_write(12);
     }
     let mut form = [0u8; LISTING_MAX];

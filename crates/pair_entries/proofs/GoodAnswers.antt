@@ -13,10 +13,13 @@ use Rattle.soc.specs.Planned.{plannedOf}
 use Rattle.soc.specs.Rules.{goodSoc}
 use Rattle.soc.specs.declared.record.Soc.{Soc}
 use Rattle.text_writer.specs.WrittenSoc.{writtenSoc, writeAnswer}
-use Rattle.wrapper.specs.Laid.{testAt}
-use Rattle.wrapper.specs.Times.{moduleBest}
-use Rattle.wrapper.specs.WrapperAnswers.{widthMax, captureMax, cycles, moduleAt, askedModule, askedTest, layoutOf, noLayout, layoutAnswer}
-use Rattle.wrapper.specs.WrapperAnswers.{noModuleTime, moduleTimeOf, moduleTimeAnswer}
+use Rattle.wrapper_fit.specs.Maxima.{widthMax, captureMax}
+use Rattle.wrapper_fit.specs.Counts.{cycles}
+use Rattle.wrapper_scans.specs.Asked.{moduleAt, askedModule}
+use Rattle.wrapper_times.specs.Times.{moduleBest}
+use Rattle.wrapper_times.specs.TimeAnswers.{noModuleTime, moduleTimeOf, moduleTimeAnswer}
+use Rattle.wrapper_layout.specs.Laid.{testAt}
+use Rattle.wrapper_layout.specs.LayoutAnswers.{askedTest, layoutOf, noLayout, layoutAnswer}
 use Rattle.plan.specs.PlanAnswers.{limitMax, plannedMax, refusedPlan, recordOf, bestFor, planAnswer}
 use Rattle.plan.specs.declared.answer.PlanAnswer.{PlanAnswer}
 

@@ -9,8 +9,7 @@ use lib.ListN.{length}
 use Rattle.soc.specs.Limits.{textMax}
 use Rattle.text_writer.specs.WrittenSoc.{writeLeaves}
 use Rattle.text_writer.proofs.SocWriterLaws.{write-fits}
-use Rattle.wrapper.specs.Maxima.{moduleTimeMax}
-use Rattle.wrapper.specs.WrapperAnswers.{widthMax}
+use Rattle.wrapper_fit.specs.Maxima.{moduleTimeMax, widthMax}
 use Rattle.wrapper.proofs.WrapperAnswerLaws.{layout-told, module-time-told}
 use Rattle.plan.proofs.PlannerLaws.{answer-told}
 use Rattle.pair.specs.Pair.{readPair}

@@ -7,8 +7,10 @@ use Rattle.units.specs.declared.Refusal.{Refusal}
 use Rattle.soc.specs.Limits.{chainsMax}
 use Rattle.soc.specs.Record.{flipFlops}
 use Rattle.soc.specs.declared.record.Soc.{Soc}
-use Rattle.wrapper.specs.WrapperAnswers.{widthMax, cycles, layoutAnswer}
-use Rattle.wrapper.specs.declared.laid.WrapperLayout.{WrapperLayout}
+use Rattle.wrapper_fit.specs.Maxima.{widthMax}
+use Rattle.wrapper_fit.specs.Counts.{cycles}
+use Rattle.wrapper_layout.specs.LayoutAnswers.{layoutAnswer}
+use Rattle.wrapper_layout.specs.declared.laid.WrapperLayout.{WrapperLayout}
 use Rattle.pair.specs.Pair.{readPair}
 use Rattle.pair.specs.declared.read.Meant.{Meant}
 use Rattle.pair.specs.declared.read.Meant.the-variants as meant

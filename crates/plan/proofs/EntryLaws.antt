@@ -18,7 +18,8 @@ use Rattle.soc.specs.Planned.{plannedOf, plannedIs}
 use Rattle.soc.specs.declared.planned.Planned.{Planned}
 use Rattle.soc.specs.declared.record.Soc.{Soc}
 use Rattle.units.proofs.PlaceLaws.{padded-take, padded-set, padded-at}
-use Rattle.wrapper.specs.WrapperAnswers.{widthMax, wires, cycles}
+use Rattle.wrapper_fit.specs.Maxima.{widthMax}
+use Rattle.wrapper_fit.specs.Counts.{wires, cycles}
 use Rattle.plan_rules.specs.Plans.{Plan, IsPlan, busyFrom, busies, timeOf}
 use Rattle.plan_rules.specs.Listed.{bestPlan}
 use Rattle.plan_rules.proofs.Demand.{best-first}

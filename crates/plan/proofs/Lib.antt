@@ -1,7 +1,3 @@
 pub mod TableLaws
 pub mod EntryLaws
 pub mod PlannerLaws
-pub mod PlanDemand
-pub mod MoreWires
-pub mod CaptureLaws
-pub mod SumLaws

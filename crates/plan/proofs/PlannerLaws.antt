@@ -19,10 +19,9 @@ use Rattle.soc.proofs.GoodSocLaws.{soc-figures}
 use Rattle.soc.proofs.PinsLaws.{planned-from-one}
 use Rattle.soc.specs.declared.record.Module.{Module}
 use Rattle.soc.specs.declared.record.Soc.{Soc}
-use Rattle.wrapper.specs.Maxima.{moduleTimeMax}
-use Rattle.wrapper.specs.WrapperAnswers.{widthMax, captureMax}
-use Rattle.wrapper.proofs.BestLaws.{time-wires}
-use Rattle.wrapper.proofs.PromisedTimes.{time-most, time-some}
+use Rattle.wrapper_fit.specs.Maxima.{moduleTimeMax, widthMax, captureMax}
+use Rattle.wrapper_times.proofs.BestLaws.{time-wires}
+use Rattle.wrapper_times.proofs.PromisedTimes.{time-most, time-some}
 use Rattle.plan_record.specs.Record.{busPlaces, modulePlaces}
 use Rattle.plan_record.specs.Good.{ascendingFrom, goodPlan}
 use Rattle.plan_record.proofs.RecordLaws.{Recordable, record-good}

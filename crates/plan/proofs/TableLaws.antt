@@ -13,16 +13,17 @@ use Rattle.soc.specs.Planned.{isPlanned, plannedFrom, plannedOf}
 use Rattle.soc.specs.Rules.{goodSoc}
 use Rattle.soc.specs.declared.record.Module.{Module}
 use Rattle.soc.specs.declared.record.Soc.{Soc}
-use Rattle.wrapper.specs.WrapperAnswers.{widthMax, captureMax, moduleTimesAnswer}
-use Rattle.wrapper.proofs.BestLaws.{time-falls}
-use Rattle.wrapper.proofs.PromisedTimes.{time-most, times-at, wires-at, times-past}
+use Rattle.wrapper_fit.specs.Maxima.{widthMax, captureMax}
+use Rattle.wrapper_times.specs.TimeAnswers.{moduleTimesAnswer}
+use Rattle.wrapper_times.proofs.BestLaws.{time-falls}
+use Rattle.wrapper_times.proofs.PromisedTimes.{time-most, times-at, wires-at, times-past}
 use Rattle.plan_rules.specs.Plans.{Plan, IsPlan, busyFrom, busies, largest, timeOf}
 use Rattle.plan_rules.specs.Listed.{plans, firstLeast, firstOf, bestPlan, bestOf}
 use Rattle.plan_rules.proofs.ListedLaws.{sound}
 use Rattle.plan_rules.proofs.BoundLaws.{width-in}
 use Rattle.plan_record.specs.Record.{modulePlaces}
 use Rattle.plan.specs.PlanAnswers.{limitMax, plannedMax, plannedModule, timeIn, wiresIn}
-use Rattle.wrapper.specs.Maxima.{moduleTimeMax}
+use Rattle.wrapper_fit.specs.Maxima.{moduleTimeMax}
 use Rattle.plan_search.specs.Search.{searchBuses, searchModules, rowPlaces, tableTime, AreTimes, IsTable}
 use Rattle.plan.specs.Tables.{tablePlaces, TimesStand, TablesAre}
 use Rattle.plan.specs.declared.tables.Tables.{Tables}

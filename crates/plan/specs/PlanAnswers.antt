@@ -10,8 +10,8 @@ use Rattle.soc.specs.Rules.{goodSoc}
 use Rattle.soc.specs.Planned.{plannedOf}
 use Rattle.soc.specs.declared.record.Module.{Module}
 use Rattle.soc.specs.declared.record.Soc.{Soc}
-use Rattle.wrapper.specs.Times.{moduleBest}
-use Rattle.wrapper.specs.WrapperAnswers.{widthMax, captureMax}
+use Rattle.wrapper_fit.specs.Maxima.{widthMax, captureMax}
+use Rattle.wrapper_times.specs.Times.{moduleBest}
 use Rattle.plan_rules.specs.Plans.{Plan}
 use Rattle.plan_rules.specs.Listed.{bestPlan}
 use Rattle.plan_record.specs.Record.{noPlan, planRecord}

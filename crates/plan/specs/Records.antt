@@ -4,7 +4,8 @@ use mathlib.Core.List.{List, [], _∷_}
 use lib.ListN.{getD, take}
 use Rattle.units.specs.Places.{padded}
 use Rattle.soc.specs.declared.planned.Planned.{Planned}
-use Rattle.wrapper.specs.WrapperAnswers.{wires, cycles, widthMax}
+use Rattle.wrapper_fit.specs.Counts.{wires, cycles}
+use Rattle.wrapper_fit.specs.Maxima.{widthMax}
 use Rattle.plan_rules.specs.Plans.{busyFrom, busies}
 use Rattle.plan_record.specs.Record.{busPlaces, modulePlaces, noBus, noPlaced, busRecords}
 use Rattle.plan_record.specs.declared.record.Bus.{Bus}

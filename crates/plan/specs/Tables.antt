@@ -8,8 +8,9 @@ use Rattle.soc.specs.Rules.{goodSoc}
 use Rattle.soc.specs.Planned.{plannedOf, plannedIs}
 use Rattle.soc.specs.declared.planned.Planned.{Planned}
 use Rattle.soc.specs.declared.record.Soc.{Soc}
-use Rattle.wrapper.specs.WrapperAnswers.{wires, cycles, widthMax, captureMax}
-use Rattle.wrapper.specs.declared.times.Times.{Times}
+use Rattle.wrapper_fit.specs.Counts.{wires, cycles}
+use Rattle.wrapper_fit.specs.Maxima.{widthMax, captureMax}
+use Rattle.wrapper_times.specs.declared.times.Times.{Times}
 use Rattle.plan_record.specs.Record.{modulePlaces}
 use Rattle.plan_search.specs.Search.{rowPlaces}
 use Rattle.plan.specs.PlanAnswers.{timeIn, wiresIn}

@@ -5,7 +5,7 @@ use soc::Planned;
 use soc::Soc;
 use units::CaptureCycles;
 use units::Wires;
-use wrapper::Times;
+use wrapper_times::Times;
 ghost use Prim.Native.Nat.{_<_};
 ghost use lib.ListN.{length};
 ghost use Rattle.soc.specs.Planned.{plannedOf};
@@ -48,7 +48,7 @@ pub fn tables_of(s: Soc, p: Planned, w: Wires, capture: CaptureCycles) -> Tables
     let mut k: usize = 0;
     while k < n {
         let number = p.numbers[k];
-        let read = wrapper::module_times(s, number as u32, w, capture);
+        let read = wrapper_times::module_times(s, number as u32, w, capture);
         let times = read.times;
         t = with_times(t, k, times);
         k += 1;

@@ -11,7 +11,7 @@ use Rattle.buffer.specs.Rows.{rows}
 use Rattle.buffer.specs.Puts.{putFront}
 use Rattle.buffer.specs.WriterAnswers.{refusedWrite, written}
 use Rattle.buffer.specs.declared.written.Written.{Written}
-use Rattle.wrapper.specs.WrapperAnswers.{wires, cycles}
+use Rattle.wrapper_fit.specs.Counts.{wires, cycles}
 use Rattle.plan_record.specs.Record.{busPlaces, modulePlaces, noBus, noPlaced, noPlan}
 use Rattle.plan_record.specs.declared.record.Bus.{Bus}
 use Rattle.plan_record.specs.declared.record.PlacedModule.{PlacedModule}

@@ -15,7 +15,7 @@ use Rattle.units.specs.Places.{allOf}
 use Rattle.units.proofs.PlaceLaws.{front-has, front-ends}
 use Rattle.plan_record.specs.Record.{busPlaces, noBus, noPlaced, busesOf, modulesOf, widthsOf, cyclesOn, busiesOf, numbersOf, modulePlaces, runsBefore, startOf}
 use Rattle.plan_record.specs.Whole.{Whole}
-use Rattle.wrapper.specs.Maxima.{moduleTimeMax}
+use Rattle.wrapper_fit.specs.Maxima.{moduleTimeMax}
 use Rattle.plan_record.specs.declared.record.Bus.{Bus}
 use Rattle.plan_record.specs.declared.record.PlacedModule.{PlacedModule}
 use Rattle.plan_record.specs.declared.record.BusPlan.{BusPlan}

@@ -13,8 +13,7 @@ use lib.Dec.{eqb}
 use Rattle.units.proofs.TestLaws.{and-holds, within-true}
 use Rattle.units.specs.Places.{allOf, padded}
 use Rattle.units.proofs.PlaceLaws.{all-replicate, padded-length, padded-take, padded-drop}
-use Rattle.wrapper.specs.WrapperAnswers.{widthMax}
-use Rattle.wrapper.specs.Maxima.{moduleTimeMax}
+use Rattle.wrapper_fit.specs.Maxima.{widthMax, moduleTimeMax}
 use Rattle.plan_rules.specs.Plans.{Plan, IsPlan, sum, busyFrom, busies, largest, timeOf}
 use Rattle.plan_rules.proofs.BusyLaws.{length-busies, busies-at}
 use Rattle.plan_record.specs.Record.{busPlaces, modulePlaces, noBus, noPlaced, busesOf, modulesOf, widthsOf, busiesOf, numbersOf, placesOf, planOf, cyclesOn, startOf, busRecords, moduleRecords, planRecord}

@@ -7,8 +7,7 @@ use lib.ListN.{getD, drop}
 use lib.Dec.{leb, eqb}
 use Rattle.soc.specs.Limits.{modulesMax}
 use Rattle.units.specs.Places.{allOf}
-use Rattle.wrapper.specs.WrapperAnswers.{widthMax}
-use Rattle.wrapper.specs.Maxima.{moduleTimeMax}
+use Rattle.wrapper_fit.specs.Maxima.{widthMax, moduleTimeMax}
 use Rattle.plan_rules.specs.Plans.{sum, largest}
 use Rattle.plan_record.specs.Record.{busPlaces, modulePlaces, noBus, busesOf, modulesOf, widthsOf, busiesOf, numbersOf, cyclesOn, startOf}
 use Rattle.plan_record.specs.declared.record.Bus.{Bus}

@@ -6,7 +6,7 @@ use mathlib.Core.List.{List, [], _∷_, map}
 use lib.ListN.{length, getD, take, replicate}
 use lib.Dec.{eqb, ltb}
 use Rattle.units.specs.Places.{padded}
-use Rattle.wrapper.specs.WrapperAnswers.{wires, cycles}
+use Rattle.wrapper_fit.specs.Counts.{wires, cycles}
 use Rattle.plan_rules.specs.Plans.{Plan, busyFrom, busies, timeOf}
 use Rattle.plan_record.specs.declared.record.Bus.{Bus}
 use Rattle.plan_record.specs.declared.record.PlacedModule.{PlacedModule}

@@ -1,11 +1,7 @@
-// The plan record, and what a good one is (document 01, "The plan" and "The plan file"; document 02, item 1): its buses, its planned
-// modules, their starts and busy figures, and its time.
-mod good;
+// The plan record (document 01, "The plan"; document 02, item 1): its buses, its planned modules, their starts and busy figures, and its
+// time; and, as definitions and laws, what a good one is (document 01, "The plan file").
 mod record;
-mod starts;
-mod times;
 
-pub use good::is_good_plan;
 pub use record::BUS_PLACES;
 pub use record::Bus;
 pub use record::BusPlan;

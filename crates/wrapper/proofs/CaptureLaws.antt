@@ -12,10 +12,14 @@ use Rattle.soc.specs.Rules.{goodSoc}
 use Rattle.soc.specs.declared.record.Test.{Test}
 use Rattle.soc.specs.declared.record.Module.{Module}
 use Rattle.soc.specs.declared.record.Soc.{Soc}
-use Rattle.wrapper.specs.Times.{scanIn, scanOut, testCycles, testTime, sumTimes, figure, moduleBest}
-use Rattle.wrapper.specs.WrapperAnswers.{widthMax, moduleAt, askedModule, layoutOf, layoutAnswer, moduleTimeAnswer}
-use Rattle.wrapper.specs.Laid.{testAt}
-use Rattle.wrapper.proofs.BestLaws.{time-at, time-wires, time-least}
+use Rattle.wrapper_fit.specs.Maxima.{widthMax}
+use Rattle.wrapper_scans.specs.TestTimes.{scanIn, scanOut, testCycles, testTime}
+use Rattle.wrapper_scans.specs.Asked.{moduleAt, askedModule}
+use Rattle.wrapper_times.specs.Times.{sumTimes, figure, moduleBest}
+use Rattle.wrapper_times.specs.TimeAnswers.{moduleTimeAnswer}
+use Rattle.wrapper_times.proofs.BestLaws.{time-at, time-wires, time-least}
+use Rattle.wrapper_layout.specs.LayoutAnswers.{layoutOf, layoutAnswer}
+use Rattle.wrapper_layout.specs.Laid.{testAt}
 use Rattle.wrapper.proofs.WrapperAnswerLaws.{laid-out, timed}
 
 -- with one capture cycle, "a test of p patterns takes (1 + max(si, so)) × p + min(si, so) cycles"

@@ -1,15 +1,3 @@
 pub mod WrapperAnswerLaws
-pub mod BestLaws
-pub mod BidirLaws
 pub mod CaptureLaws
-pub mod CellLaws
-pub mod ChainLaws
-pub mod ChainOrder
-pub mod FitLaws
-pub mod KeptLaws
-pub mod LaidLaws
-pub mod LayoutLaws
-pub mod LengthLaws
-pub mod PromisedTimes
 pub mod SumLaws
-pub mod TimeLaws

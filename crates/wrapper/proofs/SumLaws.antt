@@ -12,10 +12,13 @@ use Rattle.soc.specs.Record.{noTest, testsOf}
 use Rattle.soc.specs.Rules.{goodSoc}
 use Rattle.soc.specs.declared.record.Test.{Test}
 use Rattle.soc.specs.declared.record.Soc.{Soc}
-use Rattle.wrapper.specs.Times.{testTime, sumTimes, figure}
-use Rattle.wrapper.specs.WrapperAnswers.{widthMax, captureMax, moduleAt, askedModule, askedTest}
-use Rattle.wrapper.specs.WrapperAnswers.{layoutOf, layoutAnswer, moduleTimeAnswer}
-use Rattle.wrapper.specs.Laid.{testAt, layoutsFrom, layoutsCycles}
+use Rattle.wrapper_fit.specs.Maxima.{widthMax, captureMax}
+use Rattle.wrapper_scans.specs.TestTimes.{testTime}
+use Rattle.wrapper_scans.specs.Asked.{moduleAt, askedModule}
+use Rattle.wrapper_times.specs.Times.{sumTimes, figure}
+use Rattle.wrapper_times.specs.TimeAnswers.{moduleTimeAnswer}
+use Rattle.wrapper_layout.specs.LayoutAnswers.{askedTest, layoutOf, layoutAnswer}
+use Rattle.wrapper_layout.specs.Laid.{testAt, layoutsFrom, layoutsCycles}
 use Rattle.wrapper.proofs.WrapperAnswerLaws.{timed, answer-figure, answer-wires}
 
 -- at width u, where nothing is refused

@@ -16,21 +16,23 @@ use Rattle.soc.specs.Rules.{goodSoc}
 use Rattle.soc.specs.Sized.{Sized}
 use Rattle.soc.specs.declared.record.Module.{Module}
 use Rattle.soc.specs.declared.record.Soc.{Soc}
-use Rattle.wrapper.specs.Fit.{longest, total, withCells}
-use Rattle.wrapper.specs.Chains.{threaded}
-use Rattle.wrapper.specs.Maxima.{testTimeMax, moduleTimeMax}
-use Rattle.wrapper.specs.Times.{withBidirs, figure, testCycles, testTime, moduleBest}
-use Rattle.wrapper.specs.WrapperAnswers.{widthMax, captureMax, moduleAt, askedModule, askedTest, layoutOf, noLayout, layoutAnswer}
-use Rattle.wrapper.specs.WrapperAnswers.{noModuleTime, moduleTimeOf, moduleTimeAnswer}
-use Rattle.wrapper.specs.Laid.{testAt, lengthsIn, scanIns, scanOuts}
-use Rattle.wrapper.specs.declared.laid.WrapperLayout.{WrapperLayout}
-use Rattle.wrapper.specs.declared.asked.ModuleTime.{ModuleTime}
-use Rattle.wrapper.proofs.BestLaws.{time-at, time-wires, time-least, time-first}
-use Rattle.wrapper.proofs.KeptLaws.{good-kept, good-count}
-use Rattle.wrapper.proofs.PromisedTimes.{time-most}
-use Rattle.wrapper.proofs.TimeLaws.{test-most}
-use Rattle.wrapper.proofs.LayoutLaws.{in-one-chain, in-no-chain, unused, layout-flip-flops, input-cells-sum, output-cells-sum}
-use Rattle.wrapper.proofs.LayoutLaws.{bidir-cells-sum, layout-scan-ins, layout-scan-outs, scan-in-is, scan-out-is}
+use Rattle.wrapper_fit.specs.Fit.{longest, total, withCells}
+use Rattle.wrapper_fit.specs.Maxima.{testTimeMax, moduleTimeMax, widthMax, captureMax}
+use Rattle.wrapper_scans.specs.Chains.{threaded}
+use Rattle.wrapper_scans.specs.TestTimes.{withBidirs, testCycles, testTime}
+use Rattle.wrapper_scans.specs.Asked.{moduleAt, askedModule}
+use Rattle.wrapper_scans.proofs.KeptLaws.{good-kept, good-count}
+use Rattle.wrapper_scans.proofs.TestTimeLaws.{test-most}
+use Rattle.wrapper_times.specs.Times.{figure, moduleBest}
+use Rattle.wrapper_times.specs.TimeAnswers.{noModuleTime, moduleTimeOf, moduleTimeAnswer}
+use Rattle.wrapper_times.specs.declared.asked.ModuleTime.{ModuleTime}
+use Rattle.wrapper_times.proofs.BestLaws.{time-at, time-wires, time-least, time-first}
+use Rattle.wrapper_times.proofs.PromisedTimes.{time-most}
+use Rattle.wrapper_layout.specs.LayoutAnswers.{askedTest, layoutOf, noLayout, layoutAnswer}
+use Rattle.wrapper_layout.specs.Laid.{testAt, lengthsIn, scanIns, scanOuts}
+use Rattle.wrapper_layout.specs.declared.laid.WrapperLayout.{WrapperLayout}
+use Rattle.wrapper_layout.proofs.LayoutLaws.{in-one-chain, in-no-chain, unused, layout-flip-flops, input-cells-sum, output-cells-sum}
+use Rattle.wrapper_layout.proofs.LayoutLaws.{bidir-cells-sum, layout-scan-ins, layout-scan-outs, scan-in-is, scan-out-is}
 
 -- what was asked for is there
 pub record Asked (s : Soc) (m w c : ℕ) : Type 0 where

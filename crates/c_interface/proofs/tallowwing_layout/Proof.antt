@@ -2,7 +2,7 @@
 use borrow.Author.Needs.{needs}
 use native.Mathlib.Omega.{arith}
 use mathlib.Core.Path.{_≡_, ap, _∙_}
-use Rattle.wrapper.specs.WrapperAnswers.{layoutAnswer}
+use Rattle.wrapper_layout.specs.LayoutAnswers.{layoutAnswer}
 use Rattle.c_forms.specs.SocForm.{socIn}
 use Rattle.c_forms.specs.LayoutForm.{layoutBytes}
 use Rattle.c_interface.proofs.CodeLaws.{refused-given, whole-given}

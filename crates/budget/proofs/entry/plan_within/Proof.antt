@@ -10,7 +10,7 @@ use Rattle.units.proofs.TestLaws.{within-true, below-false, above-false, and-bo
 use Rattle.soc.specs.Rules.{goodSoc}
 use Rattle.soc.specs.Planned.{plannedOf}
 use Rattle.soc.proofs.PinsLaws.{planned-most}
-use Rattle.wrapper.specs.WrapperAnswers.{widthMax, captureMax}
+use Rattle.wrapper_fit.specs.Maxima.{widthMax, captureMax}
 use Rattle.budget.specs.BudgetAnswers.{limitMax, budgetMax, refusedBudget, budgetAnswer}
 use Rattle.budget.specs.Met.{limitsRefused}
 use Rattle.budget.proofs.EntryLaws.{Within, none-refused, one-refused}

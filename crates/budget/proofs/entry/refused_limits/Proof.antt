@@ -3,7 +3,7 @@ use mathlib.Core.Path.{_≡_, sym}
 use mathlib.Core.Bool.{true, _&&_}
 use lib.Dec.{leb}
 use Rattle.units.proofs.TestLaws.{within-true, below-false, above-false}
-use Rattle.wrapper.specs.WrapperAnswers.{widthMax, captureMax}
+use Rattle.wrapper_fit.specs.Maxima.{widthMax, captureMax}
 use Rattle.budget.specs.BudgetAnswers.{limitMax}
 use Rattle.budget.specs.Met.{limitsRefused}
 use Rattle.budget.proofs.entry.refused_limits.Statement.{statement}

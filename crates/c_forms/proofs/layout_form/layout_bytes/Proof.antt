@@ -4,7 +4,7 @@ use borrow.Author.Needs.{needs}
 use native.Mathlib.Omega.{arith}
 use mathlib.Core.Path.{_≡_}
 use lib.ListN.{length, length-map}
-use Rattle.wrapper.specs.WrapperAnswers.{widthMax}
+use Rattle.wrapper_fit.specs.Maxima.{widthMax}
 use Rattle.c_forms.specs.LayoutForm.{layoutBytes}
 use Rattle.c_forms.proofs.LengthLaws.{layout-length}
 use Rattle.c_forms.proofs.PutOfLaws.{put-words, then-put, none-put, all-put}

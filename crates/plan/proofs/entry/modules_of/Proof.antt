@@ -8,7 +8,7 @@ use lib.ListN.{length, getD, take}
 use Rattle.units.specs.Places.{padded}
 use Rattle.units.proofs.PlaceLaws.{padded-none}
 use Rattle.plan_record.specs.Record.{modulePlaces, noPlaced}
-use Rattle.wrapper.specs.WrapperAnswers.{widthMax}
+use Rattle.wrapper_fit.specs.Maxima.{widthMax}
 use Rattle.plan_search.specs.Search.{foundModules, rowPlaces}
 use Rattle.plan.specs.Records.{placedFrom}
 use Rattle.plan.specs.Tables.{tablePlaces}

@@ -9,7 +9,7 @@ use borrow.Author.Tests.{le-leb, lt-leb, not-true, not-false}
 use Rattle.units.proofs.TestLaws.{within-true, below-false, above-false}
 use Rattle.soc.specs.Rules.{goodSoc}
 use Rattle.soc.specs.Planned.{plannedOf}
-use Rattle.wrapper.specs.WrapperAnswers.{widthMax, captureMax}
+use Rattle.wrapper_fit.specs.Maxima.{widthMax, captureMax}
 use Rattle.plan.specs.PlanAnswers.{limitMax, plannedMax, planAnswer}
 use Rattle.plan.proofs.entry.plan.Statement.{statement}
 use Rattle.plan.proofs.entry.plan.Tie as tie

@@ -7,9 +7,9 @@ use native.Mathlib.Omega.{arith}
 use lib.ListN.{length, getD}
 use Rattle.soc.specs.Limits.{modulesMax}
 use Rattle.soc.specs.Planned.{plannedOf}
-use Rattle.wrapper.proofs.KeptLaws.{good-count}
+use Rattle.wrapper_scans.proofs.KeptLaws.{good-count}
 use Rattle.units.proofs.PlaceLaws.{padded-at}
-use Rattle.wrapper.specs.WrapperAnswers.{moduleTimesAnswer}
+use Rattle.wrapper_times.specs.TimeAnswers.{moduleTimesAnswer}
 use Rattle.plan.specs.Tables.{TablesAre}
 use Rattle.plan.proofs.TableLaws.{planned-number, tables-none, tables-more}
 use Rattle.plan.proofs.tables.tables_of.Statement.{statement}

@@ -8,7 +8,7 @@ use mathlib.Core.List.{List}
 use native.Mathlib.Omega.{arith}
 use lib.Seq.{getD-set-same, getD-set-other}
 use lib.ListN.{length, length-set, length-map, getD, set}
-use Rattle.wrapper.specs.WrapperAnswers as answers
+use Rattle.wrapper_fit.specs.Counts as counts
 use Rattle.plan_search.specs.Search.{rowPlaces}
 use Rattle.plan_record.specs.Record.{modulePlaces}
 use Rattle.plan.specs.Tables.{tablePlaces}
@@ -42,8 +42,8 @@ module _ {A : Type 0} {f : A → ℕ} {z : A} {at : ℕ} {xs : List A} {old : Li
 abbrev Inv-loop : tie.InvT-loop
 Inv-loop k times cycles₀ wires₀ j₀ cycles wires j =
     (j ≤ rowPlaces) × (k < modulePlaces)
-    × Stands (λ c. c .0) (answers.cycles 0) (k * rowPlaces) j (times .cycles) cycles₀ cycles
-    × Stands (λ c. c .0) (answers.wires 0) (k * rowPlaces) j (times .wires) wires₀ wires
+    × Stands (λ c. c .0) (counts.cycles 0) (k * rowPlaces) j (times .cycles) cycles₀ cycles
+    × Stands (λ c. c .0) (counts.wires 0) (k * rowPlaces) j (times .wires) wires₀ wires
 
 abbrev μ-loop : tie.MeasureT-loop
 μ-loop k times cycles₀ wires₀ j₀ cycles wires j = rowPlaces - j

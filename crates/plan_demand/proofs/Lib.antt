@@ -1,0 +1,4 @@
+pub mod PlanDemand
+pub mod MoreWires
+pub mod CaptureLaws
+pub mod SumLaws

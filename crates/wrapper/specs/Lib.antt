@@ -1,9 +1,0 @@
-pub mod Fit
-pub mod Cells
-pub mod Chains
-pub mod Times
-pub mod Maxima
-pub mod WrapperAnswers
-pub mod Laid
-pub mod Held
-pub mod Scans

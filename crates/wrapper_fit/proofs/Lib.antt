@@ -1,0 +1,3 @@
+pub mod FitLaws
+pub mod CellLaws
+pub mod ElementLaws

@@ -1,0 +1,5 @@
+pub mod Maxima
+pub mod Counts
+pub mod Fit
+pub mod Cells
+pub mod Elements

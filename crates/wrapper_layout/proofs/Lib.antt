@@ -1,0 +1,4 @@
+pub mod ChainOrder
+pub mod LaidLaws
+pub mod LayoutLaws
+pub mod AskedLaws

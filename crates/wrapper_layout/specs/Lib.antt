@@ -1,0 +1,3 @@
+pub mod LayoutAnswers
+pub mod Laid
+pub mod Held

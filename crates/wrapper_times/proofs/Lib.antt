@@ -1,0 +1,3 @@
+pub mod TimeLaws
+pub mod BestLaws
+pub mod PromisedTimes

@@ -1,0 +1,3 @@
+pub mod Times
+pub mod TimeAnswers
+pub mod Sums
