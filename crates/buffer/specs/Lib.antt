@@ -1,5 +1,3 @@
 pub mod Puts
-pub mod Little
-pub mod Rows
 pub mod WriterAnswers
 pub mod Room

@@ -3,9 +3,9 @@ use Prim.Native.Nat.{ℕ, _*_}
 use mathlib.Core.Path.{_≡_}
 use mathlib.Core.Bool.{Bool}
 use lib.ListN.{length, length-append}
-use Rattle.buffer.specs.Rows.{each}
-use Rattle.buffer.proofs.LittleLaws.{little-length}
-use Rattle.buffer.proofs.RowLaws.{each-length}
+use Rattle.little_endian.specs.Rows.{each}
+use Rattle.little_endian.proofs.LittleLaws.{little-length}
+use Rattle.little_endian.proofs.RowLaws.{each-length}
 use Rattle.units.specs.declared.FlipFlops.{FlipFlops}
 use Rattle.fields.specs.Names.{nameMax}
 use Rattle.soc.specs.Limits.{modulesMax, chainsMax, testsMax}

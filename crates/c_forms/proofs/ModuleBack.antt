@@ -5,8 +5,8 @@ use mathlib.Core.Bool.{true}
 use mathlib.Core.List.{List, _++_, append-assoc}
 use native.Mathlib.Omega.{arith}
 use Rattle.units.specs.declared.FlipFlops.{FlipFlops}
-use Rattle.buffer.specs.Rows.{each, rows}
-use Rattle.buffer.proofs.StandLaws.{Stands, stands-first, stands-behind, number-stands, rows-stand, all-stand}
+use Rattle.little_endian.specs.Rows.{each, rows}
+use Rattle.little_endian.proofs.StandLaws.{Stands, stands-first, stands-behind, number-stands, rows-stand, all-stand}
 use Rattle.soc.specs.Limits.{chainsMax, testsMax}
 use Rattle.soc.specs.Record.{flipFlops, noTest}
 use Rattle.soc.specs.Sized.{SizedModule}

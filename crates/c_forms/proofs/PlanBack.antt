@@ -7,10 +7,10 @@ use mathlib.Core.List.{List, _++_, append-assoc}
 use native.Mathlib.Omega.{arith}
 use borrow.Author.Tests.{eq-eqb}
 use lib.ListN.{length, length-append}
-use Rattle.buffer.specs.Rows.{each, rows}
-use Rattle.buffer.proofs.LittleLaws.{little-length}
-use Rattle.buffer.proofs.StandLaws.{Stands, stands-whole, stands-first, stands-behind}
-use Rattle.buffer.proofs.StandLaws.{number-stands, number-first, number-behind, rows-stand}
+use Rattle.little_endian.specs.Rows.{each, rows}
+use Rattle.little_endian.proofs.LittleLaws.{little-length}
+use Rattle.little_endian.proofs.StandLaws.{Stands, stands-whole, stands-first, stands-behind}
+use Rattle.little_endian.proofs.StandLaws.{number-stands, number-first, number-behind, rows-stand}
 use Rattle.plan_record.specs.Record.{busPlaces, modulePlaces, noBus, noPlaced}
 use Rattle.plan_record.specs.Good.{goodPlan}
 use Rattle.plan_record.specs.Whole.{Whole}

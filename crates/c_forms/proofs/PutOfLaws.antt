@@ -7,10 +7,10 @@ use native.Mathlib.Omega.{arith}
 use borrow.Author.Tests.{le-leb, lt-leb}
 use lib.ListN.{length, getD, length-append}
 use Rattle.buffer.specs.Puts.{putEnd, putIn, putAt, Put}
-use Rattle.buffer.specs.Rows.{each}
-use Rattle.buffer.proofs.LittleLaws.{little-length}
+use Rattle.little_endian.specs.Rows.{each}
+use Rattle.little_endian.proofs.LittleLaws.{little-length}
 use Rattle.buffer.proofs.PutLaws.{put-is, put-kept, put-then}
-use Rattle.buffer.proofs.RowLaws.{Run, run-more, run-all}
+use Rattle.little_endian.proofs.RowLaws.{Run, run-more, run-all}
 use Rattle.c_forms.specs.Words.{wordLength, word, words, PutOf, PutWords, PutFront}
 
 -- a part that there is room for

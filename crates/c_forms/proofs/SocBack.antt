@@ -8,9 +8,9 @@ use native.Mathlib.Omega.{arith}
 use borrow.Author.Tests.{eq-eqb}
 use lib.ListN.{length, getD}
 use Rattle.units.specs.Places.{allOf}
-use Rattle.buffer.specs.Rows.{each, rows}
-use Rattle.buffer.proofs.StandLaws.{Stands, stands-whole, stands-first, stands-behind}
-use Rattle.buffer.proofs.StandLaws.{part-stands, number-first, number-behind, rows-stand, all-stand}
+use Rattle.little_endian.specs.Rows.{each, rows}
+use Rattle.little_endian.proofs.StandLaws.{Stands, stands-whole, stands-first, stands-behind}
+use Rattle.little_endian.proofs.StandLaws.{part-stands, number-first, number-behind, rows-stand, all-stand}
 use Rattle.fields.specs.Names.{nameMax}
 use Rattle.soc.specs.Limits.{modulesMax}
 use Rattle.soc.specs.Record.{noModule}

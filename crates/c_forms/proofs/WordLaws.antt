@@ -4,10 +4,10 @@ use mathlib.Core.Path.{_≡_, refl}
 use mathlib.Core.List.{List, [], _∷_, _++_}
 use native.Mathlib.Omega.{arith}
 use lib.ListN.{length, getD}
-use Rattle.buffer.specs.Rows.{each}
-use Rattle.buffer.proofs.LittleLaws.{little-length}
-use Rattle.buffer.proofs.RowLaws.{each-length}
-use Rattle.buffer.proofs.StandLaws.{Stands, stands-behind, number-first, number-behind}
+use Rattle.little_endian.specs.Rows.{each}
+use Rattle.little_endian.proofs.LittleLaws.{little-length}
+use Rattle.little_endian.proofs.RowLaws.{each-length}
+use Rattle.little_endian.proofs.StandLaws.{Stands, stands-behind, number-first, number-behind}
 use Rattle.c_forms.specs.Words.{wordLength, word, words, wordAt}
 use Rattle.c_forms.specs.Fit.{Fits4}
 

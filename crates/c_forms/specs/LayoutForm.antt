@@ -2,7 +2,7 @@
 -- of each internal chain, and at the end (document 02, item 8) its si, so and cycles.
 use Prim.Native.Nat.{ℕ, _+_, _*_}
 use mathlib.Core.List.{List, _++_}
-use Rattle.buffer.specs.Rows.{each}
+use Rattle.little_endian.specs.Rows.{each}
 use Rattle.soc.specs.Limits.{chainsMax}
 use Rattle.wrapper_fit.specs.Maxima.{widthMax}
 use Rattle.wrapper_layout.specs.declared.laid.WrapperLayout.{WrapperLayout}

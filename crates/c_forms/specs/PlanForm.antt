@@ -4,7 +4,7 @@ use mathlib.Core.Bool.{cond}
 use mathlib.Core.List.{List, [], _∷_, _++_}
 use lib.ListN.{length}
 use lib.Dec.{eqb}
-use Rattle.buffer.specs.Rows.{each, rows}
+use Rattle.little_endian.specs.Rows.{each, rows}
 use Rattle.wrapper_fit.specs.Counts.{wires, cycles}
 use Rattle.plan_record.specs.Record.{busPlaces, modulePlaces, noPlan}
 use Rattle.plan_record.specs.declared.record.Bus.{Bus}

@@ -6,7 +6,7 @@ use lib.ListN.{length, take, drop}
 use lib.Dec.{leb, eqb}
 use Rattle.units.specs.declared.FlipFlops.{FlipFlops}
 use Rattle.units.specs.Places.{allOf}
-use Rattle.buffer.specs.Rows.{each, rows}
+use Rattle.little_endian.specs.Rows.{each, rows}
 use Rattle.fields.specs.Names.{nameMax}
 use Rattle.soc.specs.Limits.{modulesMax, chainsMax, testsMax}
 use Rattle.soc.specs.Record.{flipFlops, noSoc}

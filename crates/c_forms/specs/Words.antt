@@ -7,9 +7,9 @@ use mathlib.Core.List.{List}
 use lib.ListN.{length}
 use lib.Dec.{eqb, ltb}
 use lib.IntN.{ℤ, pos, negsuc}
-use Rattle.buffer.specs.Little.{little, numberAt}
+use Rattle.little_endian.specs.Little.{little, numberAt}
 use Rattle.buffer.specs.Puts.{putFront, putCount, Put}
-use Rattle.buffer.specs.Rows.{each}
+use Rattle.little_endian.specs.Rows.{each}
 
 -- how many bytes a word has, and a long one
 abbrev pub wordLength : ℕ

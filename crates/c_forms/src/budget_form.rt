@@ -22,7 +22,7 @@ fn put_spent(buf: &mut [u8], at: usize, finished: bool, known: bool, tries: u64)
 {
     let w = [flag_word(finished), flag_word(known)];
     let a = put_words(&mut *buf, at, &w);
-    buffer::put_u64(&mut *buf, a, tries)
+    little_endian::put_u64(&mut *buf, a, tries)
 }
 
 pub fn budget_bytes(finished: bool, known: bool, tries: u64, p: BusPlan, buf: &mut [u8]) -> usize

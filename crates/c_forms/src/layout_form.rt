@@ -22,7 +22,7 @@ fn put_chains(buf: &mut [u8], at: usize, list: [usize; CHAINS_MAX]) -> usize
     let mut e = at;
     let mut i: usize = 0;
     while i < CHAINS_MAX {
-        e = buffer::put_u32(&mut *buf, e, list[i] as u64);
+        e = little_endian::put_u32(&mut *buf, e, list[i] as u64);
         i += 1;
     }
     e
@@ -33,9 +33,9 @@ fn put_time(buf: &mut [u8], at: usize, si: u64, so: u64, cycles: u64) -> usize
     requires { ⌜ at + longLength * 3 ≤ length (now buf) ⌝ }
     ensures { λ r. ⌜ PutOf (longLength * 3) (timeBytes si so cycles) at (now (buf .entry)) (now (buf .exit)) r ⌝ }
 {
-    let a = buffer::put_u64(&mut *buf, at, si);
-    let b = buffer::put_u64(&mut *buf, a, so);
-    buffer::put_u64(&mut *buf, b, cycles)
+    let a = little_endian::put_u64(&mut *buf, at, si);
+    let b = little_endian::put_u64(&mut *buf, a, so);
+    little_endian::put_u64(&mut *buf, b, cycles)
 }
 
 pub fn layout_bytes(l: WrapperLayout, buf: &mut [u8]) -> usize

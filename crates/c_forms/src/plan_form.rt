@@ -9,7 +9,7 @@ use plan_record::MODULE_PLACES;
 use plan_record::PlacedModule;
 ghost use Prim.Native.Nat.{_+_, _*_, _≤_};
 ghost use lib.ListN.{length};
-ghost use Rattle.buffer.specs.Rows.{each};
+ghost use Rattle.little_endian.specs.Rows.{each};
 ghost use Rattle.plan_record.specs.Record.{busPlaces, modulePlaces};
 ghost use Rattle.c_forms.specs.Words.{PutOf, PutFront};
 ghost use Rattle.c_forms.specs.PlanForm.{busStride, placedStride, busesFrom, planLength};
@@ -38,8 +38,8 @@ fn put_bus(buf: &mut [u8], at: usize, b: Bus) -> usize
     requires { ⌜ at + busStride ≤ length (now buf) ⌝ }
     ensures { λ r. ⌜ PutOf busStride (busBytes b) at (now (buf .entry)) (now (buf .exit)) r ⌝ }
 {
-    let a = buffer::put_u32(&mut *buf, at, b.width.0 as u64);
-    buffer::put_u64(&mut *buf, a, b.busy.0)
+    let a = little_endian::put_u32(&mut *buf, at, b.width.0 as u64);
+    little_endian::put_u64(&mut *buf, a, b.busy.0)
 }
 
 pub(crate) fn put_buses(buf: &mut [u8], at: usize, p: BusPlan) -> usize
@@ -62,8 +62,8 @@ fn put_placed(buf: &mut [u8], at: usize, m: PlacedModule) -> usize
 {
     let w = [m.number as u64, m.bus as u64, m.wires.0 as u64];
     let a = put_words(&mut *buf, at, &w);
-    let b = buffer::put_u64(&mut *buf, a, m.cycles.0);
-    buffer::put_u64(&mut *buf, b, m.start.0)
+    let b = little_endian::put_u64(&mut *buf, a, m.cycles.0);
+    little_endian::put_u64(&mut *buf, b, m.start.0)
 }
 
 pub(crate) fn put_modules(buf: &mut [u8], at: usize, p: BusPlan) -> usize
@@ -91,7 +91,7 @@ pub(crate) fn put_counts(buf: &mut [u8], at: usize, p: BusPlan) -> usize
         p.module_count as u64,
     ];
     let a = put_words(&mut *buf, at, &w);
-    buffer::put_u64(&mut *buf, a, p.time.0)
+    little_endian::put_u64(&mut *buf, a, p.time.0)
 }
 
 pub fn plan_bytes(p: BusPlan, buf: &mut [u8]) -> usize

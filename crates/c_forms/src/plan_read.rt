@@ -19,7 +19,7 @@ use units::Wires;
 ghost use mathlib.Core.Path.{_≡_};
 ghost use Prim.Native.Nat.{_+_, _≤_};
 ghost use lib.ListN.{length};
-ghost use Rattle.buffer.specs.Rows.{rows};
+ghost use Rattle.little_endian.specs.Rows.{rows};
 ghost use Rattle.plan_record.specs.Record.{busPlaces, modulePlaces};
 ghost use Rattle.c_forms.specs.PlanForm.{busStride, placedStride, busesFrom, placedFrom, planLength, busAt, placedAt, planAt, planIn};
 
@@ -29,7 +29,7 @@ fn bus_at(b: &[u8], at: usize) -> Bus
 {
     Bus {
         width: Wires(word_at(b, at, 0)),
-        busy: Cycles(buffer::u64_at(b, at + WORD_BYTES)),
+        busy: Cycles(little_endian::u64_at(b, at + WORD_BYTES)),
     }
 }
 
@@ -54,8 +54,8 @@ fn placed_at(b: &[u8], at: usize) -> PlacedModule
         number: word_at(b, at, 0) as usize,
         bus: word_at(b, at, 1) as usize,
         wires: Wires(word_at(b, at, 2)),
-        cycles: Cycles(buffer::u64_at(b, at + CYCLES_FROM)),
-        start: Cycles(buffer::u64_at(b, at + START_FROM)),
+        cycles: Cycles(little_endian::u64_at(b, at + CYCLES_FROM)),
+        start: Cycles(little_endian::u64_at(b, at + START_FROM)),
     }
 }
 
@@ -83,7 +83,7 @@ fn plan_at(b: &[u8]) -> BusPlan
         buses: buses_at(b),
         module_count: word_at(b, 0, 3) as usize,
         modules: modules_at(b),
-        time: Cycles(buffer::u64_at(b, TIME_FROM)),
+        time: Cycles(little_endian::u64_at(b, TIME_FROM)),
     }
 }
 

@@ -13,7 +13,7 @@ use soc::Test;
 use units::FlipFlops;
 ghost use Prim.Native.Nat.{_+_, _*_, _≤_};
 ghost use lib.ListN.{length};
-ghost use Rattle.buffer.specs.Rows.{each};
+ghost use Rattle.little_endian.specs.Rows.{each};
 ghost use Rattle.soc.specs.Limits.{modulesMax, chainsMax, testsMax};
 ghost use Rattle.c_forms.specs.Words.{wordLength, PutOf, PutFront};
 ghost use Rattle.c_forms.specs.SocForm.{testLength, moduleLength, modulesFrom, socLength};
@@ -73,7 +73,7 @@ pub(crate) fn put_lengths(buf: &mut [u8], at: usize, list: [FlipFlops; CHAINS_MA
     let mut i: usize = 0;
     while i < CHAINS_MAX {
         let f = list[i];
-        e = buffer::put_u32(&mut *buf, e, f.0 as u64);
+        e = little_endian::put_u32(&mut *buf, e, f.0 as u64);
         i += 1;
     }
     e
@@ -118,7 +118,7 @@ fn put_head(buf: &mut [u8], at: usize, s: Soc) -> usize
 {
     let name = s.name;
     let options = [flag_word(s.power), flag_word(s.xy), s.module_count as u64];
-    let a = buffer::put_u32(&mut *buf, at, s.name_len as u64);
+    let a = little_endian::put_u32(&mut *buf, at, s.name_len as u64);
     let b = buffer::put_bytes(&mut *buf, a, &name);
     put_words(&mut *buf, b, &options)
 }

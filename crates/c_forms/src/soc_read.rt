@@ -22,7 +22,7 @@ use units::FlipFlops;
 ghost use mathlib.Core.Path.{_≡_};
 ghost use Prim.Native.Nat.{_+_, _*_, _≤_};
 ghost use lib.ListN.{length, take, drop};
-ghost use Rattle.buffer.specs.Rows.{rows};
+ghost use Rattle.little_endian.specs.Rows.{rows};
 ghost use Rattle.fields.specs.Names.{nameMax};
 ghost use Rattle.soc.specs.Limits.{modulesMax, chainsMax, testsMax};
 ghost use Rattle.c_forms.specs.Words.{wordLength};

@@ -14,7 +14,7 @@ pub(crate) fn word_at(b: &[u8], at: usize, i: usize) -> u32
     requires { ⌜ at + wordLength * i ≤ length (now b) ⌝ }
     ensures { λ r. ⌜ r ≡ wordAt (now (b .entry)) at i ⌝ }
 {
-    buffer::u32_at(b, at + WORD_BYTES * i)
+    little_endian::u32_at(b, at + WORD_BYTES * i)
 }
 
 pub(crate) fn signed_in(w: u32) -> i32
@@ -49,7 +49,7 @@ pub(crate) fn put_words(buf: &mut [u8], at: usize, list: &[u64]) -> usize
     let mut e = at;
     let mut i: usize = 0;
     while i < list.len() {
-        e = buffer::put_u32(&mut *buf, e, list[i]);
+        e = little_endian::put_u32(&mut *buf, e, list[i]);
         i += 1;
     }
     e

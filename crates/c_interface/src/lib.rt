@@ -183,7 +183,7 @@ pub extern "C" fn tallowwing_show(from: &[u8], into: &mut [u8]) -> u64
     ensures { λ r. ⌜ (r ≡ showCode (now (from .entry)) (now (into .entry))) × (now (into .exit) ≡ showHeld (now (from .entry)) (now (into .entry))) ⌝ }
 {
     let p = c_forms::plan_in(from);
-    let shown = listing::show(p, &mut *into);
+    let shown = plan_lines::show(p, &mut *into);
     code_of(shown.refusal, shown.len as u64)
 }
 

@@ -1,4 +1,4 @@
--- Laws of the printed text: that of each line as the code puts it part by part, that of a run of lines with one more at its end, and how long a
+-- Laws of the printed text: that of each line as a form with its figures, that of a run of lines with one more at its end, and how long a
 -- line can be, where a figure has at most 20 digits and a name at most 32 bytes. Assumes nothing.
 use Prim.Native.Nat.{ℕ, suc, _+_, _≤_, _<_}
 use mathlib.Core.Path.{_≡_, refl, ap, _∙_}
@@ -23,6 +23,7 @@ use Rattle.fields.proofs.LinesWritten.{written-append, front-more}
 use Rattle.listing.specs.Listing.{refusalFields, countFields, socFields, busFields, busLines, moduleFields, moduleLines, linesBehind}
 use Rattle.listing.specs.Room.{refusalRoom, countRoom, nameRoom, busRoom, moduleRoom}
 use Rattle.listing.specs.Rest.{restText}
+use Rattle.listing.specs.Forms.{formed}
 
 -- figures are below 2⁶⁴, which has 20 digits
 abbrev pub figureEnd : ℕ
@@ -35,17 +36,25 @@ pub name-size : (s : Soc) → s .«name_len» ≤ nameMax → length (nameOf s) 
 name-size s h = simp length-take (omega arith)
 
 module _ (r : Refusal) where
-  pub refusal-text : writtenLines (refusalFields r ∷ []) ≡ bytes "refused " ++ decimal (r .number) ++ (bytes " line " ++ decimal (r .line) ++ lf ∷ [])
+  refusal-text : writtenLines (refusalFields r ∷ []) ≡ bytes "refused " ++ decimal (r .number) ++ (bytes " line " ++ decimal (r .line) ++ lf ∷ [])
   unfolding refusalFields writtenLines joined
   refusal-text = simp append-assoc
+
+  pub refusal-formed : writtenLines (refusalFields r ∷ []) ≡ formed (bytes "refused # line #\n") (r .number ∷ r .line ∷ [])
+  unfolding formed
+  refusal-formed = refusal-text
 
   pub refusal-size : r .number < figureEnd → r .line < figureEnd → length (writtenLines (refusalFields r ∷ [])) ≤ refusalRoom
   refusal-size n l = rw refusal-text (simp length-append (omega (arith, figure-size (r .number) n, figure-size (r .line) l)))
 
 module _ (p : BusPlan) where
-  pub count-text : writtenLines (countFields p ∷ []) ≡ bytes "wires " ++ decimal (p .wires .0) ++ (bytes " limit " ++ decimal (p .limit) ++ (bytes " time " ++ decimal (p .time .0) ++ lf ∷ []))
+  count-text : writtenLines (countFields p ∷ []) ≡ bytes "wires " ++ decimal (p .wires .0) ++ (bytes " limit " ++ decimal (p .limit) ++ (bytes " time " ++ decimal (p .time .0) ++ lf ∷ []))
   unfolding countFields writtenLines joined
   count-text = simp append-assoc
+
+  pub count-formed : writtenLines (countFields p ∷ []) ≡ formed (bytes "wires # limit # time #\n") (p .wires .0 ∷ p .limit ∷ p .time .0 ∷ [])
+  unfolding formed
+  count-formed = count-text
 
   pub count-size : p .wires .0 < figureEnd → p .limit < figureEnd → p .time .0 < figureEnd → length (writtenLines (countFields p ∷ [])) ≤ countRoom
   count-size w b t = rw count-text (simp length-append (omega (arith, figure-size (p .wires .0) w, figure-size (p .limit) b, figure-size (p .time .0) t)))
@@ -80,19 +89,28 @@ module _ (p : BusPlan) where
       ∙ ap (λ t. writtenLines (first ∷ []) ++ t) (written-append (busLines 1 (busesOf p)) (moduleLines (modulesOf p)))
 
 module _ (i : ℕ) (b : Bus) where
-  pub bus-text : writtenLines (busFields i b ∷ []) ≡ bytes "bus " ++ decimal i ++ (bytes " width " ++ decimal (b .width .0) ++ (bytes " busy " ++ decimal (b .busy .0) ++ lf ∷ []))
+  bus-text : writtenLines (busFields i b ∷ []) ≡ bytes "bus " ++ decimal i ++ (bytes " width " ++ decimal (b .width .0) ++ (bytes " busy " ++ decimal (b .busy .0) ++ lf ∷ []))
   unfolding busFields writtenLines joined
   bus-text = simp append-assoc
+
+  pub bus-formed : writtenLines (busFields i b ∷ []) ≡ formed (bytes "bus # width # busy #\n") (i ∷ b .width .0 ∷ b .busy .0 ∷ [])
+  unfolding formed
+  bus-formed = bus-text
 
   pub bus-size : i < figureEnd → b .width .0 < figureEnd → b .busy .0 < figureEnd → length (writtenLines (busFields i b ∷ [])) ≤ busRoom
   bus-size n w t = rw bus-text (simp length-append (omega (arith, figure-size i n, figure-size (b .width .0) w, figure-size (b .busy .0) t)))
 
 module _ (m : PlacedModule) where
-  pub module-text : writtenLines (moduleFields m ∷ [])
+  module-text : writtenLines (moduleFields m ∷ [])
       ≡ bytes "module " ++ decimal (m .number) ++ (bytes " bus " ++ decimal (m .bus) ++ (bytes " wires " ++ decimal (m .wires .0)
       ++ (bytes " cycles " ++ decimal (m .cycles .0) ++ (bytes " start " ++ decimal (m .start .0) ++ lf ∷ []))))
   unfolding moduleFields writtenLines joined
   module-text = simp append-assoc
+
+  pub module-formed : writtenLines (moduleFields m ∷ [])
+      ≡ formed (bytes "module # bus # wires # cycles # start #\n") (m .number ∷ m .bus ∷ m .wires .0 ∷ m .cycles .0 ∷ m .start .0 ∷ [])
+  unfolding formed
+  module-formed = module-text
 
   pub module-size : m .number < figureEnd → m .bus < figureEnd → m .wires .0 < figureEnd → m .cycles .0 < figureEnd
       → m .start .0 < figureEnd → length (writtenLines (moduleFields m ∷ [])) ≤ moduleRoom

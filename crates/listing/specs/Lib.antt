@@ -2,3 +2,4 @@ pub mod Asked
 pub mod Listing
 pub mod Room
 pub mod Rest
+pub mod Forms

@@ -3,9 +3,7 @@ use super::asked::Asked;
 use super::asked::asked_of;
 use super::put_lines::put_plan;
 use super::put_lines::put_refusal;
-use super::put_lines::put_shown;
 use buffer::Written;
-use plan_record::BusPlan;
 use soc::Soc;
 use units::CaptureCycles;
 use units::Refusal;
@@ -16,7 +14,7 @@ ghost use lib.ListN.{length};
 ghost use Rattle.buffer.specs.Puts.{Put};
 ghost use Rattle.text_reader.specs.Reading.{readSoc};
 ghost use Rattle.plan.specs.PlanAnswers.{planAnswer};
-ghost use Rattle.listing.specs.Listing.{planPrinted, textPrinted, listed, listingMax, listingAnswer, listingLeaves, showAnswer, showLeaves};
+ghost use Rattle.listing.specs.Listing.{planPrinted, textPrinted, listed, listingMax, listingAnswer, listingLeaves};
 ghost use Rattle.listing.specs.Rest.{wanted, Printed};
 
 // A buffer of this length is always enough.
@@ -69,17 +67,5 @@ pub fn listing(input: &[u8], buf: &mut [u8]) -> Written
 {
     let mut form = [0u8; LISTING_MAX];
     let n = put_listed(&mut form, input);
-    buffer::write(&mut *buf, &form[..n])
-}
-
-// A plan record's lines, without the name that it does not hold.
-pub fn show(p: BusPlan, buf: &mut [u8]) -> Written
-    ensures { λ r. ⌜ (r ≡ showAnswer p (now (buf .entry))) × (now (buf .exit) ≡ showLeaves p (now (buf .entry))) ⌝ }
-{
-    if !plan_good::is_good_plan(p) {
-        return buffer::refused_write(12);
-    }
-    let mut form = [0u8; LISTING_MAX];
-    let n = put_shown(&mut form, p);
     buffer::write(&mut *buf, &form[..n])
 }

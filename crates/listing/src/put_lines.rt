@@ -12,29 +12,49 @@ ghost use Rattle.buffer.specs.Puts.{Put};
 ghost use Rattle.fields.specs.Names.{nameMax};
 ghost use Rattle.fields.specs.WrittenLines.{writtenLines};
 ghost use Rattle.plan_record.specs.Record.{busPlaces, modulePlaces, busesOf, modulesOf};
-ghost use Rattle.listing.specs.Listing.{refusalFields, countFields, socFields, busFields, busLines, moduleFields, moduleLines, planLines, shown};
+ghost use Rattle.listing.specs.Listing.{refusalFields, countFields, socFields, busFields, busLines, moduleFields, moduleLines, planLines};
 ghost use Rattle.listing.specs.Room.{refusalRoom, countRoom, nameRoom, busRoom, moduleRoom, restRoom, planRoom};
 ghost use Rattle.listing.specs.Rest.{restText};
+ghost use Rattle.listing.specs.Forms.{marks, formed};
+
+// A form put at a place: each `#` in it stands for the next of the figures.
+fn put_form(buf: &mut [u8], at: usize, form: &[u8], figures: &[u64]) -> usize
+    requires { ⌜ (marks (now form) ≤ length (now figures)) × (at + length (formed (now form) (now figures)) ≤ length (now buf)) ⌝ }
+    ensures { λ e. ⌜ Put (formed (now (form .entry)) (now (figures .entry))) at (now (buf .entry)) (now (buf .exit)) e ⌝ }
+{
+    let mut e = at;
+    let mut k: usize = 0;
+    let mut i: usize = 0;
+    while i < form.len() {
+        let b = form[i];
+        if b == 35 {
+            e = fields::put_number(&mut *buf, e, figures[k]);
+            k += 1;
+        } else {
+            buf[e] = b;
+            e += 1;
+        }
+        i += 1;
+    }
+    e
+}
 
 // `refused N line L`.
 pub(crate) fn put_refusal(buf: &mut [u8], at: usize, r: Refusal) -> usize
     requires { ⌜ at + refusalRoom ≤ length (now buf) ⌝ }
     ensures { λ e. ⌜ Put (writtenLines (refusalFields r ∷ [])) at (now (buf .entry)) (now (buf .exit)) e × (length (writtenLines (refusalFields r ∷ [])) ≤ refusalRoom) ⌝ }
 {
-    let a = fields::put_key(&mut *buf, at, b"refused ", r.number as u64);
-    let b = fields::put_key(&mut *buf, a, b" line ", r.line as u64);
-    buffer::put_bytes(&mut *buf, b, b"\n")
+    let figures = [r.number as u64, r.line as u64];
+    put_form(&mut *buf, at, b"refused # line #\n", &figures)
 }
 
 // `wires` W `limit` B `time` T.
-pub(crate) fn put_counts(buf: &mut [u8], at: usize, p: BusPlan) -> usize
+pub fn put_counts(buf: &mut [u8], at: usize, p: BusPlan) -> usize
     requires { ⌜ at + countRoom ≤ length (now buf) ⌝ }
     ensures { λ e. ⌜ Put (writtenLines (countFields p ∷ [])) at (now (buf .entry)) (now (buf .exit)) e × (length (writtenLines (countFields p ∷ [])) ≤ countRoom) ⌝ }
 {
-    let a = fields::put_key(&mut *buf, at, b"wires ", p.wires.0 as u64);
-    let b = fields::put_key(&mut *buf, a, b" limit ", p.limit as u64);
-    let c = fields::put_key(&mut *buf, b, b" time ", p.time.0);
-    buffer::put_bytes(&mut *buf, c, b"\n")
+    let figures = [p.wires.0 as u64, p.limit as u64, p.time.0];
+    put_form(&mut *buf, at, b"wires # limit # time #\n", &figures)
 }
 
 // `soc` name, and the same behind it.
@@ -55,10 +75,8 @@ fn put_bus_line(buf: &mut [u8], at: usize, i: u64, b: Bus) -> usize
     requires { ⌜ at + busRoom ≤ length (now buf) ⌝ }
     ensures { λ e. ⌜ Put (writtenLines (busFields i b ∷ [])) at (now (buf .entry)) (now (buf .exit)) e × (length (writtenLines (busFields i b ∷ [])) ≤ busRoom) ⌝ }
 {
-    let a = fields::put_key(&mut *buf, at, b"bus ", i);
-    let c = fields::put_key(&mut *buf, a, b" width ", b.width.0 as u64);
-    let d = fields::put_key(&mut *buf, c, b" busy ", b.busy.0);
-    buffer::put_bytes(&mut *buf, d, b"\n")
+    let figures = [i, b.width.0 as u64, b.busy.0];
+    put_form(&mut *buf, at, b"bus # width # busy #\n", &figures)
 }
 
 // `module` m `bus` i `wires` k `cycles` x `start` s.
@@ -66,12 +84,19 @@ fn put_module_line(buf: &mut [u8], at: usize, m: PlacedModule) -> usize
     requires { ⌜ at + moduleRoom ≤ length (now buf) ⌝ }
     ensures { λ e. ⌜ Put (writtenLines (moduleFields m ∷ [])) at (now (buf .entry)) (now (buf .exit)) e × (length (writtenLines (moduleFields m ∷ [])) ≤ moduleRoom) ⌝ }
 {
-    let a = fields::put_key(&mut *buf, at, b"module ", m.number as u64);
-    let b = fields::put_key(&mut *buf, a, b" bus ", m.bus as u64);
-    let c = fields::put_key(&mut *buf, b, b" wires ", m.wires.0 as u64);
-    let d = fields::put_key(&mut *buf, c, b" cycles ", m.cycles.0);
-    let e = fields::put_key(&mut *buf, d, b" start ", m.start.0);
-    buffer::put_bytes(&mut *buf, e, b"\n")
+    let figures = [
+        m.number as u64,
+        m.bus as u64,
+        m.wires.0 as u64,
+        m.cycles.0,
+        m.start.0,
+    ];
+    put_form(
+        &mut *buf,
+        at,
+        b"module # bus # wires # cycles # start #\n",
+        &figures,
+    )
 }
 
 fn put_buses(buf: &mut [u8], at: usize, p: BusPlan) -> usize
@@ -105,7 +130,7 @@ fn put_modules(buf: &mut [u8], at: usize, p: BusPlan) -> usize
 }
 
 // The lines behind the first.
-pub(crate) fn put_rest(buf: &mut [u8], at: usize, p: BusPlan) -> usize
+pub fn put_rest(buf: &mut [u8], at: usize, p: BusPlan) -> usize
     requires { ⌜ (p .«bus_count» ≤ busPlaces) × (p .«module_count» ≤ modulePlaces) × (at + restRoom ≤ length (now buf)) ⌝ }
     ensures { λ e. ⌜ Put (restText p) at (now (buf .entry)) (now (buf .exit)) e × (length (restText p) ≤ restRoom) ⌝ }
 {
@@ -119,14 +144,5 @@ pub(crate) fn put_plan(buf: &mut [u8], at: usize, s: Soc, p: BusPlan) -> usize
     ensures { λ e. ⌜ Put (writtenLines (planLines s p)) at (now (buf .entry)) (now (buf .exit)) e × (length (writtenLines (planLines s p)) ≤ planRoom) ⌝ }
 {
     let a = put_soc_line(&mut *buf, at, s, p);
-    put_rest(&mut *buf, a, p)
-}
-
-// The lines of a plan record, without the name.
-pub(crate) fn put_shown(buf: &mut [u8], p: BusPlan) -> usize
-    requires { ⌜ (p .«bus_count» ≤ busPlaces) × (p .«module_count» ≤ modulePlaces) × (planRoom ≤ length (now buf)) ⌝ }
-    ensures { λ e. ⌜ Put (shown p) 0 (now (buf .entry)) (now (buf .exit)) e × (length (shown p) ≤ planRoom) ⌝ }
-{
-    let a = put_counts(&mut *buf, 0, p);
     put_rest(&mut *buf, a, p)
 }

@@ -49,14 +49,14 @@ pub struct BlocksStep {
 fn block_line(l: &[u8], low: u32) -> BlockLine
     ensures { λ r. ⌜ wholeAs (r .verdict) (startIn r) ≡ whole (blockLine low) (fieldsOf (now (l .entry))) ⌝ }
 {
-    match text_lines::block_number(l, low) {
+    match super::line::block_number(l, low) {
         Figure::No(c) => BlockLine {
             verdict: Verdict::Refused(c),
             number: 0,
-            line: text_lines::block_shape(l, 0),
+            line: super::line::block_shape(l, 0),
         },
         Figure::Is(m, at) => {
-            let line = text_lines::block_shape(l, at);
+            let line = super::line::block_shape(l, at);
             let verdict = line.verdict;
             BlockLine {
                 verdict,
@@ -75,7 +75,7 @@ fn block_step(text: &[u8], p: Place, low: u32) -> BlockStep
         Due::Missing => BlockStep {
             step: Step::No(missing()),
             number: 0,
-            line: text_lines::block_shape(b"", 0),
+            line: super::line::block_shape(b"", 0),
         },
         Due::Line(a, e, n, next) => {
             let read = block_line(&text[a..e], low);

@@ -68,10 +68,10 @@ fn head_step(text: &[u8], p: Place) -> HeadStep
     match due_line(text, p) {
         Due::Missing => HeadStep {
             step: Step::No(missing()),
-            line: text_lines::overlay_line(b""),
+            line: super::line::overlay_line(b""),
         },
         Due::Line(a, e, n, next) => {
-            let line = text_lines::overlay_line(&text[a..e]);
+            let line = super::line::overlay_line(&text[a..e]);
             let verdict = line.verdict;
             match verdict {
                 Verdict::Refused(c) => HeadStep {

@@ -11,11 +11,11 @@ use lib.ListN.{length, take, drop}
 use lib.Seq.{getD-drop}
 use Rattle.units.specs.Places.{allOf}
 use Rattle.units.proofs.TestLaws.{and-both, and-holds}
-use Rattle.buffer.specs.Little.{little, byte, numberAt}
-use Rattle.buffer.specs.Rows.{each, rows}
-use Rattle.buffer.proofs.LittleLaws.{AreBytes, part-number, part-join}
-use Rattle.buffer.proofs.RowLaws.{rows-bytes}
-use Rattle.buffer.proofs.StandLaws.{Stands, stands-behind, number-stands, number-first, number-behind}
+use Rattle.little_endian.specs.Little.{little, byte, numberAt}
+use Rattle.little_endian.specs.Rows.{each, rows}
+use Rattle.little_endian.proofs.LittleLaws.{AreBytes, part-number, part-join}
+use Rattle.little_endian.proofs.RowLaws.{rows-bytes}
+use Rattle.little_endian.proofs.StandLaws.{Stands, stands-behind, number-stands, number-first, number-behind}
 use Rattle.plan_record.specs.declared.record.Bus.{Bus}
 use Rattle.plan_record.specs.declared.record.PlacedModule.{PlacedModule}
 use Rattle.plan_file.specs.Bytes.{moduleStride, busStride, moduleBytes, busBytes}

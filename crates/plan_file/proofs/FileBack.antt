@@ -12,11 +12,11 @@ use Rattle.units.specs.Refusals.{accepted}
 use Rattle.units.specs.Places.{padded}
 use Rattle.units.proofs.TestLaws.{and-holds, and-both}
 use Rattle.units.proofs.PlaceLaws.{padded-take}
-use Rattle.buffer.specs.Little.{little, byte, numberAt}
-use Rattle.buffer.specs.Rows.{each, rows}
-use Rattle.buffer.proofs.StandLaws.{Stands, stands-whole, stands-first, stands-behind, number-stands, number-first, rows-stand, all-stand}
-use Rattle.buffer.proofs.LittleLaws.{AreBytes, part-number, part-join}
-use Rattle.buffer.proofs.RowLaws.{rows-length}
+use Rattle.little_endian.specs.Little.{little, byte, numberAt}
+use Rattle.little_endian.specs.Rows.{each, rows}
+use Rattle.little_endian.proofs.StandLaws.{Stands, stands-whole, stands-first, stands-behind, number-stands, number-first, rows-stand, all-stand}
+use Rattle.little_endian.proofs.LittleLaws.{AreBytes, part-number, part-join}
+use Rattle.little_endian.proofs.RowLaws.{rows-length}
 use Rattle.plan_record.specs.Record.{busPlaces, modulePlaces, noBus, noPlaced, modulesOf, busesOf}
 use Rattle.plan_record.specs.declared.record.Bus.{Bus}
 use Rattle.plan_record.specs.declared.record.PlacedModule.{PlacedModule}

@@ -12,12 +12,12 @@ use borrow.Rule.Slice.PartMut.{putMid}
 use lib.ListN.{length, getD, length-append, length-drop}
 use lib.Seq.{length-take-le}
 use Rattle.units.specs.Refusals.{accepted}
-use Rattle.buffer.specs.Little.{little}
-use Rattle.buffer.specs.Rows.{each}
+use Rattle.little_endian.specs.Little.{little}
+use Rattle.little_endian.specs.Rows.{each}
 use Rattle.buffer.specs.Puts.{putFront, putEnd, putIn, putAt, Put}
 use Rattle.buffer.specs.WriterAnswers.{refusedWrite}
-use Rattle.buffer.proofs.LittleLaws.{little-length}
-use Rattle.buffer.proofs.RowLaws.{each-length, Run, run-more, run-all}
+use Rattle.little_endian.proofs.LittleLaws.{little-length}
+use Rattle.little_endian.proofs.RowLaws.{each-length, Run, run-more, run-all}
 use Rattle.buffer.proofs.PutLaws.{partFrom, part-rest, part-in, put-is, put-kept, due-all, due-room, due-next, due-put}
 use Rattle.plan_record.specs.declared.record.Bus.{Bus}
 use Rattle.plan_record.specs.declared.record.PlacedModule.{PlacedModule}

@@ -1,8 +1,8 @@
 -- The bytes of a plan file (document 01, "The plan file"; document 02, item 1).
 use Prim.Native.Nat.{ℕ, _+_, _*_}
 use mathlib.Core.List.{List, _∷_, _++_}
-use Rattle.buffer.specs.Little.{little}
-use Rattle.buffer.specs.Rows.{each}
+use Rattle.little_endian.specs.Little.{little}
+use Rattle.little_endian.specs.Rows.{each}
 use Rattle.plan_record.specs.declared.record.Bus.{Bus}
 use Rattle.plan_record.specs.declared.record.PlacedModule.{PlacedModule}
 use Rattle.plan_record.specs.declared.record.BusPlan.{BusPlan}

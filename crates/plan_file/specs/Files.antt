@@ -6,8 +6,8 @@ use lib.ListN.{length}
 use lib.Dec.{leb, eqb}
 use Rattle.units.specs.Refusals.{accepted, refused}
 use Rattle.units.specs.Places.{allOf, padded}
-use Rattle.buffer.specs.Little.{byte, numberAt}
-use Rattle.buffer.specs.Rows.{rows}
+use Rattle.little_endian.specs.Little.{byte, numberAt}
+use Rattle.little_endian.specs.Rows.{rows}
 use Rattle.buffer.specs.Puts.{putFront}
 use Rattle.buffer.specs.WriterAnswers.{refusedWrite, written}
 use Rattle.buffer.specs.declared.written.Written.{Written}

@@ -1,7 +1,7 @@
 // The records of a plan file, each put at the front of the part that it is handed.
 use super::strides::MODULE_STRIDE;
 use buffer::put_bytes;
-use buffer::put_u64;
+use little_endian::put_u64;
 use plan_record::Bus;
 use plan_record::BusPlan;
 use plan_record::PlacedModule;

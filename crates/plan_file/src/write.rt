@@ -14,7 +14,7 @@ ghost use mathlib.Core.Path.{_≡_};
 ghost use Prim.Native.Nat.{_*_, _≤_};
 ghost use lib.ListN.{length};
 ghost use Rattle.buffer.specs.Puts.{putFront};
-ghost use Rattle.buffer.specs.Rows.{each};
+ghost use Rattle.little_endian.specs.Rows.{each};
 ghost use Rattle.plan_record.specs.Record.{busesOf, modulesOf};
 ghost use Rattle.plan_file.specs.Bytes.{moduleStride, busStride, fileLength, moduleBytes, busBytes, fileBytes};
 ghost use Rattle.plan_file.specs.Puts.{Small};

@@ -12,12 +12,14 @@ use super::thumb::bound_of;
 use units::Cycles;
 use units::Wires;
 ghost use mathlib.Core.Path.{_≡_};
-ghost use Prim.Native.Nat.{_-_, _≤_, _<_};
-ghost use lib.ListN.{length, getD};
+ghost use Prim.Native.Nat.{_+_, _-_, _≤_, _<_};
+ghost use lib.ListN.{length, getD, take, drop};
 ghost use Rattle.plan_rules.specs.Listed.{placements, bestPlan};
 ghost use Rattle.plan_rules.specs.Plans.{timeOf};
 ghost use Rattle.plan_rules.specs.Least.{leastOn, allLists, keepLists, keepAll, Stands};
-ghost use Rattle.plan_search.specs.Search.{searchBuses, rowPlaces, tableTime, timeOn, foundOf, foundIn, IsTable, AreWidths, IsHeld};
+ghost use Rattle.plan_search.specs.Search.{searchBuses, searchModules, foundBuses, foundModules, rowPlaces, tableTime, timeOn};
+ghost use Rattle.plan_search.specs.Search.{foundOf, foundIn, IsTable, AreWidths, IsHeld};
+ghost use Rattle.units.specs.Places.{padded};
 ghost use Rattle.plan_search.specs.Lists.{kept, Rooms, Listing};
 
 // The first plan of least time: its buses, their widths, the bus of each module, and its time. Spare places are 0.
@@ -117,10 +119,10 @@ pub fn search(table: &[u64], wires: Wires, limit: usize, n: usize) -> Found
     found_in(&best[..n + 1], &found)
 }
 
-// The plan that the buffers hold.
-fn found_in(best: &[u64], found: &[u32]) -> Found
-    requires { ⌜ IsHeld (now best) (now found) ⌝ }
-    ensures { λ r. ⌜ r ≡ foundIn (now (best .entry)) (now (found .entry)) ⌝ }
+// The widths behind their count, at the front of the places for them.
+fn placed_widths(found: &[u32]) -> [u32; FOUND_BUSES]
+    requires { ⌜ (1 ≤ length (now found)) × (getD (now found) 0 0 ≤ searchBuses) × (getD (now found) 0 0 < length (now found)) ⌝ }
+    ensures { λ r. ⌜ r ≡ padded foundBuses 0 (take (getD (now (found .entry)) 0 0) (drop 1 (now (found .entry)))) ⌝ }
 {
     let count = found[0] as usize;
     let mut widths = [0u32; FOUND_BUSES];
@@ -129,16 +131,32 @@ fn found_in(best: &[u64], found: &[u32]) -> Found
         widths[i] = found[i + 1];
         i += 1;
     }
+    widths
+}
+
+// The bus numbers behind the time, at the front of the places for them.
+fn placed_buses(best: &[u64]) -> [u64; FOUND_MODULES]
+    requires { ⌜ (1 ≤ length (now best)) × (length (now best) ≤ searchModules + 1) ⌝ }
+    ensures { λ r. ⌜ r ≡ padded foundModules 0 (drop 1 (now (best .entry))) ⌝ }
+{
     let mut buses = [0u64; FOUND_MODULES];
-    let mut j: usize = 1;
-    while j < best.len() {
-        buses[j - 1] = best[j];
-        j += 1;
+    let mut i: usize = 1;
+    while i < best.len() {
+        buses[i - 1] = best[i];
+        i += 1;
     }
+    buses
+}
+
+// The plan that the buffers hold.
+fn found_in(best: &[u64], found: &[u32]) -> Found
+    requires { ⌜ IsHeld (now best) (now found) ⌝ }
+    ensures { λ r. ⌜ r ≡ foundIn (now (best .entry)) (now (found .entry)) ⌝ }
+{
     Found {
-        count,
-        widths,
-        buses,
+        count: found[0] as usize,
+        widths: placed_widths(found),
+        buses: placed_buses(best),
         time: Cycles(best[0]),
     }
 }

@@ -8,7 +8,7 @@ use lib.IntN.{ℤ}
 use Rattle.units.specs.declared.FlipFlops.{FlipFlops}
 use Rattle.fields.specs.Bytes.{bytes}
 use Rattle.fields.specs.Names.{nameMax}
-use Rattle.fields.specs.Readers.{Reader, got, _>>=_, _>>_, give, each, word, between}
+use Rattle.fields.specs.Readers.{Reader, got, _>>=_, _>>_, give, each, word, bytesDue, between}
 use Rattle.soc.specs.Limits.{modulesMax, levelMax, terminalsMax, chainsMax, lengthMax, testsMax, patternsMax, positionMax, powerMax}
 use Rattle.units.specs.Places.{padded}
 use Rattle.soc.specs.Record.{flipFlops, notGiven}
@@ -25,6 +25,10 @@ unfoldable pub namePart : Reader Name
 namePart = do
   f ← name
   give (record { len = length f; bytes = padded nameMax 0 f })
+
+-- the keyword w, and then a name
+abbrev pub keyName : List ℕ → Reader Name
+keyName w = bytesDue w >> namePart
 
 unfoldable pub nameLine : Reader Name
 nameLine = do

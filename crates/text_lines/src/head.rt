@@ -13,7 +13,7 @@ ghost use Rattle.fields.specs.Fields.{fieldsOf, part};
 ghost use Rattle.fields.specs.Names.{nameMax};
 ghost use Rattle.units.specs.Places.{padded};
 ghost use Rattle.text_lines.specs.Parts.{refuses, whole};
-ghost use Rattle.text_lines.specs.Kinds.{namePart, nameLine, overlayLine, totalLine, optionsPart, optionsLine};
+ghost use Rattle.text_lines.specs.Kinds.{namePart, keyName, nameLine, totalLine, optionsPart, optionsLine};
 ghost use Rattle.text_lines.specs.LineAnswers.{nameAnswer, countAnswer, optionsAnswer};
 
 pub struct NameLine {
@@ -74,11 +74,11 @@ fn name_at(l: &[u8], a: usize, e: usize) -> NameLine
     }
 }
 
-// `Overlay` name.
-pub fn overlay_line(l: &[u8]) -> NameLine
-    ensures { λ r. ⌜ r ≡ nameAnswer (whole overlayLine (fieldsOf (now (l .entry)))) ⌝ }
+// The keyword w, and then a name.
+pub fn key_name(l: &[u8], w: &[u8]) -> NameLine
+    ensures { λ r. ⌜ r ≡ nameAnswer (whole (keyName (now (w .entry))) (fieldsOf (now (l .entry)))) ⌝ }
 {
-    match fields::past_word(l, 0, b"Overlay") {
+    match fields::past_word(l, 0, w) {
         Past::No(c) => no_name(c),
         Past::At(at) => match fields::next_field(l, at) {
             Next::Nothing => no_name(3),
@@ -91,13 +91,7 @@ pub fn overlay_line(l: &[u8]) -> NameLine
 pub fn name_line(l: &[u8]) -> NameLine
     ensures { λ r. ⌜ r ≡ nameAnswer (whole nameLine (fieldsOf (now (l .entry)))) ⌝ }
 {
-    match fields::past_word(l, 0, b"SocName") {
-        Past::No(c) => no_name(c),
-        Past::At(at) => match fields::next_field(l, at) {
-            Next::Nothing => no_name(3),
-            Next::Field(a, e) => name_at(l, a, e),
-        },
-    }
+    key_name(l, b"SocName")
 }
 
 // `TotalModules` n.

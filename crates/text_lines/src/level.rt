@@ -5,7 +5,6 @@ use fields::Past;
 use soc::CHAINS_MAX;
 use soc::LENGTH_MAX;
 use soc::LEVEL_MAX;
-use soc::MODULES_MAX;
 use soc::TERMINALS_MAX;
 use units::FlipFlops;
 ghost use mathlib.Core.Path.{_≡_};
@@ -14,7 +13,7 @@ ghost use lib.ListN.{drop};
 ghost use Rattle.fields.specs.Fields.{fieldsOf};
 ghost use Rattle.fields.specs.Readers.{each, figureIs};
 ghost use Rattle.text_lines.specs.Parts.{refuses, whole};
-ghost use Rattle.text_lines.specs.Kinds.{level, terminals, chainLength, chainsPart, lengthsPart, shapePart, levelLine, blockNumber, blockShape};
+ghost use Rattle.text_lines.specs.Kinds.{level, terminals, chainLength, chainsPart, lengthsPart, shapePart, levelLine};
 ghost use Rattle.soc.specs.Limits.{chainsMax};
 ghost use Rattle.text_lines.specs.LineAnswers.{levelAnswer, termsIs, lengthsIs, SpareBehind};
 
@@ -38,7 +37,8 @@ pub struct Lengths {
     pub chains: [FlipFlops; CHAINS_MAX],
 }
 
-fn no_level(c: u8) -> LevelLine
+// A line that is refused.
+pub fn no_level(c: u8) -> LevelLine
     ensures { λ r. ⌜ r ≡ levelAnswer (refuses c) ⌝ }
 {
     LevelLine {
@@ -157,7 +157,7 @@ fn chains_to_end(l: &[u8], at: usize, v: u32, i: u32, o: u32, b: u32) -> LevelLi
 }
 
 // A module's first line behind its level v, to the line's end.
-fn shape_to_end(l: &[u8], at: usize, v: u32) -> LevelLine
+pub fn shape_to_end(l: &[u8], at: usize, v: u32) -> LevelLine
     ensures { λ r. ⌜ r ≡ levelAnswer (whole (shapePart v) (fieldsOf (drop at (now (l .entry))))) ⌝ }
 {
     match terminals_at(l, at) {
@@ -171,32 +171,6 @@ pub fn level_line(l: &[u8], m: u32, last: u32) -> LevelLine
     ensures { λ r. ⌜ r ≡ levelAnswer (whole (levelLine m last) (fieldsOf (now (l .entry)))) ⌝ }
 {
     match level_part(l, m, last) {
-        Figure::No(c) => no_level(c),
-        Figure::Is(v, e) => shape_to_end(l, e, v as u32),
-    }
-}
-
-// The number of a block of an overlay, from low on.
-pub fn block_number(l: &[u8], low: u32) -> Figure
-    ensures { λ r. ⌜ figureIs (now (l .entry)) r ≡ blockNumber low (fieldsOf (now (l .entry))) ⌝ }
-{
-    match fields::key_figure(l, 0, b"Module", 0, MODULES_MAX as u32 - 1) {
-        Figure::No(c) => Figure::No(c),
-        Figure::Is(m, e) => {
-            if low as u64 <= m {
-                Figure::Is(m, e)
-            } else {
-                Figure::No(5)
-            }
-        }
-    }
-}
-
-// The first line of a block behind its number, to the line's end: no level rule is tested.
-pub fn block_shape(l: &[u8], at: usize) -> LevelLine
-    ensures { λ r. ⌜ r ≡ levelAnswer (whole blockShape (fieldsOf (drop at (now (l .entry))))) ⌝ }
-{
-    match fields::key_figure(l, at, b"Level", 0, LEVEL_MAX) {
         Figure::No(c) => no_level(c),
         Figure::Is(v, e) => shape_to_end(l, e, v as u32),
     }

@@ -1,6 +1,6 @@
 -- `c_forms::budget_form::put_spent` meets its contract: the tries are put behind the two flags. Assumes nothing.
 use borrow.Author.Needs.{needs}
-use Rattle.buffer.proofs.LittleLaws.{little-length}
+use Rattle.little_endian.proofs.LittleLaws.{little-length}
 use Rattle.c_forms.specs.Words.{long}
 use Rattle.c_forms.specs.BudgetForm.{spentBytes}
 use Rattle.c_forms.proofs.PutOfLaws.{next-put}

@@ -1,7 +1,7 @@
 -- `c_forms::layout_form::put_time` meets its contract: three long words are put one behind another. Assumes nothing.
 use borrow.Author.Needs.{needs}
 use native.Mathlib.Omega.{arith}
-use Rattle.buffer.proofs.LittleLaws.{little-length}
+use Rattle.little_endian.proofs.LittleLaws.{little-length}
 use Rattle.c_forms.specs.Words.{long}
 use Rattle.c_forms.specs.LayoutForm.{timeBytes}
 use Rattle.c_forms.proofs.PutOfLaws.{first-put, next-put}

@@ -1,7 +1,7 @@
 -- `c_forms::plan_form::put_bus` meets its contract: busy is put behind the width. Assumes nothing.
 use borrow.Author.Needs.{needs}
 use native.Mathlib.Omega.{arith}
-use Rattle.buffer.proofs.LittleLaws.{little-length}
+use Rattle.little_endian.proofs.LittleLaws.{little-length}
 use Rattle.c_forms.specs.Words.{long}
 use Rattle.c_forms.specs.PlanForm.{busBytes}
 use Rattle.c_forms.proofs.PutOfLaws.{first-put, next-put}

@@ -1,6 +1,6 @@
 -- `c_forms::plan_form::put_counts` meets its contract: the time is put behind the other figures. Assumes nothing.
 use borrow.Author.Needs.{needs}
-use Rattle.buffer.proofs.LittleLaws.{little-length}
+use Rattle.little_endian.proofs.LittleLaws.{little-length}
 use Rattle.c_forms.specs.Words.{long}
 use Rattle.c_forms.specs.PlanForm.{countBytes}
 use Rattle.c_forms.proofs.PutOfLaws.{next-put}

@@ -5,7 +5,7 @@ use native.Mathlib.Omega.{arith}
 use Prim.Native.Nat.{_-_, _≤_}
 use mathlib.Core.Path.{_≡_}
 use lib.ListN.{length, length-map}
-use Rattle.buffer.proofs.RowLaws.{Run, run-none}
+use Rattle.little_endian.proofs.RowLaws.{Run, run-none}
 use Rattle.plan_record.specs.Record.{modulePlaces, noPlaced}
 use Rattle.c_forms.specs.PlanForm.{placedStride, placedBytes}
 use Rattle.c_forms.proofs.PutOfLaws.{run-part, run-put}

@@ -1,7 +1,7 @@
 -- `c_forms::plan_form::put_placed` meets its contract: cycles are put behind the other figures, and the start behind them. Assumes nothing.
 use borrow.Author.Needs.{needs}
 use native.Mathlib.Omega.{arith}
-use Rattle.buffer.proofs.LittleLaws.{little-length}
+use Rattle.little_endian.proofs.LittleLaws.{little-length}
 use Rattle.c_forms.specs.Words.{long}
 use Rattle.c_forms.specs.PlanForm.{placedBytes}
 use Rattle.c_forms.proofs.PutOfLaws.{next-put}

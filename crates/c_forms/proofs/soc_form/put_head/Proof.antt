@@ -5,7 +5,7 @@ use native.Mathlib.Omega.{arith}
 use mathlib.Core.Path.{_≡_}
 use mathlib.Core.List.{_++_}
 use lib.ListN.{length, length-map}
-use Rattle.buffer.proofs.LittleLaws.{little-length}
+use Rattle.little_endian.proofs.LittleLaws.{little-length}
 use Rattle.fields.specs.Names.{nameMax}
 use Rattle.c_forms.specs.Words.{word, PutOf}
 use Rattle.c_forms.specs.SocForm.{optionsFrom, headBytes}

@@ -5,7 +5,7 @@ use native.Mathlib.Omega.{arith}
 use Prim.Native.Nat.{_-_, _≤_}
 use mathlib.Core.Path.{_≡_, refl}
 use lib.ListN.{length}
-use Rattle.buffer.proofs.RowLaws.{Run, run-none}
+use Rattle.little_endian.proofs.RowLaws.{Run, run-none}
 use Rattle.soc.specs.Limits.{chainsMax}
 use Rattle.soc.specs.Record.{flipFlops}
 use Rattle.c_forms.specs.Words.{wordLength}

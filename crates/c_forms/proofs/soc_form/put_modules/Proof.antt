@@ -7,7 +7,7 @@ use mathlib.Core.Path.{_≡_}
 use mathlib.Core.List.{[]}
 use lib.IntN.{pos}
 use lib.ListN.{length, length-map}
-use Rattle.buffer.proofs.RowLaws.{Run, run-none}
+use Rattle.little_endian.proofs.RowLaws.{Run, run-none}
 use Rattle.soc.specs.Limits.{modulesMax}
 use Rattle.soc.specs.declared.record.Module.{Module}
 use Rattle.c_forms.specs.SocForm.{moduleLength, moduleBytes}

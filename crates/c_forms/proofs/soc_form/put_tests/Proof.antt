@@ -5,7 +5,7 @@ use native.Mathlib.Omega.{arith}
 use Prim.Native.Nat.{_-_, _≤_}
 use mathlib.Core.Path.{_≡_}
 use lib.ListN.{length, length-map}
-use Rattle.buffer.proofs.RowLaws.{Run, run-none}
+use Rattle.little_endian.proofs.RowLaws.{Run, run-none}
 use Rattle.soc.specs.Limits.{testsMax}
 use Rattle.soc.specs.Record.{noTest}
 use Rattle.c_forms.specs.SocForm.{testLength, testBytes}

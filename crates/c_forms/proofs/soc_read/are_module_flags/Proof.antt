@@ -6,8 +6,8 @@ use native.Mathlib.Omega.{arith}
 use Prim.Native.Nat.{_+_, _-_, _*_, _≤_}
 use mathlib.Core.Path.{_≡_, sym, _∙_}
 use Rattle.units.specs.Places.{allOf}
-use Rattle.buffer.specs.Rows.{rows}
-use Rattle.buffer.proofs.RowLaws.{all-rows-step, all-rows-fails, all-rows-end}
+use Rattle.little_endian.specs.Rows.{rows}
+use Rattle.little_endian.proofs.RowLaws.{all-rows-step, all-rows-fails, all-rows-end}
 use Rattle.soc.specs.Limits.{testsMax}
 use Rattle.c_forms.specs.SocForm.{testLength, testsFrom, flagsAt, moduleFlags}
 use Rattle.c_forms.proofs.soc_read.are_module_flags.Statement.{statement}

@@ -7,8 +7,8 @@ use Prim.Native.Nat.{_+_, _-_, _*_, _≤_}
 use mathlib.Core.Path.{_≡_, sym, _∙_}
 use Rattle.units.specs.Places.{allOf}
 use Rattle.units.proofs.TestLaws.{and-stops, and-goes}
-use Rattle.buffer.specs.Rows.{rows}
-use Rattle.buffer.proofs.RowLaws.{all-rows-step, all-rows-fails, all-rows-end}
+use Rattle.little_endian.specs.Rows.{rows}
+use Rattle.little_endian.proofs.RowLaws.{all-rows-step, all-rows-fails, all-rows-end}
 use Rattle.soc.specs.Limits.{modulesMax}
 use Rattle.c_forms.specs.SocForm.{moduleLength, modulesFrom, moduleFlags, socFlags}
 use Rattle.c_forms.proofs.soc_read.are_soc_flags.Statement.{statement}

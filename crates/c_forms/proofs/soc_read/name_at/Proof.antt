@@ -5,9 +5,9 @@ use native.Mathlib.Omega.{arith}
 use Prim.Native.Nat.{_+_, _-_, _*_, _≤_}
 use mathlib.Core.Path.{_≡_, ap, _∙_}
 use Rattle.units.specs.Places.{padded}
-use Rattle.buffer.specs.Little.{byte}
-use Rattle.buffer.specs.Rows.{rows}
-use Rattle.buffer.proofs.RowLaws.{filled-none, filled-step, filled-end, rows-bytes}
+use Rattle.little_endian.specs.Little.{byte}
+use Rattle.little_endian.specs.Rows.{rows}
+use Rattle.little_endian.proofs.RowLaws.{filled-none, filled-step, filled-end, rows-bytes}
 use Rattle.fields.specs.Names.{nameMax}
 use Rattle.c_forms.specs.Words.{wordLength}
 use Rattle.c_forms.proofs.soc_read.name_at.Statement.{statement}

@@ -5,8 +5,8 @@ use native.Mathlib.Omega.{arith}
 use Prim.Native.Nat.{_-_, _≤_}
 use mathlib.Core.Path.{_≡_, _∙_}
 use Rattle.units.specs.Places.{padded}
-use Rattle.buffer.specs.Rows.{rows}
-use Rattle.buffer.proofs.RowLaws.{filled-none, filled-step, filled-end}
+use Rattle.little_endian.specs.Rows.{rows}
+use Rattle.little_endian.proofs.RowLaws.{filled-none, filled-step, filled-end}
 use Rattle.soc.specs.Limits.{testsMax}
 use Rattle.soc.specs.Record.{noTest}
 use Rattle.c_forms.specs.SocForm.{testLength, testAt}

@@ -1,92 +1,63 @@
--- `listing::put_lines::put_counts` meets its contract: each call puts what is due behind the call before it, and the line's figures bound its
+-- `listing::put_lines::put_counts` meets its contract: the form with its figures is the line, and the figures bound its
 -- length. Assumes nothing.
 use borrow.Author.Needs.{needs}
 use native.Mathlib.Omega.{arith}
 use Prim.Native.Nat.{_+_, _≤_}
-use mathlib.Core.Path.{_∙_}
 use mathlib.Core.List.{[], _∷_}
 use lib.ListN.{length}
 use Rattle.fields.specs.Bytes.{bytes}
-use Rattle.fields.specs.WrittenLines.{decimal, writtenLines}
-use Rattle.buffer.proofs.PutLaws.{due-all, due-key, put-is}
+use Rattle.fields.specs.WrittenLines.{writtenLines}
 use Rattle.listing.specs.Listing.{countFields}
 use Rattle.listing.specs.Room.{countRoom}
-use Rattle.listing.proofs.LineLaws.{count-text, count-size}
+use Rattle.listing.specs.Forms.{marks, formed}
+use Rattle.listing.proofs.LineLaws.{count-formed, count-size}
 use Rattle.listing.proofs.put_lines.put_counts.Statement.{statement}
 use Rattle.listing.proofs.put_lines.put_counts.Tie as tie
 
 -- how long the line is, and that there is room for it
 short : (s : tie.Start) → length (writtenLines (countFields (s .args .p) ∷ [])) ≤ countRoom
-short s = let g = s .good .1 .1 .0 .1 .1 in count-size (s .args .p) (omega (arith, g .0 .1 .1 .0 .1)) (omega (arith, g .1 .0 .1)) (omega (arith, g .1 .1 .1 .1 .1 .1 .0 .1 .1 .0 .1))
+short s =
+    let g = s .good .1 .1 .0 .1 .1 in
+    count-size (s .args .p) (omega (arith, g .0 .1 .1 .0 .1)) (omega (arith, g .1 .0 .1)) (omega (arith, g .1 .1 .1 .1 .1 .1 .0 .1 .1 .0 .1))
 
-room : (s : tie.Start) → s .args .at + length (writtenLines (countFields (s .args .p) ∷ [])) ≤ length (s .args .buf .now)
-room s = omega (arith, short s, s .pre)
+room : (s : tie.Start) →
+    s .args .at + length (formed (bytes "wires # limit # time #\n") (s .args .p .wires .0 ∷ s .args .p .limit ∷ s .args .p .time .0 ∷ []))
+    ≤ length (s .args .buf .now)
+room s = rw (← count-formed (s .args .p)) (omega (arith, short s, s .pre))
 
-slice-aggregate-put-key : tie.Need-slice-aggregate-put-key
-slice-aggregate-put-key c = search needs
+cast-t6 : tie.Need-cast-t6
+cast-t6 c = search needs
 
-cast-put-key : tie.Need-cast-put-key
-cast-put-key c = search needs
+cast-t7 : tie.Need-cast-t7
+cast-t7 c = search needs
 
-put-key-requires : tie.Need-put-key-requires
-put-key-requires c κs = search needs
+slice-aggregate-put-form : tie.Need-slice-aggregate-put-form
+slice-aggregate-put-form c = search needs
 
-slice-aggregate-put-key-2 : tie.Need-slice-aggregate-put-key-2
-slice-aggregate-put-key-2 c = search needs
+slice-aggregate-put-form-2 : tie.Need-slice-aggregate-put-form-2
+slice-aggregate-put-form-2 c = search needs
 
-cast-put-key-2 : tie.Need-cast-put-key-2
-cast-put-key-2 c = search needs
-
-put-key-requires-2 : tie.Need-put-key-requires-2
-put-key-requires-2 c κs = search needs
-
-slice-aggregate-put-key-3 : tie.Need-slice-aggregate-put-key-3
-slice-aggregate-put-key-3 c = search needs
-
-put-key-requires-3 : tie.Need-put-key-requires-3
-put-key-requires-3 c κs = search needs
-
-slice-aggregate-put-bytes : tie.Need-slice-aggregate-put-bytes
-slice-aggregate-put-bytes c = search needs
-
-put-bytes-requires : tie.Need-put-bytes-requires
-put-bytes-requires c κs = search needs
+put-form-requires : tie.Need-put-form-requires
+unfolding marks
+put-form-requires c κs = (omega arith, room (c .before .before .before .before .before .before))
 
 same-length : tie.Need-same-length
-same-length c =
-    let k4 = c .before .before in
-    let k3 = k4 .before .before .before .before .before in
-    let k2 = k3 .before .before .before .before .before in
-    let k1 = k2 .before .before .before .before .before .before in
-    k4 .put-bytes .kept .0 ∙ k3 .put-key3 .kept .0 ∙ k2 .put-key2 .kept .0 ∙ k1 .put-key .kept .0
+same-length c = search needs
 
 returns : tie.Need-returns
 returns c =
-    let k4 = c .before .before in
-    let k3 = k4 .before .before .before .before .before in
-    let k2 = k3 .before .before .before .before .before in
-    let k1 = k2 .before .before .before .before .before .before in
-    let s = k1 .before .before .before .before .before in
-    let p = s .args .p in
-    let d0 = due-all (count-text p) (room s) in
-    let d1 = due-key (bytes "wires ") (decimal (p .wires .0)) _ d0 (k1 .put-key .ensures) in
-    let d2 = due-key (bytes " limit ") (decimal (p .limit)) _ d1 (k2 .put-key2 .ensures) in
-    let d3 = due-key (bytes " time ") (decimal (p .time .0)) _ d2 (k3 .put-key3 .ensures) in
-    (d3 .done _ _ (put-is (d3 .room) (k4 .put-bytes .ensures)), short s)
+    let k = c .before .before in
+    let s = k .before .before .before .before .before .before .before in
+    (rw (count-formed (s .args .p)) (k .put-form .ensures), short s)
 
 pub put-counts-spec : {M : Type 1} → statement M
 put-counts-spec =
     tie.close
     (tie.spec
-    slice-aggregate-put-key
-    cast-put-key
-    put-key-requires
-    slice-aggregate-put-key-2
-    cast-put-key-2
-    put-key-requires-2
-    slice-aggregate-put-key-3
-    put-key-requires-3
-    slice-aggregate-put-bytes
-    put-bytes-requires
+    cast-t6
+    cast-t7
+    slice-aggregate-put-form
+    slice-aggregate-put-form-2
+    put-form-requires
     same-length
     returns)

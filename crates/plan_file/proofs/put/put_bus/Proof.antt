@@ -1,7 +1,7 @@
 -- `plan_file::put::put_bus` meets its contract: the width and three zeros at the front, and the busy figure behind them. Assumes nothing.
 use borrow.Author.Needs.{needs}
 use mathlib.Core.List.{[], _∷_}
-use Rattle.buffer.specs.Little.{little}
+use Rattle.little_endian.specs.Little.{little}
 use Rattle.plan_file.specs.Bytes.{busBytes}
 use Rattle.plan_file.proofs.FileLaws.{put-number}
 use Rattle.plan_file.proofs.put.put_bus.Statement.{statement}

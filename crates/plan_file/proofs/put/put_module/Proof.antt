@@ -1,7 +1,7 @@
 -- `plan_file::put::put_module` meets its contract: four bytes at the front, and the cycles and the start behind them. Assumes nothing.
 use borrow.Author.Needs.{needs}
 use mathlib.Core.List.{[], _∷_}
-use Rattle.buffer.specs.Little.{little}
+use Rattle.little_endian.specs.Little.{little}
 use Rattle.plan_file.specs.Bytes.{moduleBytes}
 use Rattle.plan_file.proofs.FileLaws.{put-numbers}
 use Rattle.plan_file.proofs.put.put_module.Statement.{statement}

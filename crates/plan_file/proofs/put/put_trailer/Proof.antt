@@ -2,7 +2,7 @@
 use Prim.Native.Nat.{ℕ, _*_, _/_, _%_}
 use borrow.Author.Needs.{needs}
 use mathlib.Core.List.{List, [], _∷_}
-use Rattle.buffer.specs.Little.{little}
+use Rattle.little_endian.specs.Little.{little}
 use Rattle.plan_file.specs.Bytes.{moduleStride, trailerBytes}
 use Rattle.plan_file.proofs.FileLaws.{put-number}
 use Rattle.plan_file.proofs.put.put_trailer.Statement.{statement}

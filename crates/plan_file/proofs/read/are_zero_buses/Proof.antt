@@ -7,7 +7,7 @@ use mathlib.Core.Path.{_≡_, sym, _∙_}
 use mathlib.Core.Bool.{false}
 use borrow.Author.Tests.{eq-eqb, ne-eqb}
 use Rattle.units.proofs.TestLaws.{and-stops, and-goes, and-holds}
-use Rattle.buffer.proofs.RowLaws.{all-rows-step, all-rows-fails, all-rows-end}
+use Rattle.little_endian.proofs.RowLaws.{all-rows-step, all-rows-fails, all-rows-end}
 use Rattle.plan_file.specs.Bytes.{busStride}
 use Rattle.plan_file.specs.Files.{zeroBus, zeroBuses}
 use Rattle.plan_file.proofs.read.are_zero_buses.Statement.{statement}

@@ -7,8 +7,8 @@ use mathlib.Core.Path.{_≡_, sym, _∙_}
 use mathlib.Core.Bool.{true, false}
 use borrow.Author.Tests.{eq-eqb, ne-eqb}
 use Rattle.units.specs.Places.{allOf}
-use Rattle.buffer.specs.Rows.{rows}
-use Rattle.buffer.proofs.RowLaws.{all-rows-step, all-rows-fails, all-rows-end}
+use Rattle.little_endian.specs.Rows.{rows}
+use Rattle.little_endian.proofs.RowLaws.{all-rows-step, all-rows-fails, all-rows-end}
 use Rattle.plan_file.specs.Bytes.{moduleStride}
 use Rattle.plan_file.specs.Files.{zeroModule, zeroModules}
 use Rattle.plan_file.proofs.read.are_zero_modules.Statement.{statement}

@@ -5,8 +5,8 @@ use native.Mathlib.Omega.{arith}
 use Prim.Native.Nat.{_-_, _≤_}
 use mathlib.Core.Path.{_≡_, _∙_}
 use Rattle.units.specs.Places.{padded}
-use Rattle.buffer.specs.Rows.{rows}
-use Rattle.buffer.proofs.RowLaws.{filled-none, filled-step}
+use Rattle.little_endian.specs.Rows.{rows}
+use Rattle.little_endian.proofs.RowLaws.{filled-none, filled-step}
 use Rattle.plan_record.specs.Record.{busPlaces, noBus}
 use Rattle.plan_file.specs.Bytes.{busStride}
 use Rattle.plan_file.specs.Files.{busAt}

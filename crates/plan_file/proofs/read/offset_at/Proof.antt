@@ -1,6 +1,6 @@
 -- `plan_file::read::offset_at` meets its contract: two bytes, each below 256, make the number. Assumes nothing.
 use borrow.Author.Needs.{needs}
-use Rattle.buffer.proofs.LittleLaws.{number-two}
+use Rattle.little_endian.proofs.LittleLaws.{number-two}
 use Rattle.plan_file.proofs.read.offset_at.Statement.{statement}
 use Rattle.plan_file.proofs.read.offset_at.Tie as tie
 

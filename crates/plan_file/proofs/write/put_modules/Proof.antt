@@ -7,7 +7,7 @@ use borrow.Author.Needs.{needs}
 use lib.ListN.{length, length-map}
 use Rattle.plan_record.specs.Record.{modulePlaces, noPlaced, modulesOf}
 use lib.Seq.{length-take-le, getD-take}
-use Rattle.buffer.proofs.RowLaws.{Run, run-none}
+use Rattle.little_endian.proofs.RowLaws.{Run, run-none}
 use Rattle.plan_file.specs.Bytes.{moduleStride, moduleBytes}
 use Rattle.plan_file.proofs.FileLaws.{part-room, run-lent, run-front, module-length}
 use Rattle.plan_file.proofs.write.put_modules.Statement.{statement}

@@ -1,0 +1,3 @@
+pub mod LittleLaws
+pub mod RowLaws
+pub mod StandLaws
