@@ -1,5 +1,6 @@
 pub mod TableLaws
 pub mod EntryLaws
+pub mod RefusedLaws
 pub mod PlannerLaws
 pub mod PlanDemand
 pub mod MoreWires
