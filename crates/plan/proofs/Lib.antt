@@ -1,3 +1,4 @@
 pub mod TableLaws
 pub mod EntryLaws
+pub mod RefusedLaws
 pub mod PlannerLaws

@@ -1,3 +1,4 @@
 pub mod PlanAnswers
 pub mod Tables
 pub mod Records
+pub mod Refused

@@ -27,8 +27,11 @@ use wrapper_fit::CAPTURE_MAX;
 use wrapper_fit::WIDTH_MAX;
 ghost use mathlib.Core.Path.{_≡_};
 ghost use Prim.Native.Nat.{_≤_};
+ghost use mathlib.Core.Bool.{_&&_};
+ghost use lib.Dec.{leb};
 ghost use Rattle.plan_search.specs.Search.{tableTime, AreTimes};
 ghost use Rattle.plan.specs.PlanAnswers.{limitMax, plannedMax, refusedPlan, bestFor, recordOf, planAnswer};
+ghost use Rattle.plan.specs.Refused.{numberRefused};
 ghost use Rattle.plan.specs.Records.{IsFound, busesIs, modulesIs, recordFrom};
 ghost use Rattle.plan.specs.Tables.{Plannable};
 
@@ -119,6 +122,43 @@ fn found_plan(s: Soc, p: Planned, wires: Wires, limit: u32, capture: CaptureCycl
     record_of(p, t, wires, limit, f)
 }
 
+// Whether a figure is from 1 to a limit.
+fn is_within(n: u32, most: u32) -> bool
+    ensures { λ r. ⌜ r ≡ (leb 1 n && leb n most) ⌝ }
+{
+    if n < 1 {
+        return false;
+    }
+    n <= most
+}
+
+// The refusal's number of a good SOC with n planned modules, or 0: 7, 8, 16, 9, 10. All is tested first, so that the order stands alone.
+fn refused_number(wires: Wires, limit: u32, capture: CaptureCycles, n: usize) -> u8
+    ensures { λ r. ⌜ r ≡ numberRefused (wires .0) limit (capture .0) n ⌝ }
+{
+    let wide = is_within(wires.0, WIDTH_MAX);
+    let limited = is_within(limit, LIMIT_MAX);
+    let captured = is_within(capture.0, CAPTURE_MAX);
+    let some = 1 <= n;
+    let few = n <= PLANNED_MAX;
+    if !wide {
+        return 7;
+    }
+    if !limited {
+        return 8;
+    }
+    if !captured {
+        return 16;
+    }
+    if !some {
+        return 9;
+    }
+    if !few {
+        return 10;
+    }
+    0
+}
+
 // The first plan of least time.
 pub fn plan(s: Soc, wires: Wires, limit: u32, capture: CaptureCycles) -> PlanAnswer
     ensures { λ r. ⌜ r ≡ planAnswer s (wires .0) limit (capture .0) ⌝ }
@@ -126,30 +166,10 @@ pub fn plan(s: Soc, wires: Wires, limit: u32, capture: CaptureCycles) -> PlanAns
     if !soc::is_good(s) {
         return refused_plan(14);
     }
-    if wires.0 < 1 {
-        return refused_plan(7);
-    }
-    if wires.0 > WIDTH_MAX {
-        return refused_plan(7);
-    }
-    if limit < 1 {
-        return refused_plan(8);
-    }
-    if limit > LIMIT_MAX {
-        return refused_plan(8);
-    }
-    if capture.0 < 1 {
-        return refused_plan(16);
-    }
-    if capture.0 > CAPTURE_MAX {
-        return refused_plan(16);
-    }
     let p = soc::planned_modules(s);
-    if p.count < 1 {
-        return refused_plan(9);
-    }
-    if p.count > PLANNED_MAX {
-        return refused_plan(10);
+    let n = refused_number(wires, limit, capture, p.count);
+    if n != 0 {
+        return refused_plan(n);
     }
     PlanAnswer {
         refusal: Refusal::none(),

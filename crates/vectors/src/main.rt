@@ -1,8 +1,11 @@
 // Runs the product on the texts in data/ and prints what it finds: texts read and written, layouts and times, plans, plan files, pairs
 // (document 01, "The SOC text", "The wrapper rule", "The plan", "The plan file"; document 02, items 1, 3, 5 and 7). The file args names the
 // texts, and stdout is what must be printed.
+use pairs::show_asked;
 use pairs::show_lines;
+use pairs::show_padded_pair;
 use pairs::show_pair;
+use pairs::show_written;
 use plan_files::show_changes;
 use plan_files::show_longest;
 use plan_files::show_old;
@@ -85,6 +88,8 @@ const NOT_THERE: usize = 112;
 
 const NONE_PLANNED: usize = 113;
 
+const ONE_MORE: usize = 114;
+
 // Beside the texts that the arguments name: the longest, one byte more, and that with a bad byte, which is refused for its length too.
 fn show_texts() {
     show_arguments();
@@ -160,29 +165,54 @@ fn show_plan_files() {
 // d695 with two cores changed; CRLF, tabs and blank lines inside a block, and no end of the last line; one block with the highest number,
 // and all blocks that there can be. Then refusals: of the base before the overlay's, of the overlay, 15, and what the planner refuses.
 fn show_pairs() {
-    show_pair(D695, D695_OVERLAY, 32, 3);
-    show_pair(T1, SPACED, 4, 2);
+    show_pair(D695, D695_OVERLAY, 32, 3, 1);
+    show_pair(T1, SPACED, 4, 2, 1);
     show_lines(T1, SPACED, 1);
     show_lines(T1, SPACED, 2);
-    show_pair(FORTY, MODULE_39, 2, 1);
+    show_pair(FORTY, MODULE_39, 2, 1, 1);
     show_lines(FORTY, MODULE_39, 39);
-    show_pair(FORTY, BLOCKS_40, 2, 1);
-    show_pair(REFUSED, FALLING, 0, 0);
-    show_pair(T1, FALLING, 0, 0);
-    show_pair(T1, BLOCK_40, 0, 0);
-    show_pair(T1, NO_BLOCK, 0, 0);
-    show_pair(T1, BAD_BYTE, 0, 0);
-    show_pair(T1, KEYWORD, 0, 0);
-    show_pair(T1, PINS, 0, 0);
-    show_pair(T1, OTHER_LEVEL, 0, 0);
-    show_pair(T1, OTHER_NAME, 0, 0);
-    show_pair(T1, OTHER_OPTIONS, 0, 0);
-    show_pair(T1, NOT_THERE, 0, 0);
-    show_pair(T1, SPACED, 0, 0);
-    show_pair(T1, SPACED, 4, 4);
-    show_pair(T1, NONE_PLANNED, 4, 2);
+    show_pair(FORTY, BLOCKS_40, 2, 1, 1);
+    show_pair(REFUSED, FALLING, 0, 0, 1);
+    show_pair(T1, FALLING, 0, 0, 1);
+    show_pair(T1, BLOCK_40, 0, 0, 1);
+    show_pair(T1, NO_BLOCK, 0, 0, 1);
+    show_pair(T1, BAD_BYTE, 0, 0, 1);
+    show_pair(T1, KEYWORD, 0, 0, 1);
+    show_pair(T1, PINS, 0, 0, 1);
+    show_pair(T1, OTHER_LEVEL, 0, 0, 1);
+    show_pair(T1, OTHER_NAME, 0, 0, 1);
+    show_pair(T1, OTHER_OPTIONS, 0, 0, 1);
+    show_pair(T1, NOT_THERE, 0, 0, 1);
+    show_pair(T1, SPACED, 0, 0, 1);
+    show_pair(T1, SPACED, 4, 4, 1);
+    show_pair(T1, NONE_PLANNED, 4, 2, 1);
     show_lines(T1, FALLING, 1);
     show_lines(T1, SPACED, 3);
+}
+
+// Both texts as long as may be, the overlay a byte longer, both. Capture cycles, and 16 behind 8 and before 9; a module more than may be
+// planned, which the overlay makes one. Of a module and a test: answered; 15, 7, 16, 13, each with all that come behind it; 13 of the test
+// alone. The written form in a buffer a byte too short, just long enough and longer; and nothing of it where the pair is refused.
+fn show_pair_limits() {
+    show_padded_pair(T1, SPACED, TEXT_MAX, TEXT_MAX);
+    show_padded_pair(T1, SPACED, TEXT_MAX, TEXT_MAX + 1);
+    show_padded_pair(T1, SPACED, TEXT_MAX + 1, TEXT_MAX + 1);
+    show_pair(T1, SPACED, 4, 2, 4);
+    show_pair(T1, SPACED, 4, 2, 5);
+    show_pair(T1, SPACED, 4, 4, 0);
+    show_pair(T1, NONE_PLANNED, 4, 2, 0);
+    show_pair(TWELVE, ONE_MORE, 24, 3, 1);
+    show_asked(T1, SPACED, 1, 1, 4, 2);
+    show_asked(T1, NOT_THERE, 3, 1, 65, 0);
+    show_asked(T1, SPACED, 3, 1, 65, 0);
+    show_asked(T1, SPACED, 3, 1, 64, 0);
+    show_asked(T1, SPACED, 3, 1, 64, 5);
+    show_asked(T1, SPACED, 3, 1, 64, 4);
+    show_asked(T1, SPACED, 2, 2, 4, 1);
+    show_written(T1, SPACED, 387);
+    show_written(T1, SPACED, 388);
+    show_written(T1, SPACED, 400);
+    show_written(T1, FALLING, 400);
 }
 
 // With c capture cycles (document 02, item 5), of which 0 and 5 are 16: times, at a width that is 7 and of a module that is 13; the
@@ -225,6 +255,7 @@ fn main() {
     show_plans();
     show_plan_files();
     show_pairs();
+    show_pair_limits();
     show_captures(0);
     show_captures(2);
     show_captures(4);

@@ -65,6 +65,10 @@ pub const BUDGET: usize = 29;
 
 pub const SPENT: usize = 30;
 
+pub const MEANT: usize = 31;
+
+pub const BOTH_PADDED: usize = 32;
+
 // Stands for a figure that is not given, and is printed as the text has it: -1. All other figures are smaller.
 pub const NOT_GIVEN: u64 = 18446744073709551615;
 
@@ -134,7 +138,9 @@ pub(crate) fn print_line(line: usize, a: u64, b: u64, c: u64, d: u64) {
         |capture cycles #\n\
         | si # so # cycles #\n\
         |tries # wires # limit #: refused #\n\
-        | finished # spent #, a plan is known #, time #\n";
+        | finished # spent #, a plan is known #, time #\n\
+        |text #,\
+        |padded to # and # bytes: ";
     print_part(lines, line, [a, b, c, d]);
 }
 

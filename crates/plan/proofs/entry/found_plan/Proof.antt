@@ -6,28 +6,44 @@ use mathlib.Core.Path.{_≡_, refl, ap, _∙_}
 use lib.ListN.{length}
 use Rattle.soc.specs.Planned.{plannedOf}
 use Rattle.plan_search.specs.Search.{AreTimes, IsTable}
-use Rattle.plan.specs.Tables.{tablePlaces}
+use Rattle.plan.specs.Tables.{tablePlaces, Plannable}
 use Rattle.plan.proofs.TableLaws.{times-are, table-is}
 use Rattle.plan.proofs.EntryLaws.{found-fits, record-is, best-plan, found-best}
 use Rattle.plan.proofs.entry.found_plan.Statement.{statement}
 use Rattle.plan.proofs.entry.found_plan.Tie as tie
 
 module _ (c : tie.After-tables-of) where
+  abbrev pre : Plannable (c .before .args .capture .0) (c .before .args .s) (c .before .args .p) (c .before .args .wires .0)
+  pre = c .before .pre .0
+
   count : c .before .args .p .count ≡ length (plannedOf (c .before .args .s))
-  count = ap (λ x. x .count) (c .before .pre .0 .numbers)
+  count = ap (λ x. x .count) (pre .numbers)
 
   long : length (c .tables-of .result .cycles) ≡ tablePlaces
   long = search needs
 
   -- the tables of the planned modules are a table to search over
   table : IsTable (c .tables-of .result .cycles) (c .before .args .p .count)
-  table = rw count (table-is (c .tables-of .ensures) (c .before .pre .0 .captures) (c .before .pre .0 .capturing) (c .before .pre .0 .good) refl long (rw count at (c .before .pre .1)))
+  table = rw count
+      (table-is (c .tables-of .ensures) (omega (arith, pre .captures)) (omega (arith, pre .capturing)) (pre .good) refl long
+      (rw count at (c .before .pre .1)))
 
   times : AreTimes (c .tables-of .result .cycles) (c .before .args .p .count)
-  times = rw count (times-are (c .tables-of .ensures) (c .before .pre .0 .captures) (c .before .pre .0 .capturing) (c .before .pre .0 .good) refl long (c .before .pre .0 .most))
+  times = rw count
+      (times-are (c .tables-of .ensures) (omega (arith, pre .captures)) (omega (arith, pre .capturing)) (pre .good) refl long (pre .most))
 
 tables-of-requires : tie.Need-tables-of-requires
-tables-of-requires c κs = search needs
+tables-of-requires c κs =
+    let r = c .pre .0 in
+    record {
+      good = r .good;
+      numbers = r .numbers;
+      most = r .most;
+      low = r .low;
+      narrow = r .narrow;
+      captures = omega (arith, r .captures);
+      capturing = omega (arith, r .capturing);
+    }
 
 slice-aggregate-search : tie.Need-slice-aggregate-search
 slice-aggregate-search c = search needs
