@@ -1,60 +1,23 @@
 -- A block of an overlay is read as the lines of a module of a SOC text are, wherever its level keeps the level rule. Assumes nothing.
-use Prim.Native.Nat.{ℕ, _-_}
+use Prim.Native.Nat.{ℕ}
 use mathlib.Core.Path.{_≡_, sym, ap, ap₂, _∙_}
-use mathlib.Core.Bool.{Bool, true, false, _&&_}
-use mathlib.Core.List.{List, [], _∷_}
-use mathlib.Core.Option.{Option, some, none}
-use borrow.Author.Tests.{eq-eqb}
-use lib.Dec.{leb}
-use Rattle.units.proofs.TestLaws.{clash}
-use Rattle.fields.specs.Bytes.{bytes}
+use mathlib.Core.Bool.{true}
+use mathlib.Core.List.{List, _∷_}
 use Rattle.fields.specs.Lines.{Line}
-use Rattle.fields.specs.Numbers.{decimalOf}
-use Rattle.fields.specs.Readers.{got, Reader, bytesDue, between, within}
+use Rattle.fields.specs.Readers.{got, Reader}
 use Rattle.fields.proofs.ReaderLaws.{after-got}
-use Rattle.soc.specs.Limits.{modulesMax}
 use Rattle.soc.specs.Rules.{levelRule}
 use Rattle.soc.specs.declared.record.Module.{Module}
-use Rattle.text_lines.specs.Parts.{due, dueIs, keyed, rule, says, closed, whole}
-use Rattle.text_lines.specs.Kinds.{Options, Shape, BlockStart, moduleDue, levelKey, level, chainsPart, lengthsPart, shapePart, levelLine, blockNumber, blockShape, blockLine}
+use Rattle.text_lines.specs.Parts.{says, closed, whole}
+use Rattle.text_lines.specs.Kinds.{Options, Shape, BlockStart, levelKey, level, chainsPart, lengthsPart, shapePart, levelLine}
+use Rattle.text_lines.specs.Kinds.{blockNumber, blockShape, blockLine}
 use Rattle.text_lines.proofs.PartLaws.{rule-kept}
 use Rattle.text_reader.specs.Lines.{judged, line}
 use Rattle.text_reader.specs.Reading.{moduleTests, moduleRest, moduleLines}
-use Rattle.text.proofs.PartOnly.{closed-only, after-only, tested-only}
+use Rattle.text.proofs.PartOnly.{closed-only, after-only}
 use Rattle.text.proofs.Accepted.{got-only, line-only}
 use Rattle.overlay.specs.Overlay.{Block, block}
-
--- the number of a block is the one due there
-decimal-due : (m : ℕ) (d : Option ℕ) (fs gs : List (List ℕ)) → within 0 (modulesMax - 1) d fs ≡ got m gs → dueIs m d fs ≡ got tt gs
-unfolding within dueIs
-decimal-due m none fs gs h = clash cc
-decimal-due m (some v) fs gs h =
-    let t = tested-only (leb 0 v && leb v (modulesMax - 1)) 4 v m fs gs h in
-    rw (eq-eqb v m (t .1)) (ap (got tt) (t .2))
-
-between-due : (m : ℕ) (fs gs : List (List ℕ)) → between 0 (modulesMax - 1) fs ≡ got m gs → due m fs ≡ got tt gs
-unfolding between due
-between-due m [] gs h = clash cc
-between-due m (f ∷ fs) gs h = decimal-due m (decimalOf f) fs gs h
-
-key-due : (m : ℕ) (fs gs : List (List ℕ)) → keyed "Module" 0 (modulesMax - 1) fs ≡ got m gs → moduleDue m fs ≡ got tt gs
-key-due m fs gs h =
-    let a = after-only h in
-    after-got (bytesDue (bytes "Module") fs) (λ _. due m) (a .value) (a .left) (a .first) ∙ between-due m (a .left) gs (a .second)
-
-rule-left : (t : Bool) (fs gs : List (List ℕ)) (u : Unit {0}) → rule t fs ≡ got u gs → fs ≡ gs
-unfolding rule
-rule-left true fs gs u h = cc
-rule-left false fs gs u h = clash cc
-
-pub number-due : (low m : ℕ) (fs gs : List (List ℕ)) → blockNumber low fs ≡ got m gs → moduleDue m fs ≡ got tt gs
-unfolding blockNumber
-number-due low m fs gs h =
-    let a = after-only h in
-    let b = after-only (a .second) in
-    let g = got-only (b .second) in
-    let k : a .left ≡ gs = rule-left (leb low (a .value)) (a .left) (b .left) (b .value) (b .first) ∙ g .1 in
-    rw (g .0, k) at (key-due (a .value) fs (a .left) (a .first))
+use Rattle.overlay.proofs.BlockMarks.{number-due}
 
 level-as : (low m last v : ℕ) (fs gs hs : List (List ℕ)) → blockNumber low fs ≡ got m gs → levelKey gs ≡ got v hs → levelRule m last v ≡ true → level m last fs ≡ got v hs
 unfolding level

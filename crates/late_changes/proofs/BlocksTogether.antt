@@ -7,7 +7,7 @@ use mathlib.Core.Bool.{Bool, true, false, cond, true≢false, false≢true}
 use mathlib.Core.List.{List, [], _∷_, _++_, map, append-assoc}
 use borrow.Author.Tests.{eqb-true, eqb-false}
 use lib.Dec.{leb, eqb}
-use lib.ListN.{length, getD, replicate, length-set}
+use lib.ListN.{length, getD, length-set}
 use lib.Seq.{getD-set-same, getD-set-other}
 use Rattle.units.specs.Places.{allOf, anyOf}
 use Rattle.units.proofs.TestLaws.{clash, and-holds}
@@ -35,9 +35,10 @@ use Rattle.overlay.specs.Overlay.{Block, block, goesOn, blocks, blocksMax, Plac
 use Rattle.overlay.specs.Overlay.{puts, places, withBlocks, behindName, overlay, refusedOverlay, answer, unlessBad, readOverlay}
 use Rattle.overlay.specs.declared.read.Overlay.{Overlay}
 use Rattle.overlay.proofs.BlockLaws.{block-within}
+use Rattle.overlay.proofs.BlockMarks.{number-due, none-there}
 use Rattle.text.proofs.Acceptance.{text-number-some}
 use Rattle.late_changes.specs.Together.{Lines, ofModule, StandsBut}
-use Rattle.late_changes.proofs.BlockAs.{number-due, block-as}
+use Rattle.late_changes.proofs.BlockAs.{block-as}
 use Rattle.late_changes.proofs.OverlayRefused.{overlay-refuses}
 use Rattle.late_changes.proofs.TextFields.{append-left}
 use Rattle.late_changes.proofs.PartLines.{any-append}
@@ -185,11 +186,6 @@ row-stands {o} (more {low} {b} {bs} {fs} {ms} l k f r) m p z h e =
         let s = g (getD-set-other (p .has) (b .number) m true false n ∙ h) e in
         let t = behind-others m fs ms (s .middle) (all-other (b .number) m fs (f .all) (λ q. n (sym q))) (s .together) in
         record { middle = s .middle; together = t; are = s .are }
-
-none-there : (n m : ℕ) → getD (replicate n false) m false ≡ false
-none-there zero m = refl
-none-there (suc n) zero = refl
-none-there (suc n) (suc m) = none-there n m
 
 places-stand : (o : Options) (ls : List Line) (p : Places) (rest : List Line) (m : ℕ) → places o ls ≡ got p rest
     → getD (p .has) m false ≡ true

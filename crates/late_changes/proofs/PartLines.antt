@@ -158,7 +158,7 @@ module _ (m : ℕ) (t : List ℕ) where
       go : (anyOf (ofModule m) (left (lineAt t at .next)) ≡ false → partFrom n m t (lineAt t at .next) s ≡ s) → (u : Bool)
           → ltb at (length t) ≡ u
           → partFrom (suc n) m t at s ≡ s
-      go f false e = from-end m 0 t at s (ltb-false at (length t) e) (suc n)
+      go f false e = from-end m t at s (ltb-false at (length t) e) (suc n)
       go f true e =
           let i = ltb-true at (length t) e in
           let k = none-line at i h in

@@ -1,1 +1,3 @@
 pub mod PartLaws
+pub mod TrimLaws
+pub mod MarkedPart

@@ -2,12 +2,12 @@
 -- Assumes nothing.
 use Prim.Native.Nat.{ℕ, zero, suc, _+_, _-_, _≤_, _<_}
 use native.Mathlib.Omega.{arith}
-use mathlib.Core.Path.{_≡_, refl, ap, _∙_}
-use mathlib.Core.Bool.{Bool, true, false, cond, _&&_, and-false, false≢true}
-use mathlib.Core.List.{List, [], _∷_, _++_}
-use borrow.Author.Tests.{ne-eqb, lt-ltb, le-ltb, ltb-true}
-use lib.ListN.{length, getD, take, drop, length-drop}
-use lib.Seq.{take-suc, length-take-le}
+use mathlib.Core.Path.{_≡_, refl}
+use mathlib.Core.Bool.{Bool, true, false, cond, _&&_, false≢true}
+use mathlib.Core.List.{List, [], _∷_}
+use borrow.Author.Tests.{ne-eqb, le-ltb, ltb-true}
+use lib.ListN.{length, drop, length-drop}
+use lib.Seq.{length-take-le}
 use lib.Dec.{ltb, eqb}
 use Rattle.fields.specs.Fields.{gap, gaps, begins, onField, fieldsOf, part}
 use Rattle.fields.specs.Lines.{lineAt}
@@ -16,38 +16,6 @@ use Rattle.fields.proofs.LineLaws.{line-is}
 use Rattle.text_lines.specs.Kinds.{moduleDue}
 use Rattle.module_part.specs.ModulePart.{lastEnd, begun, isOf, noPart, widened, withLine, partFrom, modulePart}
 use Rattle.module_part.specs.declared.Part.{Part}
-
--- one more byte at the end of a line
-module _ (b : ℕ) where
-  last-gap : (l : List ℕ) → gap b ≡ true → lastEnd (l ++ b ∷ []) ≡ lastEnd l
-  unfolding lastEnd
-  last-gap [] h = rw h
-  last-gap (x ∷ l) h = rw (last-gap l h)
-
-  last-byte : (l : List ℕ) → gap b ≡ false → lastEnd (l ++ b ∷ []) ≡ suc (length l)
-  unfolding lastEnd
-  last-byte [] h = rw h
-  last-byte (x ∷ l) h = rw (last-byte l h, ne-eqb (suc (length l)) 0 (λ e. omega (arith, e)), and-false (gap x))
-
--- a loop that goes back from a line's end
-module _ (l : List ℕ) (e : ℕ) (some : 0 < e) (inside : e ≤ length l) where
-  next : (P : List ℕ → Type 0) → P (take (e - 1) l ++ getD l (e - 1) 0 ∷ []) → P (take e l)
-  next P p =
-      let k : e ≡ suc (e - 1) = omega arith in
-      let q : take e l ≡ take (e - 1) l ++ getD l (e - 1) 0 ∷ [] = ap (λ n. take n l) k ∙ take-suc l (e - 1) 0 (omega arith) in
-      rw q p
-
-  pub end-on : gap (getD l (e - 1) 0) ≡ true → lastEnd (take e l) ≡ lastEnd (take (e - 1) l)
-  end-on h = next (λ x. lastEnd x ≡ lastEnd (take (e - 1) l)) (last-gap (getD l (e - 1) 0) (take (e - 1) l) h)
-
-  pub end-stop : gap (getD l (e - 1) 0) ≡ false → lastEnd (take e l) ≡ e
-  end-stop h =
-      let n : length (take (e - 1) l) ≡ e - 1 = length-take-le (e - 1) l (omega arith) in
-      next (λ x. lastEnd x ≡ e) (last-byte (getD l (e - 1) 0) (take (e - 1) l) h ∙ omega (arith, n))
-
-pub end-none : (l : List ℕ) → lastEnd (take 0 l) ≡ 0
-unfolding lastEnd
-end-none l = refl
 
 -- the last field of a line ends in the line, behind the first field's beginning
 pub last-inside : (l : List ℕ) → lastEnd l ≤ length l
@@ -108,14 +76,8 @@ pub part-inside : (m : ℕ) (t : List ℕ) → Before (length t) (modulePart m t
 unfolding modulePart
 part-inside m t = from-before (length t) m t 0 noPart (omega arith) (record { order = omega arith; end = omega arith })
 
--- a loop that goes from line to line, of which it has passed n
-module _ (m n : ℕ) (t : List ℕ) (at : ℕ) (s : Part) where
-  pub from-more : n < length t → at < length t
-      → partFrom (length t - n) m t at s ≡ partFrom (length t - (n + 1)) m t (lineAt t at .next) (withLine m s at (part t at (lineAt t at .to)))
-  unfolding partFrom
-  from-more h k = let j : length t - n ≡ suc (length t - (n + 1)) = omega arith in rw (j, lt-ltb at (length t) k)
-
-  pub from-end : length t ≤ at → (k : ℕ) → partFrom k m t at s ≡ s
-  unfolding partFrom
-  from-end h zero = refl
-  from-end h (suc k) = rw (le-ltb at (length t) h)
+-- behind the text's end no line comes
+pub from-end : (m : ℕ) (t : List ℕ) (at : ℕ) (s : Part) → length t ≤ at → (k : ℕ) → partFrom k m t at s ≡ s
+unfolding partFrom
+from-end m t at s h zero = refl
+from-end m t at s h (suc k) = rw (le-ltb at (length t) h)

@@ -1,1 +1,2 @@
 pub mod ModulePart
+pub mod Trimmed

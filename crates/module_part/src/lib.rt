@@ -1,10 +1,11 @@
-// The part of a text in which the lines of a module stand, from their first field to their last (document 02, item 3).
-use fields::Past;
+// The part of a text in which the lines of a module stand, from their first field to their last (document 02, item 3): the reader of the
+// text has marked a place before them and a place behind them.
+use text_reader::Marks;
 ghost use mathlib.Core.Path.{_≡_};
-ghost use Prim.Native.Nat.{_≤_, _+_};
-ghost use lib.ListN.{length};
-ghost use Rattle.fields.specs.Fields.{gap, gaps, part};
-ghost use Rattle.module_part.specs.ModulePart.{lastEnd, widened, withLine, modulePart};
+ghost use lib.ListN.{drop};
+ghost use Prim.Native.Nat.{_+_};
+ghost use Rattle.fields.specs.Fields.{gap};
+ghost use Rattle.module_part.specs.Trimmed.{inField, untilField, lastField, trimmed};
 
 // A part of a text: where it begins and where it ends. One that ends at 0 is empty.
 pub struct Part {
@@ -18,14 +19,36 @@ fn is_gap(b: u8) -> bool
     if b == 32 { true } else { b == 9 }
 }
 
-// How many spaces and tabs stand at the front of a line.
-fn gaps_before(l: &[u8]) -> usize
-    ensures { λ r. ⌜ r ≡ gaps (now (l .entry)) ⌝ }
+// Whether the byte at a place is one of a field: neither a space nor a tab, nor of a line's end.
+fn is_field_byte(text: &[u8], i: usize) -> bool
+    ensures { λ r. ⌜ r ≡ inField (drop i (now (text .entry))) ⌝ }
 {
-    let mut i: usize = 0;
-    while i < l.len() {
-        let b = l[i];
-        if !is_gap(b) {
+    if i >= text.len() {
+        return false;
+    }
+    let b = text[i];
+    if is_gap(b) {
+        return false;
+    }
+    if b == 10 {
+        return false;
+    }
+    if b != 13 {
+        return true;
+    }
+    if i + 1 >= text.len() {
+        return true;
+    }
+    text[i + 1] != 10
+}
+
+// Where the first field at or behind a place begins.
+fn field_from(text: &[u8], at: usize) -> usize
+    ensures { λ r. ⌜ r ≡ at + untilField (drop at (now (text .entry))) ⌝ }
+{
+    let mut i = at;
+    while i < text.len() {
+        if is_field_byte(text, i) {
             return i;
         }
         i += 1;
@@ -33,14 +56,13 @@ fn gaps_before(l: &[u8]) -> usize
     i
 }
 
-// Where the last field of a line ends.
-fn last_end(l: &[u8]) -> usize
-    ensures { λ r. ⌜ r ≡ lastEnd (now (l .entry)) ⌝ }
+// Where the last field before a place ends.
+fn field_end(text: &[u8], to: usize) -> usize
+    ensures { λ r. ⌜ r ≡ lastField to (now (text .entry)) ⌝ }
 {
-    let mut e = l.len();
+    let mut e = to;
     while e > 0 {
-        let b = l[e - 1];
-        if !is_gap(b) {
+        if is_field_byte(text, e - 1) {
             return e;
         }
         e -= 1;
@@ -48,41 +70,11 @@ fn last_end(l: &[u8]) -> usize
     0
 }
 
-fn widened_part(s: Part, from: usize, to: usize) -> Part
-    ensures { λ r. ⌜ r ≡ widened s from to ⌝ }
+// The part between two marks, from the first field to the last.
+pub fn trimmed_part(text: &[u8], marks: Marks) -> Part
+    ensures { λ r. ⌜ r ≡ trimmed (now (text .entry)) (marks .from) (marks .to) ⌝ }
 {
-    if s.to == 0 {
-        return Part { from, to };
-    }
-    Part { from: s.from, to }
-}
-
-// The part s, and behind it the line from `at` to `to`, where it is of module m.
-fn with_line(text: &[u8], m: u32, s: Part, at: usize, to: usize) -> Part
-    requires { ⌜ (at ≤ to) × (to ≤ length (now text)) ⌝ }
-    ensures { λ r. ⌜ r ≡ withLine m s at (part (now (text .entry)) at to) ⌝ }
-{
-    match text_lines::key_due(&text[at..to], 0, b"Module", m) {
-        Past::No(_) => s,
-        Past::At(_) => {
-            let from = at + gaps_before(&text[at..to]);
-            let end = at + last_end(&text[at..to]);
-            widened_part(s, from, end)
-        }
-    }
-}
-
-pub fn module_part(text: &[u8], m: u32) -> Part
-    ensures { λ r. ⌜ r ≡ modulePart m (now (text .entry)) ⌝ }
-{
-    let mut s = Part { from: 0, to: 0 };
-    let mut at: usize = 0;
-    let mut n: usize = 0;
-    while at < text.len() {
-        let line = fields::line_at(text, at);
-        s = with_line(text, m, s, at, line.to);
-        at = line.next;
-        n += 1;
-    }
-    s
+    let from = field_from(text, marks.from);
+    let to = field_end(text, marks.to);
+    Part { from, to }
 }

@@ -7,7 +7,9 @@ use text_line_reader::Place;
 use text_line_reader::due_line;
 use text_lines::LevelLine;
 use text_lines::Verdict;
+use text_reader::Marks;
 use text_reader::Step;
+use text_reader::marked;
 use text_reader::missing;
 use text_reader::module_rest;
 use units::Refusal;
@@ -18,8 +20,9 @@ ghost use Rattle.text_lines.specs.Kinds.{blockLine};
 ghost use Rattle.text_line_reader.specs.Due.{Inside, linesAt};
 ghost use Rattle.text_reader.specs.Lines.{line};
 ghost use Rattle.text_reader.specs.Steps.{StepMeans};
-ghost use Rattle.overlay.specs.Overlay.{block, goesOn, places};
-ghost use Rattle.overlay.specs.Steps.{wholeAs, startIn, startAt, blockIn, placesIn};
+ghost use Rattle.overlay.specs.Overlay.{block, goesOn};
+ghost use Rattle.overlay.specs.Steps.{wholeAs, startIn, startAt, blockIn};
+ghost use Rattle.overlay.specs.OverlayMarks.{BlocksMean};
 
 // The first line of a block: its module's number, and the rest of it.
 pub struct BlockLine {
@@ -44,6 +47,7 @@ pub struct BlocksStep {
     pub step: Step,
     pub has: [bool; MODULES_MAX],
     pub modules: [Module; MODULES_MAX],
+    pub marks: Marks,
 }
 
 fn block_line(l: &[u8], low: u32) -> BlockLine
@@ -136,13 +140,14 @@ fn goes_on(text: &[u8], p: Place) -> bool
     }
 }
 
-// The blocks to the text's end, each at the place of its module's number.
-pub(crate) fn blocks_step(text: &[u8], p: Place, power: bool, xy: bool) -> BlocksStep
+// The blocks to the text's end, each at the place of its module's number, and the marks of module m.
+pub(crate) fn blocks_step(text: &[u8], p: Place, power: bool, xy: bool, m: u32) -> BlocksStep
     requires { ⌜ Inside (now text) p ⌝ }
-    ensures { λ r. ⌜ StepMeans (now (text .entry)) (placesIn r) (r .step) (places (record { power = power; xy = xy }) (linesAt (now (text .entry)) p)) ⌝ }
+    ensures { λ r. ⌜ BlocksMean (now (text .entry)) p (record { power = power; xy = xy }) m r ⌝ }
 {
     let mut has = [false; MODULES_MAX];
     let mut modules = [soc::no_module(); MODULES_MAX];
+    let mut marks = Marks { from: 0, to: 0 };
     let mut place = p;
     let mut low: u32 = 0;
     let mut count: u32 = 0;
@@ -156,12 +161,14 @@ pub(crate) fn blocks_step(text: &[u8], p: Place, power: bool, xy: bool) -> Block
                     step: Step::No(f),
                     has,
                     modules,
+                    marks,
                 };
             }
             Step::Next(q) => {
                 let module = read.module;
                 has[read.number as usize] = true;
                 modules[read.number as usize] = module;
+                marks = marked(marks, m, read.number, place.at, q.at);
                 low = read.number + 1;
                 count += 1;
                 place = q;
@@ -173,5 +180,6 @@ pub(crate) fn blocks_step(text: &[u8], p: Place, power: bool, xy: bool) -> Block
         step: Step::Next(place),
         has,
         modules,
+        marks,
     }
 }

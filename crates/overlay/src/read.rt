@@ -10,18 +10,19 @@ use text_line_reader::Place;
 use text_line_reader::due_line;
 use text_lines::NameLine;
 use text_lines::Verdict;
+use text_reader::Marks;
 use text_reader::OptionsStep;
 use text_reader::Step;
 use text_reader::missing;
 use text_reader::options_step;
 use units::Refusal;
 ghost use mathlib.Core.Path.{_≡_};
-ghost use Rattle.fields.specs.Lines.{linesFrom};
 ghost use Rattle.text_lines.specs.Kinds.{overlayLine};
-ghost use Rattle.text_line_reader.specs.Due.{Inside, linesAt};
+ghost use Rattle.text_line_reader.specs.Due.{Inside, linesAt, placeAt};
 ghost use Rattle.text_reader.specs.Lines.{line};
 ghost use Rattle.text_reader.specs.Steps.{StepMeans, nameIn};
-ghost use Rattle.overlay.specs.Overlay.{overlayOf, withBlocks, behindName, overlay, refusedOverlay, acceptedOverlay, answer, readOverlay};
+ghost use Rattle.overlay.specs.Overlay.{withBlocks, behindName, overlay, readOverlay};
+ghost use Rattle.overlay.specs.OverlayMarks.{overlayIn, refusedMarked, acceptedMarked, ReadsMarked, TextMarked};
 
 // What an overlay says: which modules it has, and each at the place of its number; the other places hold a spare module.
 pub struct Overlay {
@@ -39,25 +40,34 @@ pub struct OverlayRead {
     pub overlay: Overlay,
 }
 
+// The same with the marks of one module.
+pub struct OverlayMarked {
+    pub read: OverlayRead,
+    pub marks: Marks,
+}
+
 pub struct HeadStep {
     pub step: Step,
     pub line: NameLine,
 }
 
-fn refused_overlay(f: Refusal) -> OverlayRead
-    ensures { λ r. ⌜ r ≡ refusedOverlay f ⌝ }
+fn refused_overlay(f: Refusal) -> OverlayMarked
+    ensures { λ r. ⌜ r ≡ refusedMarked f ⌝ }
 {
     let module = soc::no_module();
-    OverlayRead {
-        refusal: f,
-        overlay: Overlay {
-            name_len: 0,
-            name: [0u8; NAME_MAX],
-            power: false,
-            xy: false,
-            has: [false; MODULES_MAX],
-            modules: [module; MODULES_MAX],
+    OverlayMarked {
+        read: OverlayRead {
+            refusal: f,
+            overlay: Overlay {
+                name_len: 0,
+                name: [0u8; NAME_MAX],
+                power: false,
+                xy: false,
+                has: [false; MODULES_MAX],
+                modules: [module; MODULES_MAX],
+            },
         },
+        marks: Marks { from: 0, to: 0 },
     }
 }
 
@@ -94,52 +104,64 @@ fn accepted_overlay(
     xy: bool,
     has: [bool; MODULES_MAX],
     modules: [Module; MODULES_MAX],
-) -> OverlayRead
-    ensures { λ r. ⌜ r ≡ acceptedOverlay (overlayOf (nameIn name) (record { power = power; xy = xy }) (record { has = has; modules = modules })) ⌝ }
+    marks: Marks,
+) -> OverlayMarked
+    ensures { λ r. ⌜ r ≡ acceptedMarked (overlayIn name power xy has modules) marks ⌝ }
 {
     let bytes = name.name;
-    OverlayRead {
-        refusal: Refusal::none(),
-        overlay: Overlay {
-            name_len: name.len,
-            name: bytes,
-            power,
-            xy,
-            has,
-            modules,
+    OverlayMarked {
+        read: OverlayRead {
+            refusal: Refusal::none(),
+            overlay: Overlay {
+                name_len: name.len,
+                name: bytes,
+                power,
+                xy,
+                has,
+                modules,
+            },
         },
+        marks,
     }
 }
 
 // The blocks of an overlay whose first two lines are read.
-fn blocks_to_end(text: &[u8], p: Place, name: NameLine, power: bool, xy: bool) -> OverlayRead
+fn blocks_to_end(
+    text: &[u8],
+    p: Place,
+    name: NameLine,
+    power: bool,
+    xy: bool,
+    m: u32,
+) -> OverlayMarked
     requires { ⌜ Inside (now text) p ⌝ }
-    ensures { λ r. ⌜ r ≡ answer (withBlocks (nameIn name) (record { power = power; xy = xy }) (linesAt (now (text .entry)) p)) ⌝ }
+    ensures { λ r. ⌜ ReadsMarked m (now (text .entry)) p (withBlocks (nameIn name) (record { power = power; xy = xy })) r ⌝ }
 {
-    let read = blocks_step(text, p, power, xy);
+    let read = blocks_step(text, p, power, xy, m);
     let step = read.step;
     match step {
         Step::No(f) => refused_overlay(f),
         Step::Next(_) => {
             let has = read.has;
             let modules = read.modules;
-            accepted_overlay(name, power, xy, has, modules)
+            let marks = read.marks;
+            accepted_overlay(name, power, xy, has, modules, marks)
         }
     }
 }
 
-fn read_behind_name(text: &[u8], p: Place, name: NameLine) -> OverlayRead
+fn read_behind_name(text: &[u8], p: Place, name: NameLine, m: u32) -> OverlayMarked
     requires { ⌜ Inside (now text) p ⌝ }
-    ensures { λ r. ⌜ r ≡ answer (behindName (nameIn name) (linesAt (now (text .entry)) p)) ⌝ }
+    ensures { λ r. ⌜ ReadsMarked m (now (text .entry)) p (behindName (nameIn name)) r ⌝ }
 {
     match options_step(text, p) {
         OptionsStep::No(f) => refused_overlay(f),
-        OptionsStep::Are(power, xy, q) => blocks_to_end(text, q, name, power, xy),
+        OptionsStep::Are(power, xy, q) => blocks_to_end(text, q, name, power, xy, m),
     }
 }
 
-fn read_lines(text: &[u8]) -> OverlayRead
-    ensures { λ r. ⌜ r ≡ answer (overlay (linesFrom 1 (now (text .entry)) 0)) ⌝ }
+fn read_lines(text: &[u8], m: u32) -> OverlayMarked
+    ensures { λ r. ⌜ ReadsMarked m (now (text .entry)) (placeAt 0 1) overlay r ⌝ }
 {
     let read = head_step(text, Place { at: 0, line: 1 });
     let step = read.step;
@@ -147,19 +169,26 @@ fn read_lines(text: &[u8]) -> OverlayRead
         Step::No(f) => refused_overlay(f),
         Step::Next(q) => {
             let line = read.line;
-            read_behind_name(text, q, line)
+            read_behind_name(text, q, line, m)
         }
     }
 }
 
-pub fn read_overlay(text: &[u8]) -> OverlayRead
-    ensures { λ r. ⌜ r ≡ readOverlay (now (text .entry)) ⌝ }
+// What an overlay says, and the marks of module m where the overlay has it.
+pub fn read_overlay_marked(text: &[u8], m: u32) -> OverlayMarked
+    ensures { λ r. ⌜ TextMarked m (now (text .entry)) r ⌝ }
 {
     if text.len() > TEXT_MAX {
         return refused_overlay(Refusal::at(1, 0));
     }
     match fields::bad_byte(text) {
         BadByte::OnLine(n) => refused_overlay(Refusal::at(2, n)),
-        BadByte::Nowhere => read_lines(text),
+        BadByte::Nowhere => read_lines(text, m),
     }
+}
+
+pub fn read_overlay(text: &[u8]) -> OverlayRead
+    ensures { λ r. ⌜ r ≡ readOverlay (now (text .entry)) ⌝ }
+{
+    read_overlay_marked(text, 0).read
 }

@@ -1,13 +1,16 @@
 // The pair of a SOC text, the base, and an overlay: the combined description, or the first refusal and the text that is meant.
 use overlay::Overlay;
-use overlay::read_overlay;
+use overlay::read_overlay_marked;
 use soc::MODULES_MAX;
 use soc::Module;
 use soc::Soc;
+use text_reader::Marks;
+use text_reader::read_soc_marked;
 use units::Refusal;
 ghost use mathlib.Core.Path.{_≡_};
 ghost use mathlib.Core.Bool.{cond};
 ghost use Rattle.pair.specs.Pair.{sameFlag, sameHead, placeFits, placesFit, fits, laid, combined, refusedPair, joined, readPair};
+ghost use Rattle.pair.specs.PairMarks.{refusedMarked, PairReadMarked};
 
 // The text that a refusal is about.
 pub enum Meant {
@@ -23,6 +26,13 @@ pub struct PairRead {
     pub meant: Meant,
     pub soc: Soc,
     pub has: [bool; MODULES_MAX],
+}
+
+// The same with the marks of one module in the base and in the overlay.
+pub struct PairMarked {
+    pub pair: PairRead,
+    pub base: Marks,
+    pub over: Marks,
 }
 
 fn refused_pair(f: Refusal, meant: Meant) -> PairRead
@@ -168,18 +178,41 @@ fn joined_pair(s: Soc, o: Overlay) -> PairRead
     }
 }
 
+fn refused_marked(f: Refusal, meant: Meant) -> PairMarked
+    ensures { λ r. ⌜ r ≡ refusedMarked f meant ⌝ }
+{
+    PairMarked {
+        pair: refused_pair(f, meant),
+        base: Marks { from: 0, to: 0 },
+        over: Marks { from: 0, to: 0 },
+    }
+}
+
+// What a pair says, and the marks of module m in the texts that have it. Each text is read once, the overlay where the base is not refused.
+pub(crate) fn read_pair_marked(base: &[u8], overlay: &[u8], m: u32) -> PairMarked
+    ensures { λ r. ⌜ PairReadMarked m (now (base .entry)) (now (overlay .entry)) r ⌝ }
+{
+    let b = read_soc_marked(base, m);
+    if b.read.refusal.number != 0 {
+        return refused_marked(b.read.refusal, Meant::Base);
+    }
+    let o = read_overlay_marked(overlay, m);
+    if o.read.refusal.number != 0 {
+        return refused_marked(o.read.refusal, Meant::Overlay);
+    }
+    let soc = b.read.soc;
+    let over = o.read.overlay;
+    let in_base = b.marks;
+    let in_overlay = o.marks;
+    PairMarked {
+        pair: joined_pair(soc, over),
+        base: in_base,
+        over: in_overlay,
+    }
+}
+
 pub fn read_pair(base: &[u8], overlay: &[u8]) -> PairRead
     ensures { λ r. ⌜ r ≡ readPair (now (base .entry)) (now (overlay .entry)) ⌝ }
 {
-    let b = text_reader::read_soc(base);
-    if b.refusal.number != 0 {
-        return refused_pair(b.refusal, Meant::Base);
-    }
-    let o = read_overlay(overlay);
-    if o.refusal.number != 0 {
-        return refused_pair(o.refusal, Meant::Overlay);
-    }
-    let soc = b.soc;
-    let over = o.overlay;
-    joined_pair(soc, over)
+    read_pair_marked(base, overlay, 0).pair
 }

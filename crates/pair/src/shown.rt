@@ -1,14 +1,16 @@
 // The lines of a module of a pair, as they stand in the one text or the other.
 use super::read::Meant;
-use super::read::read_pair;
+use super::read::read_pair_marked;
 use module_part::Part;
-use module_part::module_part;
+use module_part::trimmed_part;
 use soc::MODULES_MAX;
+use text_reader::Marks;
 use units::Refusal;
 ghost use mathlib.Core.Path.{_≡_};
 ghost use mathlib.Core.Bool.{false};
 ghost use lib.ListN.{getD};
-ghost use Rattle.pair.specs.Shown.{noneShown, shownIn, linesShown, moduleLines};
+ghost use Rattle.pair.specs.Shown.{noneShown, linesShown, moduleLines};
+ghost use Rattle.pair.specs.PairMarks.{shownBetween};
 
 // Where the lines of a module stand: in the overlay or in the base, from where to where. Or the refusal and the text that is meant, with an
 // empty part.
@@ -40,29 +42,31 @@ fn is_over(has: [bool; MODULES_MAX], m: usize) -> bool
     has[m]
 }
 
-fn shown_in(base: &[u8], overlay: &[u8], m: u32, over: bool) -> Shown
-    ensures { λ r. ⌜ r ≡ shownIn (now (base .entry)) (now (overlay .entry)) m over ⌝ }
+// The part between the marks of a module, of the overlay or of the base.
+fn shown_between(base: &[u8], b: Marks, overlay: &[u8], o: Marks, over: bool) -> Shown
+    ensures { λ r. ⌜ r ≡ shownBetween (now (base .entry)) b (now (overlay .entry)) o over ⌝ }
 {
     if over {
         return Shown {
             refusal: Refusal::none(),
             meant: Meant::Neither,
             over: true,
-            part: module_part(overlay, m),
+            part: trimmed_part(overlay, o),
         };
     }
     Shown {
         refusal: Refusal::none(),
         meant: Meant::Neither,
         over: false,
-        part: module_part(base, m),
+        part: trimmed_part(base, b),
     }
 }
 
 pub fn lines_shown(base: &[u8], overlay: &[u8], m: u32) -> Shown
     ensures { λ r. ⌜ r ≡ linesShown (now (base .entry)) (now (overlay .entry)) m ⌝ }
 {
-    let pair = read_pair(base, overlay);
+    let read = read_pair_marked(base, overlay, m);
+    let pair = read.pair;
     if pair.refusal.number != 0 {
         let meant = pair.meant;
         return none_shown(pair.refusal, meant);
@@ -72,7 +76,7 @@ pub fn lines_shown(base: &[u8], overlay: &[u8], m: u32) -> Shown
     }
     let has = pair.has;
     let over = is_over(has, m as usize);
-    shown_in(base, overlay, m, over)
+    shown_between(base, read.base, overlay, read.over, over)
 }
 
 // The lines of module m: a part of the overlay or of the base.

@@ -2,3 +2,5 @@ pub mod ReadAnswerLaws
 pub mod StepLaws
 pub mod CountLaws
 pub mod ModulesLaws
+pub mod LinesOfLaws
+pub mod MarkLaws

@@ -5,6 +5,8 @@ use super::head::OptionsStep;
 use super::head::name_step;
 use super::head::options_step;
 use super::head::total_step;
+use super::marks::Marks;
+use super::marks::marked;
 use super::step::Step;
 use fields::BadByte;
 use soc::MODULES_MAX;
@@ -18,14 +20,11 @@ use text_lines::NameLine;
 use units::Refusal;
 ghost use mathlib.Core.Path.{_≡_};
 ghost use Prim.Native.Nat.{_≤_};
-ghost use lib.ListN.{take};
 ghost use Rattle.soc.specs.Limits.{modulesMax};
-ghost use Rattle.units.specs.Places.{padded};
-ghost use Rattle.soc.specs.Record.{noModule};
-ghost use Rattle.fields.specs.Lines.{linesFrom};
-ghost use Rattle.text_reader.specs.Reading.{modules, rest, behindName, soc, refusedSoc, acceptedSoc, answer, readSoc};
-ghost use Rattle.text_line_reader.specs.Due.{Inside, linesAt};
-ghost use Rattle.text_reader.specs.Steps.{StepMeans, nameIn};
+ghost use Rattle.text_reader.specs.Reading.{rest, behindName, soc, readSoc};
+ghost use Rattle.text_line_reader.specs.Due.{Inside, placeAt};
+ghost use Rattle.text_reader.specs.Steps.{nameIn};
+ghost use Rattle.text_reader.specs.Marks.{ModulesMean, socIn, refusedMarked, acceptedMarked, ReadsMarked, TextMarked};
 
 // The record of a text; or its refusal, with a record that says nothing.
 pub struct SocRead {
@@ -33,26 +32,37 @@ pub struct SocRead {
     pub soc: Soc,
 }
 
+// The same with the marks of one module.
+pub struct SocMarked {
+    pub read: SocRead,
+    pub marks: Marks,
+}
+
 pub struct ModulesStep {
     pub step: Step,
     pub modules: [Module; MODULES_MAX],
+    pub marks: Marks,
 }
 
-fn refused_soc(f: Refusal) -> SocRead
-    ensures { λ r. ⌜ r ≡ refusedSoc f ⌝ }
+fn refused_soc(f: Refusal) -> SocMarked
+    ensures { λ r. ⌜ r ≡ refusedMarked f ⌝ }
 {
-    SocRead {
-        refusal: f,
-        soc: soc::no_soc(),
+    SocMarked {
+        read: SocRead {
+            refusal: f,
+            soc: soc::no_soc(),
+        },
+        marks: Marks { from: 0, to: 0 },
     }
 }
 
-// The lines of n modules, at the front of the places for modules.
-fn modules_step(text: &[u8], p: Place, n: usize, power: bool, xy: bool) -> ModulesStep
+// The lines of n modules, at the front of the places for modules, and the marks of module m.
+fn modules_step(text: &[u8], p: Place, n: usize, power: bool, xy: bool, m: u32) -> ModulesStep
     requires { ⌜ Inside (now text) p × (n ≤ modulesMax) ⌝ }
-    ensures { λ r. ⌜ StepMeans (now (text .entry)) (take n (r .modules)) (r .step) (modules (record { power = power; xy = xy }) n 0 0 (linesAt (now (text .entry)) p)) × (r .modules ≡ padded modulesMax noModule (take n (r .modules))) ⌝ }
+    ensures { λ r. ⌜ ModulesMean (now (text .entry)) p n (record { power = power; xy = xy }) m r ⌝ }
 {
     let mut list = [soc::no_module(); MODULES_MAX];
+    let mut marks = Marks { from: 0, to: 0 };
     let mut place = p;
     let mut last: u32 = 0;
     let mut i: usize = 0;
@@ -64,12 +74,14 @@ fn modules_step(text: &[u8], p: Place, n: usize, power: bool, xy: bool) -> Modul
                 return ModulesStep {
                     step: Step::No(f),
                     modules: list,
+                    marks,
                 };
             }
             Step::Next(q) => {
                 let module = read.module;
                 last = module.level;
                 list[i] = module;
+                marks = marked(marks, m, i as u32, place.at, q.at);
                 place = q;
                 i += 1;
             }
@@ -78,6 +90,7 @@ fn modules_step(text: &[u8], p: Place, n: usize, power: bool, xy: bool) -> Modul
     ModulesStep {
         step: Step::Next(place),
         modules: list,
+        marks,
     }
 }
 
@@ -88,29 +101,41 @@ fn accepted_soc(
     power: bool,
     xy: bool,
     modules: [Module; MODULES_MAX],
-) -> SocRead
-    ensures { λ r. ⌜ r ≡ acceptedSoc (record { «name_len» = name .len; name = name .name; power = power; xy = xy; «module_count» = n; modules = modules }) ⌝ }
+    marks: Marks,
+) -> SocMarked
+    ensures { λ r. ⌜ r ≡ acceptedMarked (socIn name n power xy modules) marks ⌝ }
 {
     let bytes = name.name;
-    SocRead {
-        refusal: Refusal::none(),
-        soc: Soc {
-            name_len: name.len,
-            name: bytes,
-            power,
-            xy,
-            module_count: n,
-            modules,
+    SocMarked {
+        read: SocRead {
+            refusal: Refusal::none(),
+            soc: Soc {
+                name_len: name.len,
+                name: bytes,
+                power,
+                xy,
+                module_count: n,
+                modules,
+            },
         },
+        marks,
     }
 }
 
 // The modules of a text whose first three lines are read, and nothing behind them.
-fn modules_to_end(text: &[u8], p: Place, name: NameLine, n: usize, power: bool, xy: bool) -> SocRead
+fn modules_to_end(
+    text: &[u8],
+    p: Place,
+    name: NameLine,
+    n: usize,
+    power: bool,
+    xy: bool,
+    m: u32,
+) -> SocMarked
     requires { ⌜ Inside (now text) p × (n ≤ modulesMax) ⌝ }
-    ensures { λ r. ⌜ r ≡ answer (rest (nameIn name) n (record { power = power; xy = xy }) (linesAt (now (text .entry)) p)) ⌝ }
+    ensures { λ r. ⌜ ReadsMarked m (now (text .entry)) p (rest (nameIn name) n (record { power = power; xy = xy })) r ⌝ }
 {
-    let read = modules_step(text, p, n, power, xy);
+    let read = modules_step(text, p, n, power, xy, m);
     let step = read.step;
     match step {
         Step::No(f) => refused_soc(f),
@@ -118,28 +143,29 @@ fn modules_to_end(text: &[u8], p: Place, name: NameLine, n: usize, power: bool, 
             Due::Line(_, _, line, _) => refused_soc(Refusal::at(3, line)),
             Due::Missing => {
                 let modules = read.modules;
-                accepted_soc(name, n, power, xy, modules)
+                let marks = read.marks;
+                accepted_soc(name, n, power, xy, modules, marks)
             }
         },
     }
 }
 
 // The lines of a text from the second on.
-fn read_behind_name(text: &[u8], p: Place, name: NameLine) -> SocRead
+fn read_behind_name(text: &[u8], p: Place, name: NameLine, m: u32) -> SocMarked
     requires { ⌜ Inside (now text) p ⌝ }
-    ensures { λ r. ⌜ r ≡ answer (behindName (nameIn name) (linesAt (now (text .entry)) p)) ⌝ }
+    ensures { λ r. ⌜ ReadsMarked m (now (text .entry)) p (behindName (nameIn name)) r ⌝ }
 {
     match total_step(text, p) {
         CountStep::No(f) => refused_soc(f),
         CountStep::Is(n, q) => match options_step(text, q) {
             OptionsStep::No(f) => refused_soc(f),
-            OptionsStep::Are(power, xy, q2) => modules_to_end(text, q2, name, n, power, xy),
+            OptionsStep::Are(power, xy, q2) => modules_to_end(text, q2, name, n, power, xy, m),
         },
     }
 }
 
-fn read_lines(text: &[u8]) -> SocRead
-    ensures { λ r. ⌜ r ≡ answer (soc (linesFrom 1 (now (text .entry)) 0)) ⌝ }
+fn read_lines(text: &[u8], m: u32) -> SocMarked
+    ensures { λ r. ⌜ ReadsMarked m (now (text .entry)) (placeAt 0 1) soc r ⌝ }
 {
     let read = name_step(text, Place { at: 0, line: 1 });
     let step = read.step;
@@ -147,19 +173,26 @@ fn read_lines(text: &[u8]) -> SocRead
         Step::No(f) => refused_soc(f),
         Step::Next(q) => {
             let line = read.line;
-            read_behind_name(text, q, line)
+            read_behind_name(text, q, line, m)
         }
     }
 }
 
-pub fn read_soc(text: &[u8]) -> SocRead
-    ensures { λ r. ⌜ r ≡ readSoc (now (text .entry)) ⌝ }
+// What a text says, and the marks of module m where the text has it.
+pub fn read_soc_marked(text: &[u8], m: u32) -> SocMarked
+    ensures { λ r. ⌜ TextMarked m (now (text .entry)) r ⌝ }
 {
     if text.len() > TEXT_MAX {
         return refused_soc(Refusal::at(1, 0));
     }
     match fields::bad_byte(text) {
         BadByte::OnLine(n) => refused_soc(Refusal::at(2, n)),
-        BadByte::Nowhere => read_lines(text),
+        BadByte::Nowhere => read_lines(text, m),
     }
+}
+
+pub fn read_soc(text: &[u8]) -> SocRead
+    ensures { λ r. ⌜ r ≡ readSoc (now (text .entry)) ⌝ }
+{
+    read_soc_marked(text, 0).read
 }

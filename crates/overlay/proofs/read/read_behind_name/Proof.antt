@@ -1,13 +1,15 @@
 -- `overlay::read::read_behind_name` meets its contract. The definition goes on behind the options as the code does. Assumes nothing.
 use borrow.Author.Needs.{needs}
-use mathlib.Core.Path.{_≡_, sym, ap, _∙_}
+use mathlib.Core.Path.{_≡_, sym, ap}
 use Rattle.fields.specs.Readers.{got}
 use Rattle.fields.proofs.ReaderLaws.{after-no, after-got}
 use Rattle.text_lines.specs.Kinds.{optionsLine}
 use Rattle.text_line_reader.specs.Due.{linesAt, Inside}
 use Rattle.text_reader.specs.Lines.{line}
+use Rattle.text_reader.proofs.LinesOfLaws.{options-other}
 use Rattle.text_reader.proofs.StepLaws.{options-step-no, options-step-are}
 use Rattle.overlay.specs.Overlay.{behindName, answer}
+use Rattle.overlay.proofs.BlockMarks.{refused-marked, marked-behind}
 use Rattle.overlay.proofs.read.read_behind_name.Statement.{statement}
 use Rattle.overlay.proofs.read.read_behind_name.Tie as tie
 
@@ -32,11 +34,17 @@ blocks-to-end-requires c κs = options (c .before) .1
 
 returns : tie.Need-returns
 unfolding behindName answer
-returns c = c .refused-overlay .ensures ∙ sym (ap answer (after-no _ _ _ (options-step-no _ _ _ (c .before .before .before .before .options-step .ensures) _ (c .before .before .f .given .1))))
+returns c =
+    let n = options-step-no _ _ _ (c .before .before .before .before .options-step .ensures) _ (c .before .before .f .given .1) in
+    refused-marked _ _ _ _ _ _ (c .refused-overlay .ensures)
+    (sym (ap answer (after-no _ _ _ n)))
 
 returns-2 : tie.Need-returns-2
 unfolding behindName
-returns-2 c = c .blocks-to-end .ensures ∙ sym (ap answer (after-got _ _ _ _ (options (c .before .before) .0)))
+returns-2 c =
+    let o = options (c .before .before) in
+    marked-behind _ _ optionsLine _ _ _ (o .0) (λ l w. options-other _ l _ w) _ _ _ (sym (ap answer (after-got _ _ _ _ (o .0))))
+    (c .blocks-to-end .ensures)
 
 pub read-behind-name-spec : {M : Type 1} → statement M
 read-behind-name-spec =

@@ -1,11 +1,13 @@
--- `text_reader::read::modules_step` meets its contract. The loop's invariant: reading n modules from the start is to put those in the first i places
--- before reading the others from here, where the last one has level `last`, and the places from i on are spare. The measure is what is left
--- of n. Assumes nothing.
+-- `text_reader::read::modules_step` meets its contract. The loop's invariant: reading n modules from the start is to put those in the first
+-- i places before reading the others from here, where the last one has level `last`, and the places from i on are spare; the marks are those
+-- of module m once it was read. The measure is what is left of n. Assumes nothing.
 use borrow.Author.Needs.{needs}
 use native.Mathlib.Omega.{arith}
 use native.Mathlib.Numerals.{add-one}
+use borrow.Author.Tests.{le-ltb}
 use Prim.Native.Nat.{_-_, _≤_, _<_}
 use mathlib.Core.Path.{_≡_, refl, sym, ap, _∙_}
+use lib.Dec.{ltb}
 use lib.ListN.{length, take, drop, replicate, length-set}
 use lib.Seq.{take-suc-set}
 use Rattle.fields.specs.Readers.{no, got}
@@ -14,17 +16,25 @@ use Rattle.soc.specs.Record.{noModule}
 use Rattle.text_lines.proofs.LevelLaws.{spare-behind, spare-set, spare-padded}
 use Rattle.text_reader.specs.Reading.{moduleLines, modules}
 use Rattle.text_line_reader.specs.Due.{linesAt, Inside}
+use Rattle.text_reader.proofs.LinesOfLaws.{module-lines}
+use Rattle.text_reader.proofs.MarkLaws.{Marking, marking-start, marking-next, next-number}
 use Rattle.text_reader.proofs.ModulesLaws.{modules-no, modules-more, modules-end}
 use Rattle.text_reader.proofs.StepLaws.{step-no, step-next}
 use Rattle.text_reader.proofs.read.modules_step.Statement.{statement}
 use Rattle.text_reader.proofs.read.modules_step.Tie as tie
 
 abbrev Inv-loop : tie.InvT-loop
-Inv-loop text n power xy list₀ place₀ last₀ i₀ list place last i =
-    (i ≤ n) × (length list ≡ 40) × Inside text place × (drop i list ≡ replicate (40 - i) noModule) × (modules (record { power = power; xy = xy }) n 0 0 (linesAt text place₀) ≡ prepend (take i list) (modules (record { power = power; xy = xy }) (n - i) i last (linesAt text place)))
+Inv-loop text n power xy m list₀ marks₀ place₀ last₀ i₀ list marks place last i =
+    (i ≤ n)
+    × (length list ≡ 40)
+    × Inside text place
+    × (drop i list ≡ replicate (40 - i) noModule)
+    × (modules (record { power = power; xy = xy }) n 0 0 (linesAt text place₀)
+    ≡ prepend (take i list) (modules (record { power = power; xy = xy }) (n - i) i last (linesAt text place)))
+    × Marking m i (ltb m i) text (linesAt text place₀) (linesAt text place) marks
 
 abbrev μ-loop : tie.MeasureT-loop
-μ-loop text n power xy list₀ place₀ last₀ i₀ list place last i = n - i
+μ-loop text n power xy m list₀ marks₀ place₀ last₀ i₀ list marks place last i = n - i
 
 -- the refusal of a module
 refused : (c : tie.After-step Inv-loop μ-loop) → let r = c .before .before in let p = r .before .before in let s = p .before .before .before in
@@ -42,8 +52,14 @@ no-module-requires c κs = search needs
 loop-holds : tie.Need-loop-holds Inv-loop μ-loop
 loop-holds c =
     let s = c .before .before in
-    let e : s .args .n - 0 ≡ s .args .n = omega arith in
-    (omega arith, refl, s .pre .0, ap (replicate 40) (c .no-module .ensures), rw e (sym (prepend-none _)))
+    let e : s .args .n - 0 ≡ s .args .n = omega arith in (
+      omega arith,
+      refl,
+      s .pre .0,
+      ap (replicate 40) (c .no-module .ensures),
+      rw e (sym (prepend-none _)),
+      marking-start (s .args .m) _ _ _ _ (le-ltb (s .args .m) 0 (omega arith)),
+    )
 
 cast-module-step : tie.Need-cast-module-step Inv-loop μ-loop
 cast-module-step c = search needs
@@ -65,6 +81,7 @@ returns c =
         inside = tt;
       },
       spare-padded 40 noModule (p .loop .list) (s .args .n) (spare-behind 40 noModule (p .loop .list) (p .loop .i) (p .loop .inv .3) (s .args .n) (omega arith) (omega arith)) (p .loop .inv .1) (omega arith),
+      tt,
     )
 
 enum-known-step-2 : tie.Need-enum-known-step-2 Inv-loop μ-loop
@@ -76,6 +93,12 @@ mul-list c = search needs
 array-set-from-list : tie.Need-array-set-from-list Inv-loop μ-loop
 array-set-from-list c = search needs
 
+cast-marked : tie.Need-cast-marked Inv-loop μ-loop
+cast-marked c = search needs
+
+marked-requires : tie.Need-marked-requires Inv-loop μ-loop
+marked-requires c κs = search needs
+
 add-i : tie.Need-add-i Inv-loop μ-loop
 add-i c = search needs
 
@@ -84,7 +107,7 @@ loop-less c = search needs
 
 loop-again : tie.Need-loop-again Inv-loop μ-loop
 loop-again c =
-    let f = c .before .before in
+    let f = c .before .before .before in
     let r = f .before .before in
     let p = r .before .before in
     let s = p .before .before .before in
@@ -95,6 +118,9 @@ loop-again c =
       read f .1,
       spare-set 40 noModule (p .loop .list) (p .loop .i) (p .loop .inv .3) d (omega arith),
       p .loop .inv .4 ∙ modules-more _ (s .args .n) (p .loop .i) _ (take (p .loop .i) (p .loop .list)) _ d _ (omega arith) (read f .0) ∙ rw (add-one, take-suc-set (p .loop .list) (p .loop .i) d h),
+      marking-next (s .args .m) (p .loop .i) (p .loop .i) _ _ _ _ _ _ _ _ (p .loop .inv .5) (omega arith)
+          (module-lines _ _ _ _ _ _ (read f .0))
+          (next-number (s .args .m) (p .loop .i)) (c .marked .ensures),
     )
 
 returns-2 : tie.Need-returns-2 Inv-loop μ-loop
@@ -104,6 +130,7 @@ returns-2 c =
     let q : p .loop .i ≡ s .args .n = omega arith in (
       record { is = rw q at (sym (p .loop .inv .4 ∙ modules-end _ (s .args .n) (p .loop .i) _ _ _ (omega arith))); inside = p .loop .inv .2 },
       spare-padded 40 noModule (p .loop .list) (s .args .n) (rw q at (p .loop .inv .3)) (p .loop .inv .1) (omega arith),
+      λ h. p .loop .inv .5 .marks (ap (ltb (s .args .m)) q ∙ h),
     )
 
 pub modules-step-spec : {M : Type 1} → statement M
@@ -121,6 +148,8 @@ modules-step-spec =
     enum-known-step-2
     mul-list
     array-set-from-list
+    cast-marked
+    marked-requires
     add-i
     loop-less
     loop-again

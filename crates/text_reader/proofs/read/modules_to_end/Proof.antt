@@ -7,6 +7,7 @@ use Rattle.fields.specs.Readers.{no, got}
 use Rattle.fields.proofs.ReaderLaws.{after-no, after-got}
 use Rattle.text_reader.specs.Reading.{modules, rest, refusedSoc, answer}
 use Rattle.text_line_reader.specs.Due.{linesAt, Inside}
+use Rattle.text_reader.proofs.MarkLaws.{step-marked, refused-marked, accepted-marked}
 use Rattle.text_reader.proofs.StepLaws.{no-more-line, no-more-end, due-found, due-missing, step-no, step-next}
 use Rattle.text_reader.proofs.read.modules_to_end.Statement.{statement}
 use Rattle.text_reader.proofs.read.modules_to_end.Tie as tie
@@ -53,26 +54,29 @@ accepted-soc-requires c κs = search needs
 
 returns : tie.Need-returns
 unfolding rest answer
-returns c = c .refused-soc .ensures ∙ sym (ap answer (after-no _ _ _ (refused (c .before .before))))
+returns c = refused-marked _ _ _ _ _ _ (c .refused-soc .ensures) (sym (ap answer (after-no _ _ _ (refused (c .before .before)))))
 
 returns-2 : tie.Need-returns-2
 unfolding rest answer
 returns-2 c =
     let l = c .before .before .before in
     let d = l .before .before in
-    c .refused-soc2 .ensures
-    ∙ ap refusedSoc (c .before .at .ensures)
-    ∙ sym (ap answer (after-got _ _ _ _ (read (d .before .before) .0) ∙ after-no _ _ _ (no-more-line _ _ _ _ _ _ (due-found _ _ _ (d .due-line .ensures) _ _ _ _ (l .line .given .1)))))
+    let f = due-found _ _ _ (d .due-line .ensures) _ _ _ _ (l .line .given .1) in
+    refused-marked _ _ _ _ _ _ (c .refused-soc2 .ensures)
+    (ap refusedSoc (c .before .at .ensures)
+    ∙ sym (ap answer (after-got _ _ _ _ (read (d .before .before) .0) ∙ after-no _ _ _ (no-more-line _ _ _ _ _ _ f))))
 
 returns-3 : tie.Need-returns-3
 unfolding rest answer
 returns-3 c =
-    let e = c .before .before in
+    let e = c .before .before .before in
     let d = e .before .before in
     let k = d .before .before in
     let m = k .before .before in
-    rw (c .accepted-soc .ensures, m .modules-step .ensures .1)
-    (sym (ap answer (after-got _ _ _ _ (read k .0) ∙ after-got _ _ _ _ (no-more-end _ (due-missing _ _ _ (d .due-line .ensures) (e .enum-told .given .1))))))
+    let z = due-missing _ _ _ (d .due-line .ensures) (e .enum-told .given .1) in
+    accepted-marked _ _ _ _ _ _ _ (c .accepted-soc .ensures)
+    (rw (m .modules-step .ensures .1) (sym (ap answer (after-got _ _ _ _ (read k .0) ∙ after-got _ _ _ _ (no-more-end _ z)))))
+    (λ h. step-marked _ _ _ _ _ _ _ (m .modules-step .ensures .2) (k .step2 .given .1) h z)
 
 pub modules-to-end-spec : {M : Type 1} → statement M
 modules-to-end-spec =

@@ -1,7 +1,7 @@
 -- `text_reader::read::read_behind_name` meets its contract. The definition goes on behind the number of modules and behind the options as the code
 -- does, and a number of modules that was read is within its limit. Assumes nothing.
 use borrow.Author.Needs.{needs}
-use mathlib.Core.Path.{_≡_, sym, ap, _∙_}
+use mathlib.Core.Path.{_≡_, refl, sym, ap, _∙_}
 use Rattle.fields.specs.Readers.{got}
 use Rattle.fields.proofs.ReaderLaws.{after-no, after-got}
 use Rattle.text_lines.specs.Kinds.{totalLine, optionsLine}
@@ -10,6 +10,8 @@ use Rattle.text_reader.specs.Reading.{rest, behindName, answer}
 use Rattle.text_line_reader.specs.Due.{linesAt, Inside}
 use Rattle.text_reader.specs.Steps.{nameIn}
 use Rattle.text_reader.proofs.CountLaws.{total-count}
+use Rattle.text_reader.proofs.LinesOfLaws.{total-other, options-other}
+use Rattle.text_reader.proofs.MarkLaws.{refused-marked, marked-behind}
 use Rattle.text_reader.proofs.StepLaws.{count-step-no, count-step-is, options-step-no, options-step-are}
 use Rattle.text_reader.proofs.read.read_behind_name.Statement.{statement}
 use Rattle.text_reader.proofs.read.read_behind_name.Tie as tie
@@ -64,17 +66,24 @@ unfolding behindName answer
 returns c =
     let f = c .before .before in
     let t = f .before .before in
-    c .refused-soc .ensures ∙ sym (ap answer (after-no _ _ _ (count-step-no _ _ _ (t .total-step .ensures) _ (f .f .given .1))))
+    refused-marked _ _ _ _ _ _ (c .refused-soc .ensures)
+    (sym (ap answer (after-no _ _ _ (count-step-no _ _ _ (t .total-step .ensures) _ (f .f .given .1)))))
 
 returns-2 : tie.Need-returns-2
 unfolding behindName answer
 returns-2 c =
     let f = c .before .before in
     let o = f .before .before in
-    c .refused-soc2 .ensures ∙ sym (ap answer (after-got _ _ _ _ (total (o .before .before) .0) ∙ after-no _ _ _ (options-step-no _ _ _ (o .options-step .ensures) _ (f .f2 .given .1))))
+    let n = options-step-no _ _ _ (o .options-step .ensures) _ (f .f2 .given .1) in
+    refused-marked _ _ _ _ _ _ (c .refused-soc2 .ensures)
+    (sym (ap answer (after-got _ _ _ _ (total (o .before .before) .0) ∙ after-no _ _ _ n)))
 
 returns-3 : tie.Need-returns-3
-returns-3 c = c .modules-to-end .ensures ∙ sym (ap answer (behind (c .before .before)))
+returns-3 c =
+    let k = c .before .before in
+    let t = total (k .before .before .before .before) in
+    marked-behind _ _ totalLine _ _ _ (t .0) (λ l w. total-other _ l _ w) _ _ _ (sym (ap answer (behind k)))
+    (marked-behind _ _ optionsLine _ _ _ (options k .0) (λ l w. options-other _ l _ w) _ _ _ refl (c .modules-to-end .ensures))
 
 pub read-behind-name-spec : {M : Type 1} → statement M
 read-behind-name-spec =

@@ -1,7 +1,7 @@
 -- `text_reader::read::read_lines` meets its contract. The definition goes on behind the first line as the code does. Assumes nothing.
 use borrow.Author.Needs.{needs}
 use native.Mathlib.Omega.{arith}
-use mathlib.Core.Path.{_≡_, sym, ap, _∙_}
+use mathlib.Core.Path.{_≡_, sym, ap}
 use Rattle.fields.specs.Lines.{linesFrom}
 use Rattle.fields.specs.Readers.{got}
 use Rattle.fields.proofs.ReaderLaws.{after-no, after-got}
@@ -10,6 +10,8 @@ use Rattle.text_reader.specs.Lines.{line}
 use Rattle.text_reader.specs.Reading.{soc, answer}
 use Rattle.text_line_reader.specs.Due.{linesAt, Inside}
 use Rattle.text_reader.specs.Steps.{nameIn}
+use Rattle.text_reader.proofs.LinesOfLaws.{name-other}
+use Rattle.text_reader.proofs.MarkLaws.{refused-marked, marked-behind}
 use Rattle.text_reader.proofs.StepLaws.{step-no, step-next}
 use Rattle.text_reader.proofs.read.read_lines.Statement.{statement}
 use Rattle.text_reader.proofs.read.read_lines.Tie as tie
@@ -39,11 +41,15 @@ unfolding soc answer
 returns c =
     let f = c .before .before in
     let k = f .before .before in
-    c .refused-soc .ensures ∙ sym (ap answer (after-no _ _ _ (step-no _ _ _ _ (k .name-step .ensures) _ (f .step .given .1))))
+    refused-marked _ _ _ _ _ _ (c .refused-soc .ensures)
+    (sym (ap answer (after-no _ _ _ (step-no _ _ _ _ (k .name-step .ensures) _ (f .step .given .1)))))
 
 returns-2 : tie.Need-returns-2
 unfolding soc
-returns-2 c = c .read-behind-name .ensures ∙ sym (ap answer (after-got _ _ _ _ (name (c .before .before .before) .0)))
+returns-2 c =
+    let n = name (c .before .before .before) in
+    marked-behind _ _ nameLine _ _ _ (n .0) (λ l w. name-other _ l _ w) _ _ _ (sym (ap answer (after-got _ _ _ _ (n .0))))
+    (c .read-behind-name .ensures)
 
 pub read-lines-spec : {M : Type 1} → statement M
 read-lines-spec =

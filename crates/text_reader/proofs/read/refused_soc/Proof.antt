@@ -1,6 +1,5 @@
 -- `text_reader::read::refused_soc` meets its contract. Assumes nothing.
 use borrow.Author.Needs.{needs}
-use mathlib.Core.Path.{ap}
 use Rattle.text_reader.proofs.read.refused_soc.Statement.{statement}
 use Rattle.text_reader.proofs.read.refused_soc.Tie as tie
 
@@ -8,7 +7,7 @@ no-soc-requires : tie.Need-no-soc-requires
 no-soc-requires c κs = search needs
 
 returns : tie.Need-returns
-returns c = ap (λ s. record { refusal = c .before .args .f; soc = s }) (c .no-soc .ensures)
+returns c = rw (c .no-soc .ensures)
 
 pub refused-soc-spec : {M : Type 1} → statement M
 refused-soc-spec = tie.close (tie.spec no-soc-requires returns)
