@@ -1,16 +1,13 @@
--- Laws of copying numbers place by place: over those of a buffer (`put`), to the front of places (`padded`), and of the plan that a buffer
--- holds then. Assumes nothing.
+-- Laws of copying numbers place by place over those of a buffer (`put`), and of the plan that it holds then. Assumes nothing.
 use Prim.Native.Nat.{ℕ, suc, _+_, _-_, _≤_, _<_}
 use mathlib.Core.Path.{_≡_, sym, ap, _∙_}
-use mathlib.Core.List.{List, [], _∷_, _++_, append-assoc, append-nil}
+use mathlib.Core.List.{List, [], _∷_, _++_, append-assoc}
 use native.Mathlib.Omega.{arith}
 use native.Mathlib.Numerals.{add-one}
-use lib.ListN.{length, getD, take, drop, set, length-append, length-drop, drop-of-length-le}
-use lib.Seq.{take-suc, take-take, take-append-seam, take-append-le, drop-cons, drop-append-seam, getD-drop, set-append-seam, length-take-le}
-use Rattle.units.specs.Places.{padded}
-use Rattle.units.proofs.PlaceLaws.{padded-set}
+use lib.ListN.{length, getD, take, drop, set, length-append, length-drop}
+use lib.Seq.{take-suc, take-take, take-append-seam, take-append-le, drop-cons, drop-append-seam, set-append-seam, length-take-le}
 use Rattle.plan_rules.specs.Listed.{plan}
-use Rattle.budget_search.specs.Steps.{busesMax, busesAt, planIn}
+use Rattle.budget_search.specs.Steps.{busesMax, busesAt, bestPlaces, planIn}
 use Rattle.budget_search.specs.Place.{Rooms}
 
 -- numbers over those from place `at` on
@@ -53,44 +50,29 @@ abbrev pub kept : List ℕ → List ℕ → List ℕ → List ℕ
 kept ws bs best = over bs (widened ws best) busesAt
 
 module _ (ws bs : List ℕ) (few : length ws ≤ busesMax) where
-  -- with the count c before a list that begins with the widths, and the bus numbers over what stands behind them
-  plan-over : (D : List ℕ) → length ws + length D ≡ length bs + busesMax → planIn (over bs (length ws ∷ (ws ++ D)) busesAt) ≡ plan ws bs
+  -- with the count before a list that begins with the widths, and the bus numbers over what stands behind them
+  plan-over : (D : List ℕ) → busesMax ≤ length ws + length D → planIn (length bs) (over bs (length ws ∷ (ws ++ D)) busesAt) ≡ plan ws bs
   plan-over D e =
       let c = length ws in
       let l : List ℕ = ws ++ D in
       let X : List ℕ = take busesMax l in
       let E : List ℕ = drop (busesAt + length bs) (c ∷ l) in
-      let n : length l ≡ length bs + busesMax = length-append ws D ∙ e in
+      let n : length l ≡ length ws + length D = length-append ws D in
       let x : length X ≡ busesMax = length-take-le busesMax l (omega arith) in
-      let none : E ≡ [] = drop-of-length-le (c ∷ l) {i = busesAt + length bs} (omega arith) in
       let w : take c (X ++ (bs ++ E)) ≡ ws = take-append-le c X (bs ++ E) (omega arith) ∙ take-take c busesMax l few
       ∙ take-append-seam ws D in
-      let b : drop busesMax (X ++ (bs ++ E)) ≡ bs =
-      ap (λ j. drop j (X ++ (bs ++ E))) (sym x) ∙ drop-append-seam X (bs ++ E) ∙ ap (λ y. bs ++ y) none ∙ append-nil bs in
-      ap (λ y. plan y (drop busesMax (X ++ (bs ++ E)))) w ∙ ap (plan ws) b
+      let b : take (length bs) (drop busesMax (X ++ (bs ++ E))) ≡ bs =
+      ap (λ j. take (length bs) (drop j (X ++ (bs ++ E)))) (sym x) ∙ ap (take (length bs)) (drop-append-seam X (bs ++ E))
+      ∙ take-append-seam bs E in
+      ap (λ y. plan y (take (length bs) (drop busesMax (X ++ (bs ++ E))))) w ∙ ap (plan ws) b
 
-  pub plan-kept : (best : List ℕ) → length best ≡ length bs + busesAt → planIn (kept ws bs best) ≡ plan ws bs
+  pub plan-kept : (best : List ℕ) → length best ≡ bestPlaces → planIn (length bs) (kept ws bs best) ≡ plan ws bs
   plan-kept [] e = absurd (omega arith)
   plan-kept (x ∷ xs) e =
       let d : length (drop (1 + length ws) (length ws ∷ xs)) ≡ length xs - length ws = length-drop (1 + length ws) (length ws ∷ xs)
       ∙ omega arith in
       plan-over (drop (1 + length ws) (length ws ∷ xs)) (omega arith)
 
-  pub rooms-kept : (best : List ℕ) → length best ≡ length bs + busesAt → length (kept ws bs best) ≡ length best
-      → Rooms (length bs) (kept ws bs best)
+  pub rooms-kept : (best : List ℕ) → length best ≡ bestPlaces → length (kept ws bs best) ≡ length best → Rooms (kept ws bs best)
   rooms-kept [] e f = absurd (omega arith)
   rooms-kept (x ∷ xs) e f = record { places = f ∙ e; count = few }
-
--- one more number from place d on is stored
-pub padded-more : (n : ℕ) (l : List ℕ) (d i : ℕ) → i < n → i + d < length l
-    → set (padded n 0 (take i (drop d l))) i (getD l (i + d) 0) ≡ padded n 0 (take (i + 1) (drop d l))
-padded-more n l d i h m =
-    let v = getD l (i + d) 0 in
-    let k : i < length (drop d l) = simp length-drop (omega arith) in
-    let s : d + i ≡ i + d = omega arith in
-    let g : getD (drop d l) i 0 ≡ v = getD-drop d l i 0 ∙ ap (λ j. getD l j 0) s in
-    let t : take (i + 1) (drop d l) ≡ take i (drop d l) ++ v ∷ [] =
-    rw add-one (take-suc (drop d l) i 0 k) ∙ ap (λ x. take i (drop d l) ++ x ∷ []) g in
-    let f : length (take i (drop d l)) ≡ i = length-take-le i (drop d l) (omega arith) in
-    ap (λ j. set (padded n 0 (take i (drop d l))) j v) (sym f)
-    ∙ padded-set n 0 v (take i (drop d l)) (omega arith) ∙ ap (padded n 0) (sym t)

@@ -39,16 +39,17 @@ module _ (from to₀ : List ℕ) (room : length from < length to₀) where
         let e : i ≡ length from = omega (arith, b .upto) in
         sym (take-append-drop (suc i) to) ∙ rw (b .front, b .rest, e, take-length from, add-one)
 
--- one more of the numbers behind the first of l is stored
-taken-more : (l : List ℕ) (i k : ℕ) → k ≡ i + 1 → k < length l → take k (drop 1 l) ≡ take i (drop 1 l) ++ getD l k 0 ∷ []
-taken-more l i k e m =
-    let d : i < length (drop 1 l) = simp length-drop (omega arith) in
-    let q : k ≡ suc i = omega arith in
-    let g : 1 + i ≡ k = omega arith in
-    ap (λ j. take j (drop 1 l)) q ∙ take-suc (drop 1 l) i 0 d ∙ ap (λ x. take i (drop 1 l) ++ x ∷ []) (getD-drop 1 l i 0 ∙ ap (λ j. getD l j 0) g)
+-- one more of the numbers from place d of l on is stored
+taken-more : (l : List ℕ) (d i k : ℕ) → k ≡ i + d → k < length l → take (i + 1) (drop d l) ≡ take i (drop d l) ++ getD l k 0 ∷ []
+taken-more l d i k e m =
+    let h : i < length (drop d l) = simp length-drop (omega arith) in
+    let g : d + i ≡ k = omega arith in
+    rw add-one (take-suc (drop d l) i 0 h) ∙ ap (λ x. take i (drop d l) ++ x ∷ []) (getD-drop d l i 0 ∙ ap (λ j. getD l j 0) g)
 
-pub padded-more : (n : ℕ) (l : List ℕ) (i k : ℕ) → i < n → k ≡ i + 1 → k < length l → set (padded n 0 (take i (drop 1 l))) i (getD l k 0) ≡ padded n 0 (take k (drop 1 l))
-padded-more n l i k h e m = rw (taken-more l i k e m) (stored (take i (drop 1 l)) (length-take-le i (drop 1 l) (simp length-drop (omega arith))))
+pub padded-more : (n : ℕ) (l : List ℕ) (d i k : ℕ) → i < n → k ≡ i + d → k < length l
+    → set (padded n 0 (take i (drop d l))) i (getD l k 0) ≡ padded n 0 (take (i + 1) (drop d l))
+padded-more n l d i k h e m =
+    rw (taken-more l d i k e m) (stored (take i (drop d l)) (length-take-le i (drop d l) (simp length-drop (omega arith))))
   where
     stored : (xs : List ℕ) → length xs ≡ i → set (padded n 0 xs) i (getD l k 0) ≡ padded n 0 (xs ++ getD l k 0 ∷ [])
     stored xs f = ap (λ j. set (padded n 0 xs) j (getD l k 0)) (sym f) ∙ padded-set n 0 (getD l k 0) xs (omega arith)

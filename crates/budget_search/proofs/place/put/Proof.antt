@@ -35,8 +35,8 @@ add-to c = search needs
 mul-to-2 : tie.Need-mul-to-2 Inv-loop μ-loop
 mul-to-2 c = search needs
 
-slice-write-to : tie.Need-slice-write-to Inv-loop μ-loop
-slice-write-to c = search needs
+element-write-to : tie.Need-element-write-to Inv-loop μ-loop
+element-write-to c = search needs
 
 add-i : tie.Need-add-i Inv-loop μ-loop
 add-i c = search needs
@@ -52,19 +52,19 @@ loop-again c =
       omega arith,
       simp length-set (l .inv .1),
       rw (l .inv .2)
-          (over-more (a .from .now) (a .to .now) (a .at) (l .i) (s .pre .0) (c .before .loop-test .taken)),
+          (over-more (a .from .now) (a .to .now) (a .at) (l .i) (omega (arith, s .pre .0, s .pre .1)) (c .before .loop-test .taken)),
     )
-
-same-length : tie.Need-same-length Inv-loop μ-loop
-same-length c = search needs
 
 returns : tie.Need-returns Inv-loop μ-loop
 returns c =
     let l = c .before .loop in
-    let a = c .before .before .args in
-    let e : l .i ≡ length (a .from .now) = omega arith in
-    l .inv .2 ∙ rw e (ap (λ x. take (a .at) (a .to .now) ++ (x ++ drop (a .at + length (a .from .now)) (a .to .now)))
-    (take-all (length (a .from .now)) (a .from .now) (omega arith)))
+    let s = c .before .before in
+    let a = s .args in
+    let e : l .i ≡ length (a .from .now) = omega arith in (
+      l .inv .2 ∙ rw e (ap (λ x. take (a .at) (a .to .now) ++ (x ++ drop (a .at + length (a .from .now)) (a .to .now)))
+          (take-all (length (a .from .now)) (a .from .now) (omega arith))),
+      l .inv .1 ∙ s .pre .1,
+    )
 
 pub put-spec : {M : Type 1} → statement M
 put-spec =
@@ -77,9 +77,8 @@ put-spec =
     shared-slice-read-to
     add-to
     mul-to-2
-    slice-write-to
+    element-write-to
     add-i
     loop-less
     loop-again
-    same-length
     returns)

@@ -61,7 +61,8 @@ loop-again c =
     let h = c .before .loop-test .taken in (
       omega arith,
       simp length-set (l .inv .1),
-      rw (l .inv .2) (padded-more foundBuses (s .args .found .now) (l .i) (l .i + 1) (omega (arith, s .pre .few)) refl (omega (arith, s .pre .count))),
+      rw (l .inv .2)
+          (padded-more foundBuses (s .args .found .now) 1 (l .i) (l .i + 1) (omega (arith, s .pre .few)) refl (omega (arith, s .pre .count))),
     )
 
 loop2-holds : tie.Need-loop2-holds Inv-loop μ-loop Inv-loop2 μ-loop2
@@ -93,11 +94,12 @@ loop2-again c =
     let s = c .before .before .before .before .before .before in
     let l = c .before .before .loop2 in
     let h = c .before .loop2-test .taken in
-    let e : l .j + 1 - 1 ≡ l .j = omega arith in (
+    let e : l .j + 1 - 1 ≡ l .j - 1 + 1 = omega (arith, l .inv .0) in (
       omega arith,
       omega arith,
       simp length-set (l .inv .2),
-      rw (e, l .inv .3) (padded-more foundModules (s .args .best .now) (l .j - 1) (l .j) (omega (arith, s .pre .modules)) (omega (arith, l .inv .0)) h),
+      rw (e, l .inv .3)
+          (padded-more foundModules (s .args .best .now) 1 (l .j - 1) (l .j) (omega (arith, s .pre .modules)) (omega (arith, l .inv .0)) h),
     )
 
 shared-slice-read-t29 : tie.Need-shared-slice-read-t29 Inv-loop μ-loop Inv-loop2 μ-loop2
