@@ -77,12 +77,14 @@ module _ (t : List ℕ) (W B n budget : ℕ) where
           → Counted (widths′ ++ drop c widths) best′ r′ most (c + 1)
       counted-next widths′ {best′} {r′} e m q =
           let z : length (take c widths) - 0 ≡ c = omega (arith, lent) in
-          let is′ : heldIn n budget r′ best′ ≡ onLists (tableTime t) budget n (widthLists c 1 W) (heldIn n budget r best) = q ∙ rw (z, map-id) in
+          let is′ : heldIn n budget r′ best′ ≡ onLists (tableTime t) budget n (widthLists c 1 W) (heldIn n budget r best) =
+          q ∙ rw (z, map-id) in
           record {
             from = omega arith;
             upto = omega arith;
             most-is = s .most-is;
             widths-room = length-front widths widths′ c e ∙ s .widths-room;
             rooms = m;
-            is = s .is ∙ counts-step (heldIn n budget r best) ∙ ap (onCounts (tableTime t) W budget n (most + 1 - (c + 1)) (c + 1)) (sym is′);
+            is = s .is ∙ counts-step (heldIn n budget r best)
+                ∙ ap (onCounts (tableTime t) W budget n (most + 1 - (c + 1)) (c + 1)) (sym is′);
           }

@@ -7,7 +7,6 @@ use super::steps::halt;
 use super::steps::is_reached;
 use plan_search::FOUND_BUSES;
 use plan_search::FOUND_MODULES;
-use plan_search::ROW_PLACES;
 use plan_search::larger;
 use plan_search::time_at;
 use units::Cycles;
@@ -27,13 +26,11 @@ pub const BUDGET_BUSES: usize = FOUND_BUSES;
 
 pub const BUDGET_MODULES: usize = FOUND_MODULES;
 
-// The places of each module in a table of times: one for each width.
-pub const BUDGET_ROW: usize = ROW_PLACES;
-
 // Where the bus numbers of the best plan begin: before them are the count of its buses and their widths.
 pub(crate) const BUSES_AT: usize = BUDGET_BUSES + 1;
 
-// The places of the best plan. It is lent as an array of them and not as a slice, which is two words that lie in memory: every try hands it on.
+// The places of the best plan. Every try hands it on, so it is lent as an array of them: a slice is a pointer and a length, which are stored
+// anew for each call.
 pub(crate) const BEST_PLACES: usize = BUDGET_MODULES + BUSES_AT;
 
 // Numbers are put over those of a buffer from a place on.

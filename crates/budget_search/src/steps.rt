@@ -2,7 +2,7 @@
 // has the best plan's time; its widths and bus numbers are in a buffer beside it. It goes down and up with every try, so it has two numbers
 // and no more: that no plan is known and that the search was stopped are values of them that no plan and no count has.
 ghost use mathlib.Core.Path.{_≡_};
-ghost use Prim.Native.Nat.{_≤_, _<_, min};
+ghost use Prim.Native.Nat.{_≤_, min};
 ghost use Rattle.budget_search.specs.Steps.{budgetMax, reaches, counts, halts, stops, keeps};
 
 // The best time while no plan is known: 2⁶³, which no plan takes.
@@ -23,7 +23,7 @@ pub(crate) fn is_reached(s: Progress, time: u64) -> bool
 
 // One try more.
 pub(crate) fn count(s: Progress) -> Progress
-    requires { ⌜ s .tries < budgetMax ⌝ }
+    requires { ⌜ s .tries ≤ budgetMax ⌝ }
     ensures { λ r. ⌜ r ≡ counts s ⌝ }
 {
     Progress {

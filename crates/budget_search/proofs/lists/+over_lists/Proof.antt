@@ -149,7 +149,8 @@ returns-3 t c =
     let p = c .placed-on in
     let one = left-one (s .pre .1 .4) (c .before .before .before .if3 .taken) (fits t (c .before .before .before .before)) in (
       p .ensures .0
-          ∙ sym (ap (λ wss. onLists (tableTime (a .table .now)) (a .budget) (a .n) wss (heldIn (a .n) (a .budget) (a .s) (a .best .now))) one
+          ∙ sym (ap (λ wss. onLists (tableTime (a .table .now)) (a .budget) (a .n) wss
+          (heldIn (a .n) (a .budget) (a .s) (a .best .now))) one
           ∙ lists-one (tableTime (a .table .now)) (a .budget) (a .n) (set (a .widths .now) (a .at) (a .left .0))
           (heldIn (a .n) (a .budget) (a .s) (a .best .now))),
       p .ensures .1,

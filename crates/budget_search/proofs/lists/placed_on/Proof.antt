@@ -1,13 +1,9 @@
 -- `lists::placed_on` meets its contract: `place` from the first module on, with every bus free. Assumes nothing.
-use borrow.Author.Needs.{needs}
 use native.Mathlib.Omega.{arith}
 use Prim.Native.Nat.{ℕ, _-_}
-use mathlib.Core.Path.{_≡_, ap, _∙_}
-use mathlib.Core.List.{[]}
+use mathlib.Core.Path.{_≡_}
 use lib.ListN.{length, take, replicate, length-take}
-use Rattle.budget_rules.specs.Tries.{placed}
-use Rattle.budget_search.specs.Steps.{busesMax, modulesMax, heldIn}
-use Rattle.plan_search.specs.Search.{tableTime}
+use Rattle.budget_search.specs.Steps.{busesMax, modulesMax}
 use Rattle.budget_search.proofs.PlaceLaws.{ready-first}
 use Rattle.budget_search.proofs.ListLaws.{take-zeros, length-zeros}
 use Rattle.budget_search.proofs.lists.placed_on.Statement.{statement}

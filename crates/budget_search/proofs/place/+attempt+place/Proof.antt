@@ -133,8 +133,9 @@ tried-on t c =
     let g = larger-time t (end-larger t c) in
     let n = g .before .before .before in
     let s = time-start t g in
-    attempt-on (s .pre .1 .0) (s .pre .1 .1 .0) (s .args .b) (s .pre .1 .1 .1) (s .args .s) (n .before .if1 .left) (n .count .ensures)
-    (busy-is t g) (sym (e .if2 .left) ∙ e .before .is-reached .ensures) (c .before .before .before .before .place .ensures)
+    attempt-on (s .pre .1 .0) (s .pre .1 .1 .0) (s .args .b) (s .pre .1 .1 .1) (s .args .s)
+    (omega (arith, n .before .if1 .left)) (n .count .ensures) (busy-is t g) (sym (e .if2 .left) ∙ e .before .is-reached .ensures)
+    (c .before .before .before .before .place .ensures)
 
 attempt-halt-requires : (t : ℕ) → attempt-lts.Need-halt-requires (attempt-calls t) (attempt-at t) attempt.Post
 attempt-halt-requires t c κs = search needs
@@ -142,7 +143,8 @@ attempt-halt-requires t c κs = search needs
 attempt-returns : (t : ℕ) → attempt-lts.Need-returns (attempt-calls t) (attempt-at t) attempt.Post
 attempt-returns t c =
     let s = c .before .before .before .before .before .before in
-    attempt-halted (s .pre .1 .0) (s .pre .1 .1 .0) (s .args .b) (s .pre .1 .1 .1) (s .args .s) (c .before .if1 .taken) (c .halt .ensures)
+    attempt-halted (s .pre .1 .0) (s .pre .1 .1 .0) (s .args .b) (s .pre .1 .1 .1) (s .args .s)
+    (omega (arith, c .before .if1 .taken)) (c .halt .ensures)
 
 attempt-count-requires : (t : ℕ) → attempt-lts.Need-count-requires (attempt-calls t) (attempt-at t) attempt.Post
 attempt-count-requires t c κs = search needs
@@ -179,7 +181,7 @@ attempt-returns-2 t c =
     let g = c .before .before .before in
     let n = g .before .before .before in
     let s = time-start t g in
-    attempt-dropped (s .pre .1 .0) (s .pre .1 .1 .0) (s .args .b) (s .pre .1 .1 .1) (s .args .s) (n .before .if1 .left)
+    attempt-dropped (s .pre .1 .0) (s .pre .1 .1 .0) (s .args .b) (s .pre .1 .1 .1) (s .args .s) (omega (arith, n .before .if1 .left))
     (n .count .ensures) (busy-is t g) (sym (c .if2 .taken) ∙ c .before .is-reached .ensures)
 
 attempt-larger-requires : (t : ℕ) → attempt-lts.Need-larger-requires (attempt-calls t) (attempt-at t) attempt.Post
@@ -230,7 +232,10 @@ attempt-slice-write-loads-2 t c =
     rw (loads-back t c, length-set) (omega (arith, s .pre .1 .0 .room, s .pre .1 .1 .1))
 
 attempt-same-length : (t : ℕ) → attempt-lts.Need-same-length (attempt-calls t) (attempt-at t) attempt.Post
-attempt-same-length t c = ap length (tried-on t c .loads-same)
+attempt-same-length t c =
+    let g = larger-time t (end-larger t c) in
+    let a = time-start t g .args in
+    simp length-set (ap length (loads-back t c) ∙ length-set (a .loads .now) (a .b) (getD (a .loads .now) (a .b) 0 + g .time-at .result .0))
 
 attempt-same-length-2 : (t : ℕ) → attempt-lts.Need-same-length-2 (attempt-calls t) (attempt-at t) attempt.Post
 attempt-same-length-2 t c =
@@ -290,7 +295,8 @@ place-loop-again : (t : ℕ) → place-lts.Need-loop-again (place-calls t) (plac
 place-loop-again t c =
     let q = c .before .before .before .before in
     let l = q .before .before .before .before .before in
-    left-tried (l .loop .inv) (q .before .before .before .before .loop-test .taken) (q .attempt .ensures) (q .attempt .kept .1 .1 .1 .1 .1 .1 .1 .0)
+    left-tried (l .loop .inv) (q .before .before .before .before .loop-test .taken) (q .attempt .ensures)
+    (q .attempt .kept .1 .1 .1 .1 .1 .1 .1 .0)
 
 place-same-length-2 : (t : ℕ) → place-lts.Need-same-length-2 (place-calls t) (place-at t) place.Post place-Inv-loop place-μ-loop
 place-same-length-2 t c = search needs

@@ -3,8 +3,9 @@ use borrow.Author.Needs.{needs}
 use native.Mathlib.Omega.{arith}
 use mathlib.Core.Path.{_≡_, sym, ap, _∙_}
 use lib.ListN.{length, length-set}
+use Rattle.plan_search.proofs.CopyLaws.{over}
 use Rattle.budget_search.specs.Steps.{busesAt, planIn}
-use Rattle.budget_search.proofs.CopyLaws.{over, kept, plan-kept, rooms-kept}
+use Rattle.budget_search.proofs.KeptLaws.{kept, plan-kept, rooms-kept}
 use Rattle.budget_search.proofs.place.keep_plan.Statement.{statement}
 use Rattle.budget_search.proofs.place.keep_plan.Tie as tie
 

@@ -1,18 +1,16 @@
--- `place::put` meets its contract. The loop's invariant: the first i numbers stand from place `at` on, and all else is as it was.
--- Assumes nothing.
+-- `place::put` meets its contract. The loop's invariant is `Copied`: the first i numbers stand from place `at` on, and all else is as it
+-- was. Assumes nothing.
 use borrow.Author.Needs.{needs}
 use native.Mathlib.Omega.{arith}
-use Prim.Native.Nat.{_+_, _-_, _≤_}
-use mathlib.Core.Path.{_≡_, refl, sym, ap, _∙_}
-use mathlib.Core.List.{_++_}
-use lib.ListN.{length, take, drop, length-set, take-append-drop}
-use lib.Seq.{take-all}
-use Rattle.budget_search.proofs.CopyLaws.{overFirst, over-more}
+use Prim.Native.Nat.{_+_, _-_}
+use mathlib.Core.Path.{refl, _∙_}
+use lib.ListN.{length}
+use Rattle.plan_search.proofs.CopyLaws.{Copied, copied-first, copied-more, copied-all}
 use Rattle.budget_search.proofs.place.put.Statement.{statement}
 use Rattle.budget_search.proofs.place.put.Tie as tie
 
 abbrev Inv-loop : tie.InvT-loop
-Inv-loop from to₀ at i₀ to i = (i ≤ length from) × (length to ≡ length to₀) × (to ≡ overFirst from to₀ at i)
+Inv-loop from to₀ at i₀ to i = Copied from to₀ at to i
 
 abbrev μ-loop : tie.MeasureT-loop
 μ-loop from to₀ at i₀ to i = length from - i
@@ -20,8 +18,7 @@ abbrev μ-loop : tie.MeasureT-loop
 loop-holds : tie.Need-loop-holds Inv-loop μ-loop
 loop-holds c =
     let a = c .args in
-    let z : a .at + 0 ≡ a .at = omega arith in
-    (omega arith, refl, rw z (sym (take-append-drop (a .at) (a .to .now))))
+    copied-first (a .from .now) (a .to .now) (a .at) (omega (arith, c .pre .0, c .pre .1))
 
 mul-to : tie.Need-mul-to Inv-loop μ-loop
 mul-to c = search needs
@@ -48,22 +45,17 @@ loop-again : tie.Need-loop-again Inv-loop μ-loop
 loop-again c =
     let l = c .before .before .loop in
     let s = c .before .before .before in
-    let a = s .args in (
-      omega arith,
-      simp length-set (l .inv .1),
-      rw (l .inv .2)
-          (over-more (a .from .now) (a .to .now) (a .at) (l .i) (omega (arith, s .pre .0, s .pre .1)) (c .before .loop-test .taken)),
-    )
+    let a = s .args in
+    copied-more (a .from .now) (a .to .now) (a .at) (omega (arith, s .pre .0, s .pre .1)) (l .to) (l .i) (l .inv) (a .at + l .i) refl
+    (c .before .loop-test .taken)
 
 returns : tie.Need-returns Inv-loop μ-loop
 returns c =
     let l = c .before .loop in
     let s = c .before .before in
-    let a = s .args in
-    let e : l .i ≡ length (a .from .now) = omega arith in (
-      l .inv .2 ∙ rw e (ap (λ x. take (a .at) (a .to .now) ++ (x ++ drop (a .at + length (a .from .now)) (a .to .now)))
-          (take-all (length (a .from .now)) (a .from .now) (omega arith))),
-      l .inv .1 ∙ s .pre .1,
+    let a = s .args in (
+      copied-all (a .from .now) (a .to .now) (a .at) (omega (arith, s .pre .0, s .pre .1)) (l .to) (l .i) (l .inv) (c .loop-test .left),
+      l .inv .same-length ∙ s .pre .1,
     )
 
 pub put-spec : {M : Type 1} → statement M

@@ -56,7 +56,8 @@ loop-again c =
       omega arith,
       simp length-set (l .inv .1),
       rw (l .inv .2)
-          (padded-more modulesMax (s .args .t1) busesAt (l .i) (l .i + busesAt) (omega (arith, s .pre)) refl (omega (arith, len s, s .pre))),
+          (padded-more modulesMax (s .args .t1) busesAt (l .i) (l .i + busesAt) (omega (arith, s .pre)) refl
+          (omega (arith, len s, s .pre))),
     )
 
 returns : tie.Need-returns Inv-loop μ-loop

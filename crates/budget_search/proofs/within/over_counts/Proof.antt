@@ -3,7 +3,7 @@
 use borrow.Author.Needs.{needs}
 use native.Mathlib.Omega.{arith}
 use Prim.Native.Nat.{_+_, _-_}
-use mathlib.Core.Path.{refl, sym, _∙_}
+use mathlib.Core.Path.{refl}
 use lib.ListN.{length-take}
 use Rattle.budget_search.proofs.CountLaws.{Counted, counted-first, counted-last, few, begun-all, counted-next}
 use Rattle.budget_search.proofs.within.over_counts.Statement.{statement}

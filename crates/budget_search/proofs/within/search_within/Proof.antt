@@ -1,8 +1,7 @@
 -- `within::search_within` meets its contract: the search begins with a buffer of zeros, and the answer is read from what it leaves there.
 -- Assumes nothing.
-use borrow.Author.Needs.{needs}
 use native.Mathlib.Omega.{arith}
-use mathlib.Core.Path.{_≡_, refl, sym, ap, _∙_}
+use mathlib.Core.Path.{refl, ap, _∙_}
 use Rattle.budget_search.specs.Within.{spentOf}
 use Rattle.budget_search.proofs.within.search_within.Statement.{statement}
 use Rattle.budget_search.proofs.within.search_within.Tie as tie

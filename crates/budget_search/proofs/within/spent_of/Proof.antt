@@ -1,7 +1,7 @@
 -- `within::spent_of` meets its contract. Assumes nothing.
 use borrow.Author.Needs.{needs}
 use native.Mathlib.Omega.{arith}
-use mathlib.Core.Path.{_≡_, sym, ap, _∙_}
+use mathlib.Core.Path.{sym}
 use Rattle.budget_search.proofs.SpentLaws.{spent-unknown, spent-known}
 use Rattle.budget_search.proofs.within.spent_of.Statement.{statement}
 use Rattle.budget_search.proofs.within.spent_of.Tie as tie
@@ -21,7 +21,7 @@ returns c =
     let s = g .before .before in
     let a = s .args in
     rw (c .none-found .ensures, g .tries-of .ensures, g .before .is-stopped .ensures)
-    (sym (spent-unknown (a .n) (a .budget) (a .s) (a .t4) (c .before .if1 .taken)))
+    (sym (spent-unknown (a .n) (a .budget) (a .s) (a .t4) (omega (arith, c .before .if1 .taken))))
 
 widths-in-requires : tie.Need-widths-in-requires
 widths-in-requires c κs = search needs

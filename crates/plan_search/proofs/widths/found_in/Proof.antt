@@ -62,7 +62,8 @@ loop-again c =
       omega arith,
       simp length-set (l .inv .1),
       rw (l .inv .2)
-          (padded-more foundBuses (s .args .found .now) 1 (l .i) (l .i + 1) (omega (arith, s .pre .few)) refl (omega (arith, s .pre .count))),
+          (padded-more foundBuses (s .args .found .now) 1 (l .i) (l .i + 1) (omega (arith, s .pre .few)) refl
+          (omega (arith, s .pre .count))),
     )
 
 loop2-holds : tie.Need-loop2-holds Inv-loop μ-loop Inv-loop2 μ-loop2
