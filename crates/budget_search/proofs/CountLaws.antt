@@ -1,21 +1,20 @@
 -- Laws of the search over the bus counts: what holds as the count rises (`Counted`), and the answer. Assumes nothing.
 use Prim.Native.Nat.{ℕ, suc, _+_, _-_, _≤_, _<_, min}
-use mathlib.Core.Path.{_≡_, sym, ap, _∙_, subst}
-use mathlib.Core.Bool.{false, false≢true}
+use mathlib.Core.Path.{_≡_, sym, ap, _∙_}
 use mathlib.Core.List.{List, _++_, map, map-id}
 use native.Mathlib.Omega.{arith}
 use native.Mathlib.Numerals.{add-one}
 use lib.ListN.{length, take, drop}
 use lib.Seq.{length-take-le, length-front}
+use borrow.Author.Tests.{le-ltb}
 use Rattle.plan_rules.specs.Listed.{widthLists}
 use Rattle.budget_rules.specs.Tries.{Sought, onLists, onCounts, searched}
 use Rattle.budget_search.specs.declared.steps.Progress.{Progress}
-use Rattle.budget_search.specs.Steps.{busesMax, heldIn, Spends}
+use Rattle.budget_search.specs.Steps.{busesMax, noTime, heldIn}
 use Rattle.plan_search.specs.Search.{tableTime}
 use Rattle.budget_search.specs.Place.{Rooms}
 use Rattle.budget_search.specs.Lists.{Begun}
 use Rattle.budget_search.specs.Within.{Limits}
-use Rattle.budget_search.proofs.SpendLaws.{lists-spend}
 
 module _ (t : List ℕ) (W B n budget : ℕ) where
   -- the lists of at least c widths were not yet searched
@@ -24,12 +23,11 @@ module _ (t : List ℕ) (W B n budget : ℕ) where
     pub upto : c ≤ most + 1
     pub most-is : most ≡ min B W
     pub widths-room : length widths ≡ busesMax
-    pub rooms : Rooms n best
-    pub spends : Spends budget (heldIn r best)
-    pub is : searched (tableTime t) W B n budget ≡ onCounts (tableTime t) W budget n (most + 1 - c) c (heldIn r best)
+    pub rooms : Rooms best
+    pub is : searched (tableTime t) W B n budget ≡ onCounts (tableTime t) W budget n (most + 1 - c) c (heldIn n budget r best)
 
-  pub counted-first : {widths best : List ℕ} {most : ℕ} → most ≡ min B W → length widths ≡ busesMax → Rooms n best
-      → Counted widths best (record { known = false; stopped = false; best = 0; tries = 0 }) most 1
+  pub counted-first : {widths best : List ℕ} {most : ℕ} → most ≡ min B W → length widths ≡ busesMax → Rooms best
+      → Counted widths best (record { best = noTime; tries = 0 }) most 1
   unfolding searched
   counted-first {most = most} m w r = record {
     from = omega arith;
@@ -37,13 +35,15 @@ module _ (t : List ℕ) (W B n budget : ℕ) where
     most-is = m;
     widths-room = w;
     rooms = r;
-    spends = λ e. absurd (false≢true e);
-    is = let z : most + 1 - 1 ≡ min B W = omega arith in rw z;
+    is =
+        let z : most + 1 - 1 ≡ min B W = omega arith in
+        let none : min budget 0 ≡ 0 = omega arith in
+        rw (z, le-ltb budget 0 (omega arith), none);
   }
 
   module _ {widths best : List ℕ} {r : Progress} {most c : ℕ} (s : Counted widths best r most c) where
     -- all were searched
-    pub counted-last : most < c → heldIn r best ≡ searched (tableTime t) W B n budget
+    pub counted-last : most < c → heldIn n budget r best ≡ searched (tableTime t) W B n budget
     unfolding onCounts
     counted-last h = let z : most + 1 - c ≡ 0 = omega arith in sym (s .is ∙ rw z)
 
@@ -71,20 +71,20 @@ module _ (t : List ℕ) (W B n budget : ℕ) where
       counts-step q = let e : most + 1 - c ≡ suc (most + 1 - (c + 1)) = omega arith in rw (e, add-one c)
 
       -- the lists of c widths were searched
-      pub counted-next : (widths′ : List ℕ) {best′ : List ℕ} {r′ : Progress} → length widths′ ≡ length (take c widths) → Rooms n best′
-          → heldIn r′ best′ ≡ onLists (tableTime t) budget n
-          (map (λ ws. take 0 (take c widths) ++ ws) (widthLists (length (take c widths) - 0) 1 W)) (heldIn r best)
+      pub counted-next : (widths′ : List ℕ) {best′ : List ℕ} {r′ : Progress} → length widths′ ≡ length (take c widths) → Rooms best′
+          → heldIn n budget r′ best′ ≡ onLists (tableTime t) budget n
+          (map (λ ws. take 0 (take c widths) ++ ws) (widthLists (length (take c widths) - 0) 1 W)) (heldIn n budget r best)
           → Counted (widths′ ++ drop c widths) best′ r′ most (c + 1)
       counted-next widths′ {best′} {r′} e m q =
           let z : length (take c widths) - 0 ≡ c = omega (arith, lent) in
-          let is′ : heldIn r′ best′ ≡ onLists (tableTime t) budget n (widthLists c 1 W) (heldIn r best) = q ∙ rw (z, map-id) in
+          let is′ : heldIn n budget r′ best′ ≡ onLists (tableTime t) budget n (widthLists c 1 W) (heldIn n budget r best) =
+          q ∙ rw (z, map-id) in
           record {
             from = omega arith;
             upto = omega arith;
             most-is = s .most-is;
             widths-room = length-front widths widths′ c e ∙ s .widths-room;
             rooms = m;
-            spends =
-                subst (Spends budget) (sym is′) (lists-spend (tableTime t) budget n (widthLists c 1 W) (heldIn r best) (s .spends));
-            is = s .is ∙ counts-step (heldIn r best) ∙ ap (onCounts (tableTime t) W budget n (most + 1 - (c + 1)) (c + 1)) (sym is′);
+            is = s .is ∙ counts-step (heldIn n budget r best)
+                ∙ ap (onCounts (tableTime t) W budget n (most + 1 - (c + 1)) (c + 1)) (sym is′);
           }

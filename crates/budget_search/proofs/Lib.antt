@@ -1,4 +1,4 @@
-pub mod CopyLaws
+pub mod KeptLaws
 pub mod PlaceLaws
 pub mod SpendLaws
 pub mod ListLaws

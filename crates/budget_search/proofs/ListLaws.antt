@@ -39,8 +39,8 @@ widths-more {ws} a w h k m =
     }
 
 -- no product of a width and a count of buses is large
-pub share-small : (low due : ℕ) → low ≤ suc rowPlaces → due ≤ busesMax → low * due ≤ 520
-share-small low due h k = mul-le-mul {n₁ = low} {m₁ = due} {n₂ = 65} {m₂ = 8} h k
+pub share-small : (low due : ℕ) → low ≤ 2 * rowPlaces → due ≤ busesMax → low * due ≤ 1024
+share-small low due h k = mul-le-mul {n₁ = low} {m₁ = due} {n₂ = 128} {m₂ = 8} h k
 
 -- the widths that are to be set have room: low is a width
 pub low-fits : (low due left : ℕ) → 1 ≤ due → low * due ≤ left → low ≤ left
@@ -68,13 +68,13 @@ module _ {at low left : ℕ} {ws : List ℕ} (g : Begun at low left ws) where
   }
 
   -- the next width is more
-  pub begun-more : {vs : List ℕ} → length vs ≡ length ws → take at vs ≡ take at ws → low ≤ left → Begun at (low + 1) left vs
-  begun-more n e h = record {
+  pub begun-more : {vs : List ℕ} {v : ℕ} → length vs ≡ length ws → take at vs ≡ take at ws → 1 ≤ v → v ≤ 2 * rowPlaces → Begun at v left vs
+  begun-more n e h k = record {
     at-most = rw n (g .at-most);
     few = rw n (g .few);
     front = rw e (g .front);
-    some = omega arith;
-    low-most = omega (arith, g .narrow);
+    some = h;
+    low-most = k;
     narrow = g .narrow;
   }
 

@@ -1,5 +1,5 @@
 -- The search over the lists of widths: what has to be where one is begun.
-use Prim.Native.Nat.{ℕ, suc, _≤_}
+use Prim.Native.Nat.{ℕ, suc, _*_, _≤_}
 use mathlib.Core.List.{List}
 use lib.ListN.{length, take}
 use Rattle.budget_search.specs.Steps.{busesMax}
@@ -12,5 +12,5 @@ pub record Begun (at low left : ℕ) (ws : List ℕ) : Type 0 where
   pub few : length ws ≤ busesMax
   pub front : AreWidths (take at ws)
   pub some : 1 ≤ low
-  pub low-most : low ≤ suc rowPlaces
+  pub low-most : low ≤ 2 * rowPlaces
   pub narrow : left ≤ rowPlaces

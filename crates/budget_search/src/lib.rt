@@ -7,6 +7,5 @@ mod within;
 
 pub use place::BUDGET_BUSES;
 pub use place::BUDGET_MODULES;
-pub use place::BUDGET_ROW;
 pub use within::Spent;
 pub use within::search_within;

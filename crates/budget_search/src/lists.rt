@@ -1,9 +1,11 @@
 // The lists of widths in their order (document 02, item 7: "It goes through bus counts, width lists and bus numbers in the order of
 // plans"), and the modules on the buses of each.
+use super::place::BEST_PLACES;
 use super::place::BUDGET_BUSES;
 use super::place::BUDGET_MODULES;
 use super::place::place;
 use super::steps::Progress;
+use super::steps::is_stopped;
 use units::Wires;
 ghost use mathlib.Core.Path.{_≡_};
 ghost use mathlib.Core.List.{_++_, map};
@@ -11,7 +13,7 @@ ghost use Prim.Native.Nat.{_-_, _≤_};
 ghost use lib.ListN.{length, take};
 ghost use Rattle.budget_rules.specs.Tries.{placedOn, onLists};
 ghost use Rattle.plan_rules.specs.Listed.{widthLists};
-ghost use Rattle.budget_search.specs.Steps.{budgetMax, heldIn, Spends};
+ghost use Rattle.budget_search.specs.Steps.{budgetMax, heldIn};
 ghost use Rattle.plan_search.specs.Search.{tableTime, AreTimes};
 ghost use Rattle.budget_search.specs.Place.{AreWidths, Rooms};
 ghost use Rattle.budget_search.specs.Lists.{Begun};
@@ -22,13 +24,13 @@ fn placed_on(
     n: usize,
     widths: &[u32],
     budget: u64,
-    best: &mut [u32],
+    best: &mut [u32; BEST_PLACES],
     s: Progress,
 ) -> Progress
-    requires { ⌜ AreTimes (now table) n × AreWidths (now widths) × (budget ≤ budgetMax) × Rooms n (now best) ⌝ }
-    ensures { λ r. ⌜ (heldIn r (now (best .exit)) ≡
-        placedOn (tableTime (now (table .entry))) budget n (now (widths .entry)) (heldIn s (now (best .entry))))
-        × Rooms n (now (best .exit)) ⌝ }
+    requires { ⌜ AreTimes (now table) n × AreWidths (now widths) × (budget ≤ budgetMax) × Rooms (now best) ⌝ }
+    ensures { λ r. ⌜ (heldIn n budget r (now (best .exit)) ≡
+        placedOn (tableTime (now (table .entry))) budget n (now (widths .entry)) (heldIn n budget s (now (best .entry))))
+        × Rooms (now (best .exit)) ⌝ }
 {
     let mut loads = [0u64; BUDGET_BUSES];
     let mut buses = [0u32; BUDGET_MODULES];
@@ -55,18 +57,17 @@ pub(crate) fn over_lists(
     low: Wires,
     left: Wires,
     widths: &mut [u32],
-    best: &mut [u32],
+    best: &mut [u32; BEST_PLACES],
     s: Progress,
 ) -> Progress
-    requires { ⌜ AreTimes (now table) n × (1 ≤ n) × (budget ≤ budgetMax) × Rooms n (now best)
-        × Begun at (low .0) (left .0) (now widths) × Spends budget (heldIn s (now best)) ⌝ }
-    ensures { λ r. ⌜ (heldIn r (now (best .exit)) ≡ onLists (tableTime (now (table .entry))) budget n
+    requires { ⌜ AreTimes (now table) n × (1 ≤ n) × (budget ≤ budgetMax) × Rooms (now best)
+        × Begun at (low .0) (left .0) (now widths) ⌝ }
+    ensures { λ r. ⌜ (heldIn n budget r (now (best .exit)) ≡ onLists (tableTime (now (table .entry))) budget n
         (map (λ ws. take at (now (widths .entry)) ++ ws) (widthLists (length (now (widths .entry)) - at) (low .0) (left .0)))
-        (heldIn s (now (best .entry))))
-        × Rooms n (now (best .exit)) × (take at (now (widths .exit)) ≡ take at (now (widths .entry))) ⌝ }
+        (heldIn n budget s (now (best .entry))))
+        × Rooms (now (best .exit)) × (take at (now (widths .exit)) ≡ take at (now (widths .entry))) ⌝ }
 {
-    let stopped = s.stopped;
-    if stopped {
+    if is_stopped(s, budget) {
         return s;
     }
     let due = widths.len() - at;

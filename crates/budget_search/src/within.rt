@@ -1,18 +1,22 @@
 // The whole search with a spending limit (document 02, item 7), and its answer.
 use super::lists::over_lists;
+use super::place::BEST_PLACES;
 use super::place::BUDGET_BUSES;
 use super::place::BUDGET_MODULES;
 use super::place::BUSES_AT;
+use super::steps::NO_TIME;
 use super::steps::Progress;
+use super::steps::is_stopped;
+use super::steps::tries_of;
 use plan_search::Found;
 use units::Cycles;
 use units::Wires;
 ghost use mathlib.Core.Path.{_≡_};
-ghost use Prim.Native.Nat.{_+_, _≤_, min};
-ghost use lib.ListN.{length, getD};
+ghost use Prim.Native.Nat.{_≤_, min};
+ghost use lib.ListN.{getD};
 ghost use Rattle.units.specs.Places.{padded};
 ghost use Rattle.budget_rules.specs.Tries.{searched};
-ghost use Rattle.budget_search.specs.Steps.{busesMax, modulesMax, busesAt, planIn, heldIn};
+ghost use Rattle.budget_search.specs.Steps.{busesMax, modulesMax, planIn, heldIn};
 ghost use Rattle.plan_search.specs.Search.{tableTime};
 ghost use Rattle.budget_search.specs.Place.{Rooms};
 ghost use Rattle.budget_search.specs.Within.{Limits, noneFound, spentOf};
@@ -40,18 +44,16 @@ fn over_counts(
     limit: usize,
     n: usize,
     budget: u64,
-    best: &mut [u32],
+    best: &mut [u32; BEST_PLACES],
 ) -> Progress
-    requires { ⌜ Limits (now table) (wires .0) limit n budget × Rooms n (now best) ⌝ }
-    ensures { λ r. ⌜ (heldIn r (now (best .exit)) ≡ searched (tableTime (now (table .entry))) (wires .0) limit n budget)
-        × Rooms n (now (best .exit)) ⌝ }
+    requires { ⌜ Limits (now table) (wires .0) limit n budget × Rooms (now best) ⌝ }
+    ensures { λ r. ⌜ (heldIn n budget r (now (best .exit)) ≡ searched (tableTime (now (table .entry))) (wires .0) limit n budget)
+        × Rooms (now (best .exit)) ⌝ }
 {
     let most = most_buses(wires, limit);
     let mut widths = [0u32; BUDGET_BUSES];
     let mut r = Progress {
-        known: false,
-        stopped: false,
-        best: 0,
+        best: NO_TIME,
         tries: 0,
     };
     let mut c: usize = 1;
@@ -73,9 +75,9 @@ fn over_counts(
 }
 
 // The widths that the buffer holds.
-fn widths_in(best: &[u32]) -> [u32; BUDGET_BUSES]
-    requires { ⌜ (getD (now best) 0 0 ≤ busesMax) × (busesAt ≤ length (now best)) ⌝ }
-    ensures { λ r. ⌜ r ≡ padded busesMax 0 (planIn (now (best .entry)) .widths) ⌝ }
+fn widths_in(best: [u32; BEST_PLACES]) -> [u32; BUDGET_BUSES]
+    requires { ⌜ getD best 0 0 ≤ busesMax ⌝ }
+    ensures { λ r. ⌜ r ≡ padded busesMax 0 (planIn modulesMax best .widths) ⌝ }
 {
     let count = best[0] as usize;
     let mut widths = [0u32; BUDGET_BUSES];
@@ -87,32 +89,18 @@ fn widths_in(best: &[u32]) -> [u32; BUDGET_BUSES]
     widths
 }
 
-// The bus numbers that it holds.
-fn buses_in(best: &[u32]) -> [u32; BUDGET_MODULES]
-    requires { ⌜ (busesAt ≤ length (now best)) × (length (now best) ≤ modulesMax + busesAt) ⌝ }
-    ensures { λ r. ⌜ r ≡ padded modulesMax 0 (planIn (now (best .entry)) .buses) ⌝ }
+// The bus numbers of n modules that it holds, as an answer has them.
+fn buses_in(best: [u32; BEST_PLACES], n: usize) -> [u64; BUDGET_MODULES]
+    requires { ⌜ n ≤ modulesMax ⌝ }
+    ensures { λ r. ⌜ r ≡ padded modulesMax 0 (planIn n best .buses) ⌝ }
 {
-    let n = best.len() - BUSES_AT;
-    let mut buses = [0u32; BUDGET_MODULES];
+    let mut buses = [0u64; BUDGET_MODULES];
     let mut i: usize = 0;
     while i < n {
-        buses[i] = best[i + BUSES_AT];
+        buses[i] = best[i + BUSES_AT] as u64;
         i += 1;
     }
     buses
-}
-
-// Bus numbers as an answer has them.
-fn wide(buses: [u32; BUDGET_MODULES]) -> [u64; BUDGET_MODULES]
-    ensures { λ r. ⌜ r ≡ buses ⌝ }
-{
-    let mut list = [0u64; BUDGET_MODULES];
-    let mut i: usize = 0;
-    while i < BUDGET_MODULES {
-        list[i] = buses[i] as u64;
-        i += 1;
-    }
-    list
 }
 
 // Nothing was found.
@@ -127,31 +115,33 @@ fn none_found() -> Found
     }
 }
 
-// The answer.
-fn spent_of(s: Progress, best: &[u32]) -> Spent
-    requires { ⌜ (getD (now best) 0 0 ≤ busesMax) × (busesAt ≤ length (now best)) × (length (now best) ≤ modulesMax + busesAt) ⌝ }
-    ensures { λ r. ⌜ r ≡ spentOf (heldIn s (now (best .entry))) ⌝ }
+// The answer, from what goes along at the end of the search.
+fn spent_of(s: Progress, budget: u64, n: usize, best: [u32; BEST_PLACES]) -> Spent
+    requires { ⌜ (n ≤ modulesMax) × Rooms best ⌝ }
+    ensures { λ r. ⌜ r ≡ spentOf (heldIn n budget s best) ⌝ }
 {
-    let known = s.known;
-    if !known {
+    let stopped = is_stopped(s, budget);
+    let tries = tries_of(s, budget);
+    let time = s.best;
+    if NO_TIME <= time {
         return Spent {
             known: false,
-            stopped: s.stopped,
-            tries: s.tries,
+            stopped,
+            tries,
             found: none_found(),
         };
     }
     let widths = widths_in(best);
-    let buses = wide(buses_in(best));
+    let buses = buses_in(best, n);
     Spent {
         known: true,
-        stopped: s.stopped,
-        tries: s.tries,
+        stopped,
+        tries,
         found: Found {
             count: best[0] as usize,
             widths,
             buses,
-            time: Cycles(s.best),
+            time: Cycles(time),
         },
     }
 }
@@ -161,7 +151,7 @@ pub fn search_within(table: &[u64], wires: Wires, limit: usize, n: usize, budget
     requires { ⌜ Limits (now table) (wires .0) limit n budget ⌝ }
     ensures { λ r. ⌜ r ≡ spentOf (searched (tableTime (now (table .entry))) (wires .0) limit n budget) ⌝ }
 {
-    let mut best = [0u32; BUDGET_MODULES + BUSES_AT];
-    let r = over_counts(table, wires, limit, n, budget, &mut best[..n + BUSES_AT]);
-    spent_of(r, &best[..n + BUSES_AT])
+    let mut best = [0u32; BEST_PLACES];
+    let r = over_counts(table, wires, limit, n, budget, &mut best);
+    spent_of(r, budget, n, best)
 }

@@ -14,5 +14,7 @@ pub use place::FOUND_MODULES;
 pub use place::ROW_PLACES;
 pub use place::SEARCH_BUSES;
 pub use place::SEARCH_MODULES;
+pub use place::larger;
+pub use place::time_at;
 pub use widths::Found;
 pub use widths::search;

@@ -22,14 +22,14 @@ pub const FOUND_MODULES: usize = 39;
 pub const ROW_PLACES: usize = 64;
 
 // The time of module i, from 0, at width w.
-pub(crate) fn time_at(table: &[u64], i: usize, w: Wires) -> Cycles
+pub fn time_at(table: &[u64], i: usize, w: Wires) -> Cycles
     requires { ⌜ TimeIn (now table) i (w .0) ⌝ }
     ensures { λ r. ⌜ r .0 ≡ tableTime (now (table .entry)) i (w .0) ⌝ }
 {
     Cycles(table[i * ROW_PLACES + (w.0 as usize - 1)])
 }
 
-pub(crate) fn larger(a: Cycles, b: Cycles) -> Cycles
+pub fn larger(a: Cycles, b: Cycles) -> Cycles
     ensures { λ r. ⌜ r .0 ≡ max (a .0) (b .0) ⌝ }
 {
     if a.0 < b.0 { b } else { a }

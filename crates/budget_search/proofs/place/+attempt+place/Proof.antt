@@ -25,8 +25,8 @@ use Rattle.budget_search.proofs.place.keep_plan.Reads as keep-plan-read
 use Rattle.budget_search.proofs.steps.count.Reads as count-reads
 use Rattle.budget_search.proofs.steps.halt.Reads as halt-reads
 use Rattle.budget_search.proofs.steps.is_reached.Reads as is-reached-reads
-use Rattle.budget_search.proofs.place.larger.Reads as larger-reads
-use Rattle.budget_search.proofs.place.time_at.Reads as time-at-reads
+use Rattle.plan_search.proofs.larger.Reads as larger-reads
+use Rattle.plan_search.proofs.time_at.Reads as time-at-reads
 use Rattle.budget_search.proofs.place.+attempt+place.{statement}
 use Rattle.budget_search.proofs.place.+attempt+place.Tie.{close}
 
@@ -91,52 +91,60 @@ abbrev At-larger : ℕ → Type 0
 At-larger t = attempt-lts.After-larger (attempt-calls t) (attempt-at t) attempt.Post
 
 abbrev At-end : ℕ → Type 0
-At-end t = attempt-lts.After-slice-known7 (attempt-calls t) (attempt-at t) attempt.Post
+At-end t = attempt-lts.After-slice-known5 (attempt-calls t) (attempt-at t) attempt.Post
 
 abbrev time-start : (t : ℕ) → At-time t → attempt-lts.Start (attempt-calls t) (attempt-at t) attempt.Post
-time-start t g = g .before .before .before .before .before .before .before .before .before .before
+time-start t g = g .before .before .before .before .before .before .before .before .before
+
+abbrev larger-time : (t : ℕ) → At-larger t → At-time t
+larger-time t m = m .before .before .before .before
 
 abbrev end-larger : (t : ℕ) → At-end t → At-larger t
-end-larger t c = c .before .before .before .before .before .before .before .before .before .before
+end-larger t c = c .before .before .before .before .before .before .before .before
+
+abbrev end-start : (t : ℕ) → At-end t → attempt-lts.Start (attempt-calls t) (attempt-at t) attempt.Post
+end-start t c = time-start t (larger-time t (end-larger t c))
 
 -- the load is the definition's
 busy-is : (t : ℕ) (g : At-time t)
     → let a = time-start t g .args in
-    getD (a .loads .now) (a .b) 0 + g .time-at .result ≡ busyWith (tableTime (a .table .now)) (a .widths .now) (a .i) (a .loads .now) (a .b)
+    getD (a .loads .now) (a .b) 0 + g .time-at .result .0
+    ≡ busyWith (tableTime (a .table .now)) (a .widths .now) (a .i) (a .loads .now) (a .b)
 busy-is t g = let a = time-start t g .args in ap (λ x. getD (a .loads .now) (a .b) 0 + x) (g .time-at .ensures)
 
 -- the loads that come back from place are those that it was lent
 loads-back : (t : ℕ) (c : At-end t)
-    → let g = end-larger t c .before .before .before in
+    → let g = larger-time t (end-larger t c) in
     let a = time-start t g .args in
-    c .before .before .before .before .before .before .place .last .1 .1 .1 .1 .1 .0 ≡ set (a .loads .now) (a .b)
-    (getD (a .loads .now) (a .b) 0 + g .time-at .result)
-loads-back t c = c .before .before .before .before .before .before .place .ensures .loads-same
+    c .before .before .before .before .place .last .1 .1 .1 .1 .1 .0 ≡ set (a .loads .now) (a .b)
+    (getD (a .loads .now) (a .b) 0 + g .time-at .result .0)
+loads-back t c = c .before .before .before .before .place .ensures .loads-same
 
 -- the try was gone on with
 tried-on : (t : ℕ) (c : At-end t)
-    → let a = time-start t (end-larger t c .before .before .before) .args in
-    let last = c .before .before .before .before .before .before .place .last in
-    Placed (a .i) (a .loads .now) (set (last .1 .1 .1 .1 .1 .0) (a .b) (getD (a .loads .now) (a .b) 0)) (a .buses .now)
-    (last .1 .1 .1 .1 .1 .1 .0) (last .1 .1 .1 .1 .1 .1 .1 .0) (c .before .before .before .before .before .before .place .result)
+    → let a = end-start t c .args in
+    let last = c .before .before .before .before .place .last in
+    Placed (a .budget) (a .i) (a .loads .now) (set (last .1 .1 .1 .1 .1 .0) (a .b) (getD (a .loads .now) (a .b) 0)) (a .buses .now)
+    (last .1 .1 .1 .1 .1 .1 .0) (last .1 .1 .1 .1 .1 .1 .1 .0) (c .before .before .before .before .place .result)
     (attempted (tableTime (a .table .now)) (a .widths .now) (a .budget) (length (a .buses .now) - (a .i + 1)) (a .i) (a .loads .now)
-    (take (a .i) (a .buses .now)) (a .b) (heldIn (a .s) (a .best .now)))
+    (take (a .i) (a .buses .now)) (a .b) (heldIn (length (a .buses .now)) (a .budget) (a .s) (a .best .now)))
 tried-on t c =
     let e = end-larger t c .before in
-    let g = e .before .before in
+    let g = larger-time t (end-larger t c) in
     let n = g .before .before .before in
     let s = time-start t g in
-    attempt-on (s .pre .1 .0) (s .pre .1 .1 .0) (s .args .b) (s .pre .1 .1 .1) (s .args .s) (n .before .if1 .left) (n .count .ensures)
-    (busy-is t g) (sym (e .if2 .left) ∙ e .before .is-reached .ensures)
-    (c .before .before .before .before .before .before .place .ensures)
+    attempt-on (s .pre .1 .0) (s .pre .1 .1 .0) (s .args .b) (s .pre .1 .1 .1) (s .args .s)
+    (omega (arith, n .before .if1 .left)) (n .count .ensures) (busy-is t g) (sym (e .if2 .left) ∙ e .before .is-reached .ensures)
+    (c .before .before .before .before .place .ensures)
 
 attempt-halt-requires : (t : ℕ) → attempt-lts.Need-halt-requires (attempt-calls t) (attempt-at t) attempt.Post
 attempt-halt-requires t c κs = search needs
 
 attempt-returns : (t : ℕ) → attempt-lts.Need-returns (attempt-calls t) (attempt-at t) attempt.Post
 attempt-returns t c =
-    let s = c .before .before .before .before .before .before .before in
-    attempt-halted (s .pre .1 .0) (s .pre .1 .1 .0) (s .args .b) (s .pre .1 .1 .1) (s .args .s) (c .before .if1 .taken) (c .halt .ensures)
+    let s = c .before .before .before .before .before .before in
+    attempt-halted (s .pre .1 .0) (s .pre .1 .1 .0) (s .args .b) (s .pre .1 .1 .1) (s .args .s)
+    (omega (arith, c .before .if1 .taken)) (c .halt .ensures)
 
 attempt-count-requires : (t : ℕ) → attempt-lts.Need-count-requires (attempt-calls t) (attempt-at t) attempt.Post
 attempt-count-requires t c κs = search needs
@@ -155,24 +163,25 @@ attempt-slice-read-old t c = search needs
 
 attempt-time-at-requires : (t : ℕ) → attempt-lts.Need-time-at-requires (attempt-calls t) (attempt-at t) attempt.Post
 attempt-time-at-requires t c κs =
-    let s = c .before .before .before .before .before .before .before .before .before in
+    let s = c .before .before .before .before .before .before .before .before in
     time-in (s .pre .1 .0) (s .pre .1 .1 .0) (s .args .b) (s .pre .1 .1 .1)
 
 attempt-add-busy : (t : ℕ) → attempt-lts.Need-add-busy (attempt-calls t) (attempt-at t) attempt.Post
 attempt-add-busy t c =
-    let s = time-start t c in
+    let g = c .before in
+    let s = time-start t g in
     let m = busy-most (s .pre .1 .0) (s .pre .1 .1 .0) (s .args .b) in
-    omega (arith, m, c .time-at .ensures, s .pre .1 .0 .table .few, s .pre .1 .1 .0)
+    omega (arith, m, g .time-at .ensures, s .pre .1 .0 .table .few, s .pre .1 .1 .0)
 
 attempt-is-reached-requires : (t : ℕ) → attempt-lts.Need-is-reached-requires (attempt-calls t) (attempt-at t) attempt.Post
 attempt-is-reached-requires t c κs = search needs
 
 attempt-returns-2 : (t : ℕ) → attempt-lts.Need-returns-2 (attempt-calls t) (attempt-at t) attempt.Post
 attempt-returns-2 t c =
-    let g = c .before .before in
+    let g = c .before .before .before in
     let n = g .before .before .before in
     let s = time-start t g in
-    attempt-dropped (s .pre .1 .0) (s .pre .1 .1 .0) (s .args .b) (s .pre .1 .1 .1) (s .args .s) (n .before .if1 .left)
+    attempt-dropped (s .pre .1 .0) (s .pre .1 .1 .0) (s .args .b) (s .pre .1 .1 .1) (s .args .s) (omega (arith, n .before .if1 .left))
     (n .count .ensures) (busy-is t g) (sym (c .if2 .taken) ∙ c .before .is-reached .ensures)
 
 attempt-larger-requires : (t : ℕ) → attempt-lts.Need-larger-requires (attempt-calls t) (attempt-at t) attempt.Post
@@ -186,7 +195,7 @@ attempt-slice-write-loads t c = search needs
 
 attempt-cast-buses : (t : ℕ) → attempt-lts.Need-cast-buses (attempt-calls t) (attempt-at t) attempt.Post
 attempt-cast-buses t c =
-    let s = c .before .before .before .before .before .before .before .before .before .before .before .before .before in
+    let s = time-start t (larger-time t c) in
     omega (arith, s .pre .1 .0 .widths .few, s .pre .1 .1 .1)
 
 attempt-add-buses : (t : ℕ) → attempt-lts.Need-add-buses (attempt-calls t) (attempt-at t) attempt.Post
@@ -204,7 +213,7 @@ attempt-add-place t c = search needs
 attempt-place-requires : (t : ℕ) → attempt-lts.Need-place-requires (attempt-calls t) (attempt-at t) attempt.Post
 attempt-place-requires t c κs =
     let m = c .before .before .before in
-    let g = m .before .before .before in
+    let g = larger-time t m in
     let s = time-start t g in
     let n : length (set (s .args .buses .now) (s .args .i) (s .args .b + 1)) ≡ length (s .args .buses .now) =
     length-set (s .args .buses .now) (s .args .i) (s .args .b + 1) in
@@ -214,24 +223,24 @@ attempt-place-requires t c κs =
 
 attempt-mul-loads-2 : (t : ℕ) → attempt-lts.Need-mul-loads-2 (attempt-calls t) (attempt-at t) attempt.Post
 attempt-mul-loads-2 t c =
-    let s = time-start t (end-larger t c .before .before .before) in
+    let s = end-start t c in
     omega (arith, s .pre .1 .0 .widths .few, s .pre .1 .1 .1)
 
 attempt-slice-write-loads-2 : (t : ℕ) → attempt-lts.Need-slice-write-loads-2 (attempt-calls t) (attempt-at t) attempt.Post
 attempt-slice-write-loads-2 t c =
-    let s = time-start t (end-larger t c .before .before .before) in
+    let s = end-start t c in
     rw (loads-back t c, length-set) (omega (arith, s .pre .1 .0 .room, s .pre .1 .1 .1))
 
 attempt-same-length : (t : ℕ) → attempt-lts.Need-same-length (attempt-calls t) (attempt-at t) attempt.Post
-attempt-same-length t c = ap length (tried-on t c .loads-same)
+attempt-same-length t c =
+    let g = larger-time t (end-larger t c) in
+    let a = time-start t g .args in
+    simp length-set (ap length (loads-back t c) ∙ length-set (a .loads .now) (a .b) (getD (a .loads .now) (a .b) 0 + g .time-at .result .0))
 
 attempt-same-length-2 : (t : ℕ) → attempt-lts.Need-same-length-2 (attempt-calls t) (attempt-at t) attempt.Post
 attempt-same-length-2 t c =
-    let a = time-start t (end-larger t c .before .before .before) .args in
-    c .before .before .before .before .before .before .place .kept .1 .1 .1 .1 .1 .1 .0 ∙ length-set (a .buses .now) (a .i) (a .b + 1)
-
-attempt-same-length-3 : (t : ℕ) → attempt-lts.Need-same-length-3 (attempt-calls t) (attempt-at t) attempt.Post
-attempt-same-length-3 t c = search needs
+    let a = end-start t c .args in
+    c .before .before .before .before .place .kept .1 .1 .1 .1 .1 .1 .0 ∙ length-set (a .buses .now) (a .i) (a .b + 1)
 
 attempt-returns-3 : (t : ℕ) → attempt-lts.Need-returns-3 (attempt-calls t) (attempt-at t) attempt.Post
 attempt-returns-3 t c = tried-on t c
@@ -241,12 +250,12 @@ place-is-reached-requires t c κs = search needs
 
 place-returns : (t : ℕ) → place-lts.Need-returns (place-calls t) (place-at t) place.Post place-Inv-loop place-μ-loop
 place-returns t c =
-    let s = c .before .before .before .before .before .before .before .before in
+    let s = c .before .before .before .before .before .before .before in
     placed-reached (s .pre .1) (s .args .s) (c .before .before .if1 .taken) (sym (c .if2 .taken) ∙ c .before .is-reached .ensures)
 
 place-keep-plan-requires : (t : ℕ) → place-lts.Need-keep-plan-requires (place-calls t) (place-at t) place.Post place-Inv-loop place-μ-loop
 place-keep-plan-requires t c κs =
-    let s = c .before .before .before .before .before .before .before .before .before .before in
+    let s = c .before .before .before .before .before .before .before .before .before in
     (s .pre .1 .widths .few, s .pre .1 .table .few, s .pre .1 .rooms)
 
 place-completed-requires : (t : ℕ) → place-lts.Need-completed-requires (place-calls t) (place-at t) place.Post place-Inv-loop place-μ-loop
@@ -255,25 +264,22 @@ place-completed-requires t c κs = search needs
 place-same-length : (t : ℕ) → place-lts.Need-same-length (place-calls t) (place-at t) place.Post place-Inv-loop place-μ-loop
 place-same-length t c = search needs
 
-place-same-length-2 : (t : ℕ) → place-lts.Need-same-length-2 (place-calls t) (place-at t) place.Post place-Inv-loop place-μ-loop
-place-same-length-2 t c = search needs
-
 place-returns-2 : (t : ℕ) → place-lts.Need-returns-2 (place-calls t) (place-at t) place.Post place-Inv-loop place-μ-loop
 place-returns-2 t c =
-    let e = c .before .before .before .before .before .before in
-    let s = e .before .before .before .before .before .before .before .before in
+    let e = c .before .before .before .before in
+    let s = e .before .before .before .before .before .before .before in
     placed-kept (s .pre .1) (s .args .s) (e .before .before .if1 .taken) (sym (e .if2 .left) ∙ e .before .is-reached .ensures)
-    (c .before .before .before .keep-plan .ensures .0) (c .before .before .before .keep-plan .ensures .1) (c .completed .ensures)
+    (c .before .keep-plan .ensures .0) (c .before .keep-plan .ensures .1) (c .completed .ensures)
 
 place-loop-holds : (t : ℕ) → place-lts.Need-loop-holds (place-calls t) (place-at t) place.Post place-Inv-loop place-μ-loop
 place-loop-holds t c =
-    let s = c .before .before .before .before .before .before in
+    let s = c .before .before .before .before .before in
     left-start (s .pre .1) (omega (arith, s .pre .1 .upto, c .if1 .left)) (s .args .s)
 
 place-attempt-requires : (t : ℕ) → place-lts.Need-attempt-requires (place-calls t) (place-at t) place.Post place-Inv-loop place-μ-loop
 place-attempt-requires t c κs =
     let l = c .before .before .before .before in
-    let s = l .before .before .before .before .before .before .before in
+    let s = l .before .before .before .before .before .before in
     let n = l .loop .inv .buses-length in
     let h : s .args .i < length (l .loop .buses) = omega (arith, n, s .pre .1 .upto, l .before .if1 .left) in
     let f : (length (l .loop .buses) - s .args .i) * 2 < t = omega (arith, n, s .pre .0) in
@@ -287,19 +293,16 @@ place-loop-less t c = search needs
 
 place-loop-again : (t : ℕ) → place-lts.Need-loop-again (place-calls t) (place-at t) place.Post place-Inv-loop place-μ-loop
 place-loop-again t c =
-    let q = c .before .before .before .before .before .before in
+    let q = c .before .before .before .before in
     let l = q .before .before .before .before .before in
     left-tried (l .loop .inv) (q .before .before .before .before .loop-test .taken) (q .attempt .ensures)
-    (q .attempt .kept .1 .1 .1 .1 .1 .1 .1 .0) (q .attempt .kept .1 .1 .1 .1 .1 .1 .1 .1 .0)
+    (q .attempt .kept .1 .1 .1 .1 .1 .1 .1 .0)
+
+place-same-length-2 : (t : ℕ) → place-lts.Need-same-length-2 (place-calls t) (place-at t) place.Post place-Inv-loop place-μ-loop
+place-same-length-2 t c = search needs
 
 place-same-length-3 : (t : ℕ) → place-lts.Need-same-length-3 (place-calls t) (place-at t) place.Post place-Inv-loop place-μ-loop
 place-same-length-3 t c = search needs
-
-place-same-length-4 : (t : ℕ) → place-lts.Need-same-length-4 (place-calls t) (place-at t) place.Post place-Inv-loop place-μ-loop
-place-same-length-4 t c = search needs
-
-place-same-length-5 : (t : ℕ) → place-lts.Need-same-length-5 (place-calls t) (place-at t) place.Post place-Inv-loop place-μ-loop
-place-same-length-5 t c = search needs
 
 place-returns-3 : (t : ℕ) → place-lts.Need-returns-3 (place-calls t) (place-at t) place.Post place-Inv-loop place-μ-loop
 place-returns-3 t c = left-end (c .before .loop .inv) (c .loop-test .left)
@@ -332,7 +335,6 @@ pub +attempt+place-spec : {M : Type 1} → statement M
     (attempt-slice-write-loads-2 t)
     (attempt-same-length t)
     (attempt-same-length-2 t)
-    (attempt-same-length-3 t)
     (attempt-returns-3 t))
     λ t. place-lts.spec (place-calls t)
     (place-at t)
@@ -344,14 +346,12 @@ pub +attempt+place-spec : {M : Type 1} → statement M
     (place-keep-plan-requires t)
     (place-completed-requires t)
     (place-same-length t)
-    (place-same-length-2 t)
     (place-returns-2 t)
     (place-loop-holds t)
     (place-attempt-requires t)
     (place-add-b t)
     (place-loop-less t)
     (place-loop-again t)
+    (place-same-length-2 t)
     (place-same-length-3 t)
-    (place-same-length-4 t)
-    (place-same-length-5 t)
     (place-returns-3 t)

@@ -1,18 +1,16 @@
--- `place::put` meets its contract. The loop's invariant: the first i numbers stand from place `at` on, and all else is as it was.
--- Assumes nothing.
+-- `place::put` meets its contract. The loop's invariant is `Copied`: the first i numbers stand from place `at` on, and all else is as it
+-- was. Assumes nothing.
 use borrow.Author.Needs.{needs}
 use native.Mathlib.Omega.{arith}
-use Prim.Native.Nat.{_+_, _-_, _≤_}
-use mathlib.Core.Path.{_≡_, refl, sym, ap, _∙_}
-use mathlib.Core.List.{_++_}
-use lib.ListN.{length, take, drop, length-set, take-append-drop}
-use lib.Seq.{take-all}
-use Rattle.budget_search.proofs.CopyLaws.{overFirst, over-more}
+use Prim.Native.Nat.{_+_, _-_}
+use mathlib.Core.Path.{refl, _∙_}
+use lib.ListN.{length}
+use Rattle.plan_search.proofs.CopyLaws.{Copied, copied-first, copied-more, copied-all}
 use Rattle.budget_search.proofs.place.put.Statement.{statement}
 use Rattle.budget_search.proofs.place.put.Tie as tie
 
 abbrev Inv-loop : tie.InvT-loop
-Inv-loop from to₀ at i₀ to i = (i ≤ length from) × (length to ≡ length to₀) × (to ≡ overFirst from to₀ at i)
+Inv-loop from to₀ at i₀ to i = Copied from to₀ at to i
 
 abbrev μ-loop : tie.MeasureT-loop
 μ-loop from to₀ at i₀ to i = length from - i
@@ -20,8 +18,7 @@ abbrev μ-loop : tie.MeasureT-loop
 loop-holds : tie.Need-loop-holds Inv-loop μ-loop
 loop-holds c =
     let a = c .args in
-    let z : a .at + 0 ≡ a .at = omega arith in
-    (omega arith, refl, rw z (sym (take-append-drop (a .at) (a .to .now))))
+    copied-first (a .from .now) (a .to .now) (a .at) (omega (arith, c .pre .0, c .pre .1))
 
 mul-to : tie.Need-mul-to Inv-loop μ-loop
 mul-to c = search needs
@@ -35,8 +32,8 @@ add-to c = search needs
 mul-to-2 : tie.Need-mul-to-2 Inv-loop μ-loop
 mul-to-2 c = search needs
 
-slice-write-to : tie.Need-slice-write-to Inv-loop μ-loop
-slice-write-to c = search needs
+element-write-to : tie.Need-element-write-to Inv-loop μ-loop
+element-write-to c = search needs
 
 add-i : tie.Need-add-i Inv-loop μ-loop
 add-i c = search needs
@@ -48,23 +45,18 @@ loop-again : tie.Need-loop-again Inv-loop μ-loop
 loop-again c =
     let l = c .before .before .loop in
     let s = c .before .before .before in
-    let a = s .args in (
-      omega arith,
-      simp length-set (l .inv .1),
-      rw (l .inv .2)
-          (over-more (a .from .now) (a .to .now) (a .at) (l .i) (s .pre .0) (c .before .loop-test .taken)),
-    )
-
-same-length : tie.Need-same-length Inv-loop μ-loop
-same-length c = search needs
+    let a = s .args in
+    copied-more (a .from .now) (a .to .now) (a .at) (omega (arith, s .pre .0, s .pre .1)) (l .to) (l .i) (l .inv) (a .at + l .i) refl
+    (c .before .loop-test .taken)
 
 returns : tie.Need-returns Inv-loop μ-loop
 returns c =
     let l = c .before .loop in
-    let a = c .before .before .args in
-    let e : l .i ≡ length (a .from .now) = omega arith in
-    l .inv .2 ∙ rw e (ap (λ x. take (a .at) (a .to .now) ++ (x ++ drop (a .at + length (a .from .now)) (a .to .now)))
-    (take-all (length (a .from .now)) (a .from .now) (omega arith)))
+    let s = c .before .before in
+    let a = s .args in (
+      copied-all (a .from .now) (a .to .now) (a .at) (omega (arith, s .pre .0, s .pre .1)) (l .to) (l .i) (l .inv) (c .loop-test .left),
+      l .inv .same-length ∙ s .pre .1,
+    )
 
 pub put-spec : {M : Type 1} → statement M
 put-spec =
@@ -77,9 +69,8 @@ put-spec =
     shared-slice-read-to
     add-to
     mul-to-2
-    slice-write-to
+    element-write-to
     add-i
     loop-less
     loop-again
-    same-length
     returns)

@@ -1,25 +1,25 @@
 -- `within::buses_in` meets its contract. The loop's invariant: the array holds the bus numbers so far, padded with zeros. Assumes nothing.
 use borrow.Author.Needs.{needs}
 use native.Mathlib.Omega.{arith}
-use Prim.Native.Nat.{_-_, _≤_}
+use Prim.Native.Nat.{_+_, _-_, _≤_}
 use mathlib.Core.Path.{_≡_, refl, sym, ap, _∙_}
-use lib.ListN.{length, take, drop, length-set, length-drop}
-use lib.Seq.{take-all}
+use lib.ListN.{length, take, drop, length-set}
 use Rattle.units.specs.Places.{padded}
 use Rattle.units.proofs.PlaceLaws.{padded-none}
-use Rattle.budget_search.specs.Steps.{modulesMax, busesAt}
-use Rattle.budget_search.proofs.CopyLaws.{padded-more}
+use Rattle.budget_search.specs.Steps.{modulesMax, busesAt, bestPlaces}
+use Rattle.plan_search.proofs.CopyLaws.{padded-more}
 use Rattle.budget_search.proofs.within.buses_in.Statement.{statement}
 use Rattle.budget_search.proofs.within.buses_in.Tie as tie
 
 abbrev Inv-loop : tie.InvT-loop
-Inv-loop best n buses₀ i₀ buses i = (i ≤ n) × (length buses ≡ modulesMax) × (buses ≡ padded modulesMax 0 (take i (drop busesAt best)))
+Inv-loop n best buses₀ i₀ buses i = (i ≤ n) × (length buses ≡ modulesMax) × (buses ≡ padded modulesMax 0 (take i (drop busesAt best)))
 
 abbrev μ-loop : tie.MeasureT-loop
-μ-loop best n buses₀ i₀ buses i = n - i
+μ-loop n best buses₀ i₀ buses i = n - i
 
-sub-n : tie.Need-sub-n Inv-loop μ-loop
-sub-n c = search needs
+-- the places of the buffer
+len : (c : tie.Start Inv-loop μ-loop) → length (c .args .t1) ≡ bestPlaces
+len c = search needs
 
 loop-holds : tie.Need-loop-holds Inv-loop μ-loop
 loop-holds c = (omega arith, refl, sym (padded-none modulesMax 0))
@@ -30,8 +30,11 @@ add-buses c = search needs
 mul-buses : tie.Need-mul-buses Inv-loop μ-loop
 mul-buses c = search needs
 
-shared-slice-read-buses : tie.Need-shared-slice-read-buses Inv-loop μ-loop
-shared-slice-read-buses c = search needs
+array-read-buses : tie.Need-array-read-buses Inv-loop μ-loop
+array-read-buses c = search needs
+
+cast-buses : tie.Need-cast-buses Inv-loop μ-loop
+cast-buses c = search needs
 
 mul-buses-2 : tie.Need-mul-buses-2 Inv-loop μ-loop
 mul-buses-2 c = search needs
@@ -43,25 +46,26 @@ add-i : tie.Need-add-i Inv-loop μ-loop
 add-i c = search needs
 
 loop-less : tie.Need-loop-less Inv-loop μ-loop
-loop-less c = omega (arith, c .before .loop-test .taken)
+loop-less c = omega (arith, c .loop-test .taken)
 
 loop-again : tie.Need-loop-again Inv-loop μ-loop
 loop-again c =
-    let s = c .before .before .before in
-    let l = c .before .before .loop in
-    let h = c .before .loop-test .taken in (
+    let s = c .before .before in
+    let l = c .before .loop in
+    let h = c .loop-test .taken in (
       omega arith,
       simp length-set (l .inv .1),
-      rw (l .inv .2) (padded-more modulesMax (s .args .best .now) busesAt (l .i) (omega (arith, s .pre .1)) (omega (arith, s .pre .0))),
+      rw (l .inv .2)
+          (padded-more modulesMax (s .args .t1) busesAt (l .i) (l .i + busesAt) (omega (arith, s .pre)) refl
+          (omega (arith, len s, s .pre))),
     )
 
 returns : tie.Need-returns Inv-loop μ-loop
 returns c =
     let l = c .before .loop in
-    let best = c .before .before .args .best .now in
-    let e : take (l .i) (drop busesAt best) ≡ drop busesAt best =
-    take-all (l .i) (drop busesAt best) (simp length-drop (omega (arith, c .loop-test .left))) in
-    l .inv .2 ∙ ap (padded modulesMax 0) e
+    let a = c .before .before .args in
+    let e : l .i ≡ a .n = omega (arith, l .inv .0, c .loop-test .left) in
+    l .inv .2 ∙ ap (λ j. padded modulesMax 0 (take j (drop busesAt (a .t1)))) e
 
 pub buses-in-spec : {M : Type 1} → statement M
 buses-in-spec =
@@ -69,11 +73,11 @@ buses-in-spec =
     (tie.spec
     Inv-loop
     μ-loop
-    sub-n
     loop-holds
     add-buses
     mul-buses
-    shared-slice-read-buses
+    array-read-buses
+    cast-buses
     mul-buses-2
     array-write-buses
     add-i

@@ -3,7 +3,7 @@
 use borrow.Author.Needs.{needs}
 use native.Mathlib.Omega.{arith}
 use Prim.Native.Nat.{_+_, _-_}
-use mathlib.Core.Path.{refl, sym, _∙_}
+use mathlib.Core.Path.{refl}
 use lib.ListN.{length-take}
 use Rattle.budget_search.proofs.CountLaws.{Counted, counted-first, counted-last, few, begun-all, counted-next}
 use Rattle.budget_search.proofs.within.over_counts.Statement.{statement}
@@ -20,13 +20,13 @@ most-buses-requires c κs = search needs
 
 loop-holds : tie.Need-loop-holds Inv-loop μ-loop
 loop-holds c =
-    let s = c .before .before .before in
+    let s = c .before .before in
     let a = s .args in
     counted-first (a .table .now) (a .wires .0) (a .limit) (a .n) (a .budget) (c .most-buses .ensures) refl (s .pre .1)
 
 array-borrow-prefix-widths : tie.Need-array-borrow-prefix-widths Inv-loop μ-loop
 array-borrow-prefix-widths c =
-    let s = c .before .before .before .before .before in
+    let s = c .before .before .before .before in
     let a = s .args in
     let l = c .before .loop in
     omega (
@@ -38,7 +38,7 @@ array-borrow-prefix-widths c =
 
 slice-aggregate-over-lists : tie.Need-slice-aggregate-over-lists Inv-loop μ-loop
 slice-aggregate-over-lists c =
-    let s = c .before .before .before .before .before .before in
+    let s = c .before .before .before .before .before in
     let a = s .args in
     let l = c .before .before .loop in
     simp length-take (omega (
@@ -50,43 +50,40 @@ slice-aggregate-over-lists c =
 
 over-lists-requires : tie.Need-over-lists-requires Inv-loop μ-loop
 over-lists-requires c κs =
-    let s = c .before .before .before .before .before .before .before in
+    let s = c .before .before .before .before .before .before in
     let a = s .args in
     let l = c .before .before .before .loop in
     let g = begun-all (a .table .now) (a .wires .0) (a .limit) (a .n) (a .budget) (l .inv) (s .pre .0)
     (omega (arith, c .before .before .loop-test .taken)) in
-    (s .pre .0 .table, s .pre .0 .modules, s .pre .0 .spending, l .inv .rooms, g, l .inv .spends)
+    (s .pre .0 .table, s .pre .0 .modules, s .pre .0 .spending, l .inv .rooms, g)
 
 add-c : tie.Need-add-c Inv-loop μ-loop
 add-c c =
-    let s = c .before .before .before .before .before .before .before .before .before .before .before in
+    let s = c .before .before .before .before .before .before .before .before in
     let a = s .args in
-    let l = c .before .before .before .before .before .before .before .loop in
+    let l = c .before .before .before .before .before .loop in
     omega (
       arith,
       few (a .table .now) (a .wires .0) (a .limit) (a .n) (a .budget) (l .inv) (s .pre .0)
-          (omega (arith, c .before .before .before .before .before .before .loop-test .taken)),
+          (omega (arith, c .before .before .before .before .loop-test .taken)),
     )
 
 loop-less : tie.Need-loop-less Inv-loop μ-loop
-loop-less c = omega (arith, c .before .before .before .before .before .before .loop-test .taken)
+loop-less c = omega (arith, c .before .before .before .before .loop-test .taken)
 
 loop-again : tie.Need-loop-again Inv-loop μ-loop
 loop-again c =
-    let s = c .before .before .before .before .before .before .before .before .before .before .before in
+    let s = c .before .before .before .before .before .before .before .before in
     let a = s .args in
-    let l = c .before .before .before .before .before .before .before .loop in
-    let o = c .before .before .before .over-lists in
+    let l = c .before .before .before .before .before .loop in
+    let o = c .before .over-lists in
     counted-next (a .table .now) (a .wires .0) (a .limit) (a .n) (a .budget) (l .inv) (s .pre .0)
-    (omega (arith, c .before .before .before .before .before .before .loop-test .taken))
+    (omega (arith, c .before .before .before .before .loop-test .taken))
     (o .last .1 .1 .1 .1 .1 .1 .0) (o .kept .1 .1 .1 .1 .1 .1 .0) (o .ensures .1) (o .ensures .0)
-
-same-length : tie.Need-same-length Inv-loop μ-loop
-same-length c = c .before .loop .inv .rooms .places ∙ sym (c .before .before .before .before .before .pre .1 .places)
 
 returns : tie.Need-returns Inv-loop μ-loop
 returns c =
-    let a = c .before .before .before .before .before .args in
+    let a = c .before .before .before .before .args in
     let l = c .before .loop in
     (counted-last (a .table .now) (a .wires .0) (a .limit) (a .n) (a .budget) (l .inv) (c .loop-test .left), l .inv .rooms)
 
@@ -104,5 +101,4 @@ over-counts-spec =
     add-c
     loop-less
     loop-again
-    same-length
     returns)

@@ -1,13 +1,13 @@
 -- `within::widths_in` meets its contract. The loop's invariant: the array holds the widths so far, padded with zeros. Assumes nothing.
 use borrow.Author.Needs.{needs}
 use native.Mathlib.Omega.{arith}
-use Prim.Native.Nat.{_-_, _≤_}
+use Prim.Native.Nat.{_+_, _-_, _≤_}
 use mathlib.Core.Path.{_≡_, refl, sym, ap, _∙_}
 use lib.ListN.{length, getD, take, drop, length-set}
 use Rattle.units.specs.Places.{padded}
 use Rattle.units.proofs.PlaceLaws.{padded-none}
-use Rattle.budget_search.specs.Steps.{busesMax}
-use Rattle.budget_search.proofs.CopyLaws.{padded-more}
+use Rattle.budget_search.specs.Steps.{busesMax, bestPlaces}
+use Rattle.plan_search.proofs.CopyLaws.{padded-more}
 use Rattle.budget_search.proofs.within.widths_in.Statement.{statement}
 use Rattle.budget_search.proofs.within.widths_in.Tie as tie
 
@@ -17,8 +17,12 @@ Inv-loop best count widths₀ i₀ widths i = (i ≤ count) × (length widths �
 abbrev μ-loop : tie.MeasureT-loop
 μ-loop best count widths₀ i₀ widths i = count - i
 
-shared-slice-read-count : tie.Need-shared-slice-read-count Inv-loop μ-loop
-shared-slice-read-count c = search needs
+-- the places of the buffer
+len : (c : tie.Start Inv-loop μ-loop) → length (c .args .t1) ≡ bestPlaces
+len c = search needs
+
+array-read-count : tie.Need-array-read-count Inv-loop μ-loop
+array-read-count c = search needs
 
 cast-count : tie.Need-cast-count Inv-loop μ-loop
 cast-count c = search needs
@@ -32,8 +36,8 @@ add-widths c = search needs
 mul-widths : tie.Need-mul-widths Inv-loop μ-loop
 mul-widths c = search needs
 
-shared-slice-read-widths : tie.Need-shared-slice-read-widths Inv-loop μ-loop
-shared-slice-read-widths c = search needs
+array-read-widths : tie.Need-array-read-widths Inv-loop μ-loop
+array-read-widths c = search needs
 
 mul-widths-2 : tie.Need-mul-widths-2 Inv-loop μ-loop
 mul-widths-2 c = search needs
@@ -45,22 +49,23 @@ add-i : tie.Need-add-i Inv-loop μ-loop
 add-i c = search needs
 
 loop-less : tie.Need-loop-less Inv-loop μ-loop
-loop-less c = omega (arith, c .before .loop-test .taken)
+loop-less c = omega (arith, c .loop-test .taken)
 
 loop-again : tie.Need-loop-again Inv-loop μ-loop
 loop-again c =
-    let s = c .before .before .before .before in
-    let l = c .before .before .loop in
-    let h = c .before .loop-test .taken in (
+    let s = c .before .before in
+    let l = c .before .loop in
+    let h = c .loop-test .taken in (
       omega arith,
       simp length-set (l .inv .1),
-      rw (l .inv .2) (padded-more busesMax (s .args .best .now) 1 (l .i) (omega (arith, s .pre .0)) (omega (arith, s .pre .0, s .pre .1))),
+      rw (l .inv .2)
+          (padded-more busesMax (s .args .t1) 1 (l .i) (l .i + 1) (omega (arith, s .pre)) refl (omega (arith, len s, s .pre))),
     )
 
 returns : tie.Need-returns Inv-loop μ-loop
 returns c =
     let l = c .before .loop in
-    let best = c .before .before .before .args .best .now in
+    let best = c .before .before .args .t1 in
     let e : l .i ≡ getD best 0 0 = omega (arith, l .inv .0, c .loop-test .left) in
     l .inv .2 ∙ ap (λ j. padded busesMax 0 (take j (drop 1 best))) e
 
@@ -70,12 +75,12 @@ widths-in-spec =
     (tie.spec
     Inv-loop
     μ-loop
-    shared-slice-read-count
+    array-read-count
     cast-count
     loop-holds
     add-widths
     mul-widths
-    shared-slice-read-widths
+    array-read-widths
     mul-widths-2
     array-write-widths
     add-i

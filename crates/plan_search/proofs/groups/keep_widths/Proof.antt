@@ -1,4 +1,4 @@
--- `groups::keep_widths` meets its contract. The loop's invariant is `Behind`: the widths before i stand behind their count.
+-- `groups::keep_widths` meets its contract. The loop's invariant is `Copied`: the widths before i stand behind their count.
 -- Assumes nothing.
 use borrow.Author.Needs.{needs}
 use native.Mathlib.Omega.{arith}
@@ -6,12 +6,12 @@ use Prim.Native.Nat.{_+_, _-_, _<_}
 use mathlib.Core.Path.{_∙_}
 use lib.ListN.{length, set, length-set}
 use lib.Seq.{getD-set-same, drop-set-lt}
-use Rattle.plan_search.proofs.CopyLaws.{Behind, behind-first, behind-more, behind-all}
+use Rattle.plan_search.proofs.CopyLaws.{Copied, copied-first, copied-more, copied-all, over-behind}
 use Rattle.plan_search.proofs.groups.keep_widths.Statement.{statement}
 use Rattle.plan_search.proofs.groups.keep_widths.Tie as tie
 
 abbrev Inv-loop : tie.InvT-loop
-Inv-loop widths found₀ i₀ found i = (length widths < length found₀) × Behind widths found₀ found i
+Inv-loop widths found₀ i₀ found i = (length widths < length found₀) × Copied widths found₀ 1 found i
 
 abbrev μ-loop : tie.MeasureT-loop
 μ-loop widths found₀ i₀ found i = length widths - i
@@ -26,7 +26,7 @@ loop-holds : tie.Need-loop-holds Inv-loop μ-loop
 loop-holds c =
     let found₀ = set (c .args .found .now) 0 (length (c .args .widths .now)) in
     let r : length (c .args .widths .now) < length found₀ = rw length-set (c .pre .1) in
-    (r, behind-first (c .args .widths .now) found₀ r)
+    (r, copied-first (c .args .widths .now) found₀ 1 (omega arith))
 
 mul-found : tie.Need-mul-found Inv-loop μ-loop
 mul-found c = search needs
@@ -56,7 +56,8 @@ loop-again c =
     let l = c .before .before .loop in
     let a = c .before .before .before .args in
     let found₀ = set (a .found .now) 0 (length (a .widths .now)) in
-    (l .inv .0, behind-more (a .widths .now) found₀ (l .inv .0) (l .found) (l .i) (l .inv .1) (c .before .loop-test .taken))
+    let h = c .before .loop-test .taken in
+    (l .inv .0, copied-more (a .widths .now) found₀ 1 (omega (arith, l .inv .0)) (l .found) (l .i) (l .inv .1) (l .i + 1) (omega arith) h)
 
 same-length : tie.Need-same-length Inv-loop μ-loop
 same-length c =
@@ -68,7 +69,9 @@ returns c =
     let l = c .before .loop in
     let a = c .before .before .args in
     let n = length (a .widths .now) in
-    behind-all (a .widths .now) (set (a .found .now) 0 n) (l .inv .0) (l .found) (l .i) (l .inv .1) (c .loop-test .left)
+    let found₀ = set (a .found .now) 0 n in
+    copied-all (a .widths .now) found₀ 1 (omega (arith, l .inv .0)) (l .found) (l .i) (l .inv .1) (c .loop-test .left)
+    ∙ over-behind (a .widths .now) found₀ (omega (arith, l .inv .0))
     ∙ rw (
       getD-set-same (a .found .now) 0 n 0 (omega (arith, c .before .before .pre .1)),
       drop-set-lt (n + 1) (a .found .now) 0 n (omega arith),

@@ -47,11 +47,12 @@ loop-again c =
     let s = c .before .before .before in
     let l = c .before .before .loop in
     let h = c .before .loop-test .taken in
-    let e : l .i + 1 - 1 ≡ l .i = omega arith in (
+    let e : l .i + 1 - 1 ≡ l .i - 1 + 1 = omega (arith, l .inv .0) in (
       omega arith,
       omega arith,
       simp length-set (l .inv .2),
-      rw (e, l .inv .3) (padded-more foundModules (s .args .best .now) (l .i - 1) (l .i) (omega (arith, s .pre .1)) (omega (arith, l .inv .0)) h),
+      rw (e, l .inv .3)
+          (padded-more foundModules (s .args .best .now) 1 (l .i - 1) (l .i) (omega (arith, s .pre .1)) (omega (arith, l .inv .0)) h),
     )
 
 returns : tie.Need-returns Inv-loop μ-loop

@@ -54,7 +54,7 @@ loop-again c =
     let h = c .before .loop-test .taken in (
       omega arith,
       simp length-set (l .inv .1),
-      rw (l .inv .2) (padded-more foundBuses (s .args .found .now) (l .i) (l .i + 1) (omega (arith, s .pre .1)) refl (omega (arith, s .pre .2))),
+      rw (l .inv .2) (padded-more foundBuses (s .args .found .now) 1 (l .i) (l .i + 1) (omega (arith, s .pre .1)) refl (omega (arith, s .pre .2))),
     )
 
 returns : tie.Need-returns Inv-loop μ-loop
