@@ -57,7 +57,7 @@ fn keep_plan(widths: &[u32], buses: &[u32], best: &mut [u32; BEST_PLACES])
     put(buses, &mut *best, BUSES_AT);
 }
 
-// Module i and those behind it on each bus in turn. top is the largest busy figure.
+// Module i and those behind it on each bus in turn: on the first one when all are left. top is the largest busy figure.
 pub(crate) fn place(
     table: &[u64],
     widths: &[u32],
@@ -81,22 +81,23 @@ pub(crate) fn place(
         keep_plan(widths, &*buses, &mut *best);
         return completed(s, top);
     }
+    let n = widths.len();
     let mut r = s;
-    let mut b: usize = 0;
-    while b < widths.len() {
+    let mut left = n;
+    while left > 0 {
         r = attempt(
             table,
             widths,
             budget,
             i,
             top,
-            b,
+            n - left,
             &mut *loads,
             &mut *buses,
             &mut *best,
             r,
         );
-        b += 1;
+        left -= 1;
     }
     r
 }

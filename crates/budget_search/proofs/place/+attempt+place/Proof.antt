@@ -1,10 +1,10 @@
 -- The cycle of calls of `place::attempt` and `place::place` meets its contracts. The measure is twice the number of modules that are left,
--- and one more for `place`. The loop's invariant, `Left`: the definition from the start is what is left of it from bus b on, at the
--- present record and buffer; the busy figures and the bus numbers before i are those at the start. Assumes nothing.
+-- and one more for `place`. The loop's invariant, `Left`: the definition from the start is what is left of it, over so many of the n buses,
+-- at the present record and buffer; the busy figures and the bus numbers before i are those at the start. Assumes nothing.
 use borrow.Author.Needs.{needs}
 use native.Mathlib.Omega.{arith}
-use Prim.Native.Nat.{ℕ, _+_, _-_, _*_, _<_}
-use mathlib.Core.Path.{_≡_, sym, ap, _∙_}
+use Prim.Native.Nat.{ℕ, _+_, _-_, _*_, _≤_, _<_}
+use mathlib.Core.Path.{_≡_, refl, sym, ap, _∙_}
 use lib.ListN.{length, getD, take, set, length-set}
 use Rattle.budget_search.specs.Steps.{heldIn}
 use Rattle.plan_search.specs.Search.{tableTime}
@@ -77,11 +77,11 @@ place-calls t = (
 )
 
 abbrev place-Inv-loop : place-lts.InvT-loop
-place-Inv-loop table widths budget i top loads₀ buses₀ best₀ r₀ b₀ loads buses best r b =
-    Left table widths budget i loads₀ buses₀ best₀ r₀ loads buses best r b
+place-Inv-loop table widths budget i top loads₀ buses₀ best₀ n r₀ left₀ loads buses best r left =
+    (n ≡ length widths) × (left ≤ n) × Left table widths budget i loads₀ buses₀ best₀ r₀ loads buses best r (n - left)
 
 abbrev place-μ-loop : place-lts.MeasureT-loop
-place-μ-loop table widths budget i top loads₀ buses₀ best₀ r₀ b₀ loads buses best r b = length widths - b
+place-μ-loop table widths budget i top loads₀ buses₀ best₀ n r₀ left₀ loads buses best r left = left
 
 -- the places of `attempt` that the needs below look back from, and the call's start from each
 abbrev At-time : ℕ → Type 0
@@ -274,29 +274,37 @@ place-returns-2 t c =
 place-loop-holds : (t : ℕ) → place-lts.Need-loop-holds (place-calls t) (place-at t) place.Post place-Inv-loop place-μ-loop
 place-loop-holds t c =
     let s = c .before .before .before .before .before in
-    left-start (s .pre .1) (omega (arith, s .pre .1 .upto, c .if1 .left)) (s .args .s)
+    let n = length (s .args .widths .now) in
+    let z : n - n ≡ 0 = omega arith in
+    (refl, omega arith, rw z (left-start (s .pre .1) (omega (arith, s .pre .1 .upto, c .if1 .left)) (s .args .s)))
+
+place-sub-attempt : (t : ℕ) → place-lts.Need-sub-attempt (place-calls t) (place-at t) place.Post place-Inv-loop place-μ-loop
+place-sub-attempt t c = omega (arith, c .before .loop .inv .1)
 
 place-attempt-requires : (t : ℕ) → place-lts.Need-attempt-requires (place-calls t) (place-at t) place.Post place-Inv-loop place-μ-loop
 place-attempt-requires t c κs =
     let l = c .before .before .before .before in
     let s = l .before .before .before .before .before .before in
-    let n = l .loop .inv .buses-length in
-    let h : s .args .i < length (l .loop .buses) = omega (arith, n, s .pre .1 .upto, l .before .if1 .left) in
-    let f : (length (l .loop .buses) - s .args .i) * 2 < t = omega (arith, n, s .pre .0) in
-    (f, (left-ready (l .loop .inv) (s .pre .1), (h, c .before .before .before .loop-test .taken)))
+    let v = l .loop .inv in
+    let h : s .args .i < length (l .loop .buses) = omega (arith, v .2 .buses-length, s .pre .1 .upto, l .before .if1 .left) in
+    let f : (length (l .loop .buses) - s .args .i) * 2 < t = omega (arith, v .2 .buses-length, s .pre .0) in
+    (f, (left-ready (v .2) (s .pre .1), (h, omega (arith, v .0, v .1, c .before .before .before .loop-test .taken))))
 
-place-add-b : (t : ℕ) → place-lts.Need-add-b (place-calls t) (place-at t) place.Post place-Inv-loop place-μ-loop
-place-add-b t c = search needs
+place-sub-left : (t : ℕ) → place-lts.Need-sub-left (place-calls t) (place-at t) place.Post place-Inv-loop place-μ-loop
+place-sub-left t c = omega (arith, c .before .before .before .before .before .before .before .before .loop-test .taken)
 
 place-loop-less : (t : ℕ) → place-lts.Need-loop-less (place-calls t) (place-at t) place.Post place-Inv-loop place-μ-loop
-place-loop-less t c = search needs
+place-loop-less t c = omega (arith, c .before .before .before .before .before .before .before .before .loop-test .taken)
 
 place-loop-again : (t : ℕ) → place-lts.Need-loop-again (place-calls t) (place-at t) place.Post place-Inv-loop place-μ-loop
 place-loop-again t c =
     let q = c .before .before .before .before in
     let l = q .before .before .before .before .before in
-    left-tried (l .loop .inv) (q .before .before .before .before .loop-test .taken) (q .attempt .ensures)
-    (q .attempt .kept .1 .1 .1 .1 .1 .1 .1 .0)
+    let v = l .loop .inv in
+    let h = q .before .before .before .before .loop-test .taken in
+    let n = length (l .before .before .before .before .before .before .args .widths .now) in
+    let e : n - (l .loop .left - 1) ≡ n - l .loop .left + 1 = omega (arith, v .0, v .1, h) in
+    (v .0, omega (arith, v .1), rw e (left-tried (v .2) (omega (arith, v .0, v .1, h)) (q .attempt .ensures) (q .attempt .kept .1 .1 .1 .1 .1 .1 .1 .0)))
 
 place-same-length-2 : (t : ℕ) → place-lts.Need-same-length-2 (place-calls t) (place-at t) place.Post place-Inv-loop place-μ-loop
 place-same-length-2 t c = search needs
@@ -305,7 +313,7 @@ place-same-length-3 : (t : ℕ) → place-lts.Need-same-length-3 (place-calls t)
 place-same-length-3 t c = search needs
 
 place-returns-3 : (t : ℕ) → place-lts.Need-returns-3 (place-calls t) (place-at t) place.Post place-Inv-loop place-μ-loop
-place-returns-3 t c = left-end (c .before .loop .inv) (c .loop-test .left)
+place-returns-3 t c = let v = c .before .loop .inv in left-end (v .2) (omega (arith, v .0, c .loop-test .left))
 
 pub +attempt+place-spec : {M : Type 1} → statement M
 +attempt+place-spec = close μ-attempt μ-place (λ t. attempt-lts.spec (attempt-calls t)
@@ -348,8 +356,9 @@ pub +attempt+place-spec : {M : Type 1} → statement M
     (place-same-length t)
     (place-returns-2 t)
     (place-loop-holds t)
+    (place-sub-attempt t)
     (place-attempt-requires t)
-    (place-add-b t)
+    (place-sub-left t)
     (place-loop-less t)
     (place-loop-again t)
     (place-same-length-2 t)
