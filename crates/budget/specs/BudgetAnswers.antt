@@ -2,29 +2,29 @@
 -- budget of 0 or over 1,099,511,627,776; 10 is not given here."
 use Rattle.std.specs.Prelude.{ℕ, Bool, true, false, cond, ◌&&◌, length, leb}
 use Rattle.units.specs.Refusals.{accepted, refused}
-use Rattle.soc.specs.Rules.{goodSoc}
-use Rattle.soc.specs.Planned.{plannedOf}
+use Rattle.soc.specs.Rules.{good_soc}
+use Rattle.soc.specs.Planned.{planned_of}
 use Rattle.soc.specs.declared.record.Soc.{Soc}
-use Rattle.wrapper_fit.specs.Maxima.{widthMax, captureMax}
-use Rattle.plan_record.specs.Record.{noPlan}
+use Rattle.wrapper_fit.specs.Maxima.{width_max, capture_max}
+use Rattle.plan_record.specs.Record.{no_plan}
 use Rattle.plan_record.specs.declared.record.BusPlan.{BusPlan}
-use Rattle.plan.specs.PlanAnswers.{timeIn, recordOf}
+use Rattle.plan.specs.PlanAnswers.{time_in, record_of}
 use Rattle.budget_rules.specs.Tries.{Best, Sought, searched}
 use Rattle.budget.specs.declared.answer.Ended.{Ended}
 use Rattle.budget.specs.declared.answer.Ended.TheVariants as ended
 use Rattle.budget.specs.declared.answer.BudgetAnswer.{BudgetAnswer}
 
 -- "B from 1 to 8"
-abbrev pub limitMax : ℕ
-limitMax = 8
+abbrev pub limit_max : ℕ
+limit_max = 8
 
 -- "18 for a budget of 0 or over 1,099,511,627,776"
-abbrev pub budgetMax : ℕ
-budgetMax = 1099511627776
+abbrev pub budget_max : ℕ
+budget_max = 1099511627776
 
 -- the search over the planned modules with c capture cycles
-unfoldable pub soughtFor : ℕ → Soc → ℕ → ℕ → ℕ → Sought
-soughtFor c s W B budget = searched (timeIn c s) W B (length (plannedOf s)) budget
+unfoldable pub sought_for : ℕ → Soc → ℕ → ℕ → ℕ → Sought
+sought_for c s W B budget = searched (time_in c s) W B (length (planned_of s)) budget
 
 -- "It answers finished .. exactly when the search needs no more tries than the budget; else unfinished": where it was stopped, a try was due
 -- with the budget spent
@@ -32,13 +32,13 @@ abbrev pub ended_as : Bool → Ended
 ended_as stopped = cond stopped ended.Unfinished ended.Finished
 
 -- is a plan known, and its record
-unfoldable pub isKnown : Best → Bool
-isKnown Best.unknown = false
-isKnown (Best.known t p) = true
+unfoldable pub is_known : Best → Bool
+is_known Best.unknown = false
+is_known (Best.known t p) = true
 
-unfoldable pub recordMet : ℕ → Soc → ℕ → ℕ → Best → BusPlan
-recordMet c s W B Best.unknown = noPlan
-recordMet c s W B (Best.known t p) = recordOf c s W B p
+unfoldable pub record_met : ℕ → Soc → ℕ → ℕ → Best → BusPlan
+record_met c s W B Best.unknown = no_plan
+record_met c s W B (Best.known t p) = record_of c s W B p
 
 -- "The reported count equals the tries of this definition", and the plan is "the best plan met"
 abbrev pub answer_of : ℕ → Soc → ℕ → ℕ → Sought → BudgetAnswer
@@ -47,23 +47,23 @@ answer_of c s W B r =
       refusal = accepted;
       ended = ended_as r.stopped;
       tries = r.tries;
-      known = isKnown r.best;
-      plan = recordMet c s W B r.best;
+      known = is_known r.best;
+      plan = record_met c s W B r.best;
     }
 
-abbrev pub refusedBudget : ℕ → BudgetAnswer
-refusedBudget n = record { refusal = refused n 0; ended = ended.Unfinished; tries = 0; known = false; plan = noPlan }
+abbrev pub refused_budget : ℕ → BudgetAnswer
+refused_budget n = record { refusal = refused n 0; ended = ended.Unfinished; tries = 0; known = false; plan = no_plan }
 
-unfoldable pub budgetAnswer : Soc → ℕ → ℕ → ℕ → ℕ → BudgetAnswer
-budgetAnswer s W B c budget =
-    cond (goodSoc s)
-    (cond (leb 1 W && leb W widthMax)
-    (cond (leb 1 B && leb B limitMax)
-    (cond (leb 1 c && leb c captureMax)
-    (cond (leb 1 (length (plannedOf s)))
-    (cond (leb 1 budget && leb budget budgetMax) (answer_of c s W B (soughtFor c s W B budget)) (refusedBudget 18))
-    (refusedBudget 9))
-    (refusedBudget 16))
-    (refusedBudget 8))
-    (refusedBudget 7))
-    (refusedBudget 14)
+unfoldable pub budget_answer : Soc → ℕ → ℕ → ℕ → ℕ → BudgetAnswer
+budget_answer s W B c budget =
+    cond (good_soc s)
+    (cond (leb 1 W && leb W width_max)
+    (cond (leb 1 B && leb B limit_max)
+    (cond (leb 1 c && leb c capture_max)
+    (cond (leb 1 (length (planned_of s)))
+    (cond (leb 1 budget && leb budget budget_max) (answer_of c s W B (sought_for c s W B budget)) (refused_budget 18))
+    (refused_budget 9))
+    (refused_budget 16))
+    (refused_budget 8))
+    (refused_budget 7))
+    (refused_budget 14)

@@ -2,8 +2,8 @@
 // them within the budget, and the record of the best plan met.
 ghost use Rattle.std.specs.Prelude.{◌≡◌, ◌≤◌};
 ghost use Rattle.plan.specs.Tables.{Plannable};
-ghost use Rattle.budget.specs.BudgetAnswers.{limitMax, budgetMax, soughtFor, ended_as, answer_of, refusedBudget, budgetAnswer};
-ghost use Rattle.budget.specs.Met.{limitsRefused, metIn, Kept};
+ghost use Rattle.budget.specs.BudgetAnswers.{limit_max, budget_max, sought_for, ended_as, answer_of, refused_budget, budget_answer};
+ghost use Rattle.budget.specs.Met.{limits_refused, met_in, Kept};
 
 use super::answer::{BudgetAnswer, Ended};
 use super::limits::{BUDGET_MAX, BUS_LIMIT_MAX};
@@ -15,7 +15,7 @@ use units::{CaptureCycles, Refusal, Wires};
 use wrapper_fit::{CAPTURE_MAX, WIDTH_MAX};
 
 fn refused_budget(n: u8) -> BudgetAnswer
-    ensures { result ≡ refusedBudget n }
+    ensures { result ≡ refused_budget n }
 {
     BudgetAnswer {
         refusal: Refusal::at(n, 0),
@@ -39,7 +39,7 @@ fn ended_as(stopped: bool) -> Ended
 // The record of the best plan met, where one is known.
 fn record_met(p: Planned, t: Tables, wires: Wires, limit: u32, spent: Spent) -> BusPlan
     requires { Kept p t spent }
-    ensures { result ≡ metIn p t wires.0 limit spent }
+    ensures { result ≡ met_in p t wires.0 limit spent }
 {
     let known = spent.known;
     if !known {
@@ -57,8 +57,8 @@ fn found_within(
     capture: CaptureCycles,
     budget: u64,
 ) -> BudgetAnswer
-    requires { Plannable capture.0 s p wires.0 × (1 ≤ p.count) × (1 ≤ limit) × (limit ≤ limitMax) × (budget ≤ budgetMax) }
-    ensures { result ≡ answer_of capture.0 s wires.0 limit (soughtFor capture.0 s wires.0 limit budget) }
+    requires { Plannable capture.0 s p wires.0 × (1 ≤ p.count) × (1 ≤ limit) × (limit ≤ limit_max) × (budget ≤ budget_max) }
+    ensures { result ≡ answer_of capture.0 s wires.0 limit (sought_for capture.0 s wires.0 limit budget) }
 {
     let t = tables_of(s, p, wires, capture);
     let cycles = t.cycles;
@@ -79,7 +79,7 @@ fn found_within(
 
 // Whether wires, buses and capture cycles are within their limits; 0, or the refusal's number: 7, 8, 16.
 fn refused_limits(wires: Wires, limit: u32, capture: CaptureCycles) -> u8
-    ensures { result ≡ limitsRefused wires.0 limit capture.0 }
+    ensures { result ≡ limits_refused wires.0 limit capture.0 }
 {
     if wires.0 < 1 {
         return 7;
@@ -110,7 +110,7 @@ pub fn plan_within(
     capture: CaptureCycles,
     budget: u64,
 ) -> BudgetAnswer
-    ensures { result ≡ budgetAnswer s wires.0 limit capture.0 budget }
+    ensures { result ≡ budget_answer s wires.0 limit capture.0 budget }
 {
     if !soc::is_good(s) {
         return refused_budget(14);

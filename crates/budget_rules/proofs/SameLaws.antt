@@ -5,12 +5,12 @@ use mathlib.Core.Path.{◌≡◌, refl, ap, ◌∙◌}
 use mathlib.Core.List.{List, [], ◌∷◌, ◌++◌, Memᴰ}
 use native.Mathlib.Omega.{arith}
 use lib.ListN.{length, get_or, set, replicate}
-use Rattle.plan_rules.specs.Listed.{widthLists}
+use Rattle.plan_rules.specs.Listed.{width_lists}
 use Rattle.plan_rules.specs.Plans.{sum}
 use Rattle.plan_rules.specs.Widths.{Rising, none, more}
-use Rattle.plan_rules.proofs.ListedLaws.{widths-sound}
+use Rattle.plan_rules.proofs.ListedLaws.{widths_sound}
 use Rattle.plan_rules.proofs.BoundLaws.{width-most}
-use Rattle.budget_rules.specs.Tries.{Sought, counted, each, busyWith, placed, placedOn, onLists, onCounts, begin, searched}
+use Rattle.budget_rules.specs.Tries.{Sought, counted, each, busy_with, placed, placed_on, on_lists, on_counts, begin, searched}
 
 -- what is the same at each number in turn
 each_same : (j b : ℕ) (f g : ℕ → Sought → Sought) → ((x : ℕ) → b ≤ x → x < b + j → (s : Sought) → f x s ≡ g x s) → (s : Sought) → each j b f s ≡ each j b g s
@@ -33,27 +33,27 @@ module _ {f g : ℕ → ℕ → ℕ} {W n : ℕ} (same : (i w : ℕ) → i < n �
     placed_same (suc k) i h l bs s =
         each_same (length ws) 0 _ _ (λ b u v r.
         let e = same i (get_or ws b 0) (omega arith) (wide b (omega arith)).0 (wide b (omega arith)).1 in
-        let p = placed_same k (i + 1) (omega arith) (set l b (busyWith g ws i l b)) (bs ++ (b + 1) ∷ []) (counted r) in
+        let p = placed_same k (i + 1) (omega arith) (set l b (busy_with g ws i l b)) (bs ++ (b + 1) ∷ []) (counted r) in
         rw (e, p)) s
 
-  lists-same : (wss : List (List ℕ)) → ((ws : List ℕ) → Memᴰ ws wss → (b : ℕ) → b < length ws → (1 ≤ get_or ws b 0) × (get_or ws b 0 ≤ W))
-      → (s : Sought) → onLists f budget n wss s ≡ onLists g budget n wss s
-  unfolding onLists
-  lists-same [] h s = refl
-  lists-same (ws ∷ wss) h s =
+  lists_same : (wss : List (List ℕ)) → ((ws : List ℕ) → Memᴰ ws wss → (b : ℕ) → b < length ws → (1 ≤ get_or ws b 0) × (get_or ws b 0 ≤ W))
+      → (s : Sought) → on_lists f budget n wss s ≡ on_lists g budget n wss s
+  unfolding on_lists
+  lists_same [] h s = refl
+  lists_same (ws ∷ wss) h s =
       rw (placed_same ws (h ws (Memᴰ.head refl)) n 0 (omega arith) (replicate (length ws) 0) [] s)
-      (lists-same wss (λ vs m. h vs (Memᴰ.tail m)) (placedOn g budget n ws s))
+      (lists_same wss (λ vs m. h vs (Memᴰ.tail m)) (placed_on g budget n ws s))
 
-  widths-in : (c : ℕ) (ws : List ℕ) → Memᴰ ws (widthLists c 1 W) → (b : ℕ) → b < length ws → (1 ≤ get_or ws b 0) × (get_or ws b 0 ≤ W)
-  widths-in c ws m b h =
-      let r = widths-sound c 1 W ws m in
+  widths_in : (c : ℕ) (ws : List ℕ) → Memᴰ ws (width_lists c 1 W) → (b : ℕ) → b < length ws → (1 ≤ get_or ws b 0) × (get_or ws b 0 ≤ W)
+  widths_in c ws m b h =
+      let r = widths_sound c 1 W ws m in
       (rising-low 1 ws r.rising b h, omega (arith, width-most ws b, r.wires))
 
-  counts_same : (k c : ℕ) (s : Sought) → onCounts f W budget n k c s ≡ onCounts g W budget n k c s
-  unfolding onCounts
+  counts_same : (k c : ℕ) (s : Sought) → on_counts f W budget n k c s ≡ on_counts g W budget n k c s
+  unfolding on_counts
   counts_same zero c s = refl
   counts_same (suc k) c s =
-      rw (lists-same (widthLists c 1 W) (widths-in c) s) (counts_same k (suc c) (onLists g budget n (widthLists c 1 W) s))
+      rw (lists_same (width_lists c 1 W) (widths_in c) s) (counts_same k (suc c) (on_lists g budget n (width_lists c 1 W) s))
 
   pub searched-same : (B : ℕ) → searched f W B n budget ≡ searched g W B n budget
   unfolding searched

@@ -3,7 +3,7 @@
 -- module." Nothing of how code holds it: busy figures and bus numbers are lists that are handed on.
 use Rattle.std.specs.Prelude.{ℕ, zero, suc, ◌+◌, min, Bool, false, true, cond, List, [], ◌∷◌, ◌++◌, length, get_or, set, replicate, leb, ltb}
 use Rattle.plan_rules.specs.Plans.{Plan, largest}
-use Rattle.plan_rules.specs.Listed.{plan, widthLists}
+use Rattle.plan_rules.specs.Listed.{plan, width_lists}
 
 -- "the best plan so far", and its time
 pub data Best : Type 0 where
@@ -39,8 +39,8 @@ each zero b f s = s
 each (suc j) b f s = each j (b + 1) f (f b s)
 
 -- the busy figure of bus b, from 0, with module i added
-abbrev pub busyWith : (ℕ → ℕ → ℕ) → List ℕ → ℕ → List ℕ → ℕ → ℕ
-busyWith time ws i l b = get_or l b 0 + time i (get_or ws b 0)
+abbrev pub busy_with : (ℕ → ℕ → ℕ) → List ℕ → ℕ → List ℕ → ℕ → ℕ
+busy_with time ws i l b = get_or l b 0 + time i (get_or ws b 0)
 
 -- one try of a bus: it is "dropped when its bus's busy figure is no longer below the best time known", else it "goes on"
 abbrev pub tried : ℕ → ℕ → (Sought → Sought) → Sought → Sought
@@ -51,25 +51,25 @@ tried budget busy on s = cond (ltb s.tries budget) (cond (reached s.best busy) (
 unfoldable pub placed : (ℕ → ℕ → ℕ) → List ℕ → ℕ → ℕ → ℕ → List ℕ → List ℕ → Sought → Sought
 placed time ws budget zero i l bs s = keep s (largest l) (plan ws bs)
 placed time ws budget (suc k) i l bs s =
-    each (length ws) 0 (λ b. tried budget (busyWith time ws i l b) (λ r. placed time ws budget k (i + 1) (set l b (busyWith time ws i l b)) (bs ++ (b + 1) ∷ []) r)) s
+    each (length ws) 0 (λ b. tried budget (busy_with time ws i l b) (λ r. placed time ws budget k (i + 1) (set l b (busy_with time ws i l b)) (bs ++ (b + 1) ∷ []) r)) s
 
 -- n modules on buses of these widths, all free
-abbrev pub placedOn : (ℕ → ℕ → ℕ) → ℕ → ℕ → List ℕ → Sought → Sought
-placedOn time budget n ws s = placed time ws budget n 0 (replicate (length ws) 0) [] s
+abbrev pub placed_on : (ℕ → ℕ → ℕ) → ℕ → ℕ → List ℕ → Sought → Sought
+placed_on time budget n ws s = placed time ws budget n 0 (replicate (length ws) 0) [] s
 
 -- width lists, one behind the other
-unfoldable pub onLists : (ℕ → ℕ → ℕ) → ℕ → ℕ → List (List ℕ) → Sought → Sought
-onLists time budget n [] s = s
-onLists time budget n (ws ∷ wss) s = onLists time budget n wss (placedOn time budget n ws s)
+unfoldable pub on_lists : (ℕ → ℕ → ℕ) → ℕ → ℕ → List (List ℕ) → Sought → Sought
+on_lists time budget n [] s = s
+on_lists time budget n (ws ∷ wss) s = on_lists time budget n wss (placed_on time budget n ws s)
 
 -- k bus counts from c on
-unfoldable pub onCounts : (ℕ → ℕ → ℕ) → ℕ → ℕ → ℕ → ℕ → ℕ → Sought → Sought
-onCounts time W budget n zero c s = s
-onCounts time W budget n (suc k) c s = onCounts time W budget n k (suc c) (onLists time budget n (widthLists c 1 W) s)
+unfoldable pub on_counts : (ℕ → ℕ → ℕ) → ℕ → ℕ → ℕ → ℕ → ℕ → Sought → Sought
+on_counts time W budget n zero c s = s
+on_counts time W budget n (suc k) c s = on_counts time W budget n k (suc c) (on_lists time budget n (width_lists c 1 W) s)
 
 abbrev pub begin : Sought
 begin = record { best = Best.unknown; stopped = false; tries = 0 }
 
 -- the whole search for W wires, limit B and n planned modules
 unfoldable pub searched : (ℕ → ℕ → ℕ) → ℕ → ℕ → ℕ → ℕ → Sought
-searched time W B n budget = onCounts time W budget n (min B W) 1 begin
+searched time W B n budget = on_counts time W budget n (min B W) 1 begin

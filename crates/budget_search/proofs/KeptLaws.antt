@@ -7,7 +7,7 @@ use lib.ListN.{length, take, drop, set, length-append, length-drop}
 use lib.Seq.{take-take, take-append_seam, take-append-le, drop-append_seam, length-take-le}
 use Rattle.plan_rules.specs.Listed.{plan}
 use Rattle.plan_search.proofs.CopyLaws.{over}
-use Rattle.budget_search.specs.Steps.{busesMax, busesAt, bestPlaces, planIn}
+use Rattle.budget_search.specs.Steps.{buses_max, buses_at, best_places, plan_in}
 use Rattle.budget_search.specs.Place.{Rooms}
 
 -- the count, the widths and the bus numbers were put
@@ -18,32 +18,32 @@ abbrev pub widened : List ℕ → List ℕ → List ℕ
 widened ws best = over ws (counted ws best) 1
 
 abbrev pub kept : List ℕ → List ℕ → List ℕ → List ℕ
-kept ws bs best = over bs (widened ws best) busesAt
+kept ws bs best = over bs (widened ws best) buses_at
 
-module _ (ws bs : List ℕ) (few : length ws ≤ busesMax) where
+module _ (ws bs : List ℕ) (few : length ws ≤ buses_max) where
   -- with the count before a list that begins with the widths, and the bus numbers over what stands behind them
-  plan-over : (D : List ℕ) → busesMax ≤ length ws + length D → planIn (length bs) (over bs (length ws ∷ (ws ++ D)) busesAt) ≡ plan ws bs
+  plan-over : (D : List ℕ) → buses_max ≤ length ws + length D → plan_in (length bs) (over bs (length ws ∷ (ws ++ D)) buses_at) ≡ plan ws bs
   plan-over D e =
       let c = length ws in
       let l : List ℕ = ws ++ D in
-      let X : List ℕ = take busesMax l in
-      let E : List ℕ = drop (busesAt + length bs) (c ∷ l) in
+      let X : List ℕ = take buses_max l in
+      let E : List ℕ = drop (buses_at + length bs) (c ∷ l) in
       let n : length l ≡ length ws + length D = length-append ws D in
-      let x : length X ≡ busesMax = length-take-le busesMax l (omega arith) in
-      let w : take c (X ++ (bs ++ E)) ≡ ws = take-append-le c X (bs ++ E) (omega arith) ∙ take-take c busesMax l few
+      let x : length X ≡ buses_max = length-take-le buses_max l (omega arith) in
+      let w : take c (X ++ (bs ++ E)) ≡ ws = take-append-le c X (bs ++ E) (omega arith) ∙ take-take c buses_max l few
       ∙ take-append_seam ws D in
-      let b : take (length bs) (drop busesMax (X ++ (bs ++ E))) ≡ bs =
+      let b : take (length bs) (drop buses_max (X ++ (bs ++ E))) ≡ bs =
       ap (λ j. take (length bs) (drop j (X ++ (bs ++ E)))) (sym x) ∙ ap (take (length bs)) (drop-append_seam X (bs ++ E))
       ∙ take-append_seam bs E in
-      ap (λ y. plan y (take (length bs) (drop busesMax (X ++ (bs ++ E))))) w ∙ ap (plan ws) b
+      ap (λ y. plan y (take (length bs) (drop buses_max (X ++ (bs ++ E))))) w ∙ ap (plan ws) b
 
-  pub plan-kept : (best : List ℕ) → length best ≡ bestPlaces → planIn (length bs) (kept ws bs best) ≡ plan ws bs
+  pub plan-kept : (best : List ℕ) → length best ≡ best_places → plan_in (length bs) (kept ws bs best) ≡ plan ws bs
   plan-kept [] e = absurd (omega arith)
   plan-kept (x ∷ xs) e =
       let d : length (drop (1 + length ws) (length ws ∷ xs)) ≡ length xs - length ws = length-drop (1 + length ws) (length ws ∷ xs)
       ∙ omega arith in
       plan-over (drop (1 + length ws) (length ws ∷ xs)) (omega arith)
 
-  pub rooms-kept : (best : List ℕ) → length best ≡ bestPlaces → length (kept ws bs best) ≡ length best → Rooms (kept ws bs best)
+  pub rooms-kept : (best : List ℕ) → length best ≡ best_places → length (kept ws bs best) ≡ length best → Rooms (kept ws bs best)
   rooms-kept [] e f = absurd (omega arith)
   rooms-kept (x ∷ xs) e f = record { places = f ∙ e; count = few }

@@ -7,10 +7,10 @@ use native.Mathlib.Nat.{mul_comm, mul-le-mul, mul-le-mul_left}
 use native.Mathlib.Numerals.{add-one}
 use lib.ListN.{length, get_or, take, set, replicate, length-append, length-set, length-replicate}
 use lib.Seq.{take_all, take-suc-set, take-take, take-set-le, length-take-le}
-use Rattle.plan_rules.specs.Listed.{widthLists}
-use Rattle.plan_rules.proofs.WidthListLaws.{width-lists-none, width-lists-one, lists-more}
-use Rattle.budget_search.specs.Steps.{busesMax}
-use Rattle.plan_search.specs.Search.{rowPlaces}
+use Rattle.plan_rules.specs.Listed.{width_lists}
+use Rattle.plan_rules.proofs.WidthListLaws.{width_lists-none, width_lists-one, lists_more}
+use Rattle.budget_search.specs.Steps.{buses_max}
+use Rattle.plan_search.specs.Search.{row_places}
 use Rattle.budget_search.specs.Place.{AreWidths}
 use Rattle.budget_search.specs.Lists.{Begun}
 
@@ -24,22 +24,22 @@ pub length-zeros : (c m : ℕ) → c ≤ m → length {A = ℕ} (take c (replica
 length-zeros c m h = length-take-le c (replicate m 0) (omega (arith, length-replicate {A = ℕ} m 0))
 
 -- ---- one more width
-snoc-at : (P : ℕ → Type 0) (ws : List ℕ) (w b : ℕ) → b < length (ws ++ w ∷ []) → ((j : ℕ) → j < length ws → P (get_or ws j 0)) → P w
+snoc_at : (P : ℕ → Type 0) (ws : List ℕ) (w b : ℕ) → b < length (ws ++ w ∷ []) → ((j : ℕ) → j < length ws → P (get_or ws j 0)) → P w
     → P (get_or (ws ++ w ∷ []) b 0)
-snoc-at P [] w zero h k p = p
-snoc-at P [] w (suc b) h k p = absurd (omega arith)
-snoc-at P (x ∷ ws) w zero h k p = k 0 (omega arith)
-snoc-at P (x ∷ ws) w (suc b) h k p = snoc-at P ws w b (omega arith) (λ j m. k (suc j) (omega arith)) p
+snoc_at P [] w zero h k p = p
+snoc_at P [] w (suc b) h k p = absurd (omega arith)
+snoc_at P (x ∷ ws) w zero h k p = k 0 (omega arith)
+snoc_at P (x ∷ ws) w (suc b) h k p = snoc_at P ws w b (omega arith) (λ j m. k (suc j) (omega arith)) p
 
-widths-more : {ws : List ℕ} → AreWidths ws → (w : ℕ) → length ws < busesMax → 1 ≤ w → w ≤ rowPlaces → AreWidths (ws ++ w ∷ [])
+widths-more : {ws : List ℕ} → AreWidths ws → (w : ℕ) → length ws < buses_max → 1 ≤ w → w ≤ row_places → AreWidths (ws ++ w ∷ [])
 widths-more {ws} a w h k m =
     record {
       few = simp length-append (omega arith);
-      wide = λ b l. snoc-at (λ v. (1 ≤ v) × (v ≤ rowPlaces)) ws w b l a.wide (k, m);
+      wide = λ b l. snoc_at (λ v. (1 ≤ v) × (v ≤ row_places)) ws w b l a.wide (k, m);
     }
 
 -- no product of a width and a count of buses is large
-pub share-small : (low due : ℕ) → low ≤ 2 * rowPlaces → due ≤ busesMax → low * due ≤ 1024
+pub share-small : (low due : ℕ) → low ≤ 2 * row_places → due ≤ buses_max → low * due ≤ 1024
 share-small low due h k = mul-le-mul {n₁ = low} {m₁ = due} {n₂ = 128} {m₂ = 8} h k
 
 -- the widths that are to be set have room: low is a width
@@ -53,7 +53,7 @@ module _ {at low left : ℕ} {ws : List ℕ} (g : Begun at low left ws) where
   front_length : length (take at ws) ≡ at
   front_length = length-take-le at ws (omega (arith, g.at_most))
 
-  front-more : (w : ℕ) → 1 ≤ w → w ≤ rowPlaces → AreWidths (take at ws ++ w ∷ [])
+  front-more : (w : ℕ) → 1 ≤ w → w ≤ row_places → AreWidths (take at ws ++ w ∷ [])
   front-more w h k = widths-more g.front w (omega (arith, front_length, g.at_most, g.few)) h k
 
   -- a width is set, and others are to be set behind it
@@ -68,7 +68,7 @@ module _ {at low left : ℕ} {ws : List ℕ} (g : Begun at low left ws) where
   }
 
   -- the next width is more
-  pub begun_more : {vs : List ℕ} {v : ℕ} → length vs ≡ length ws → take at vs ≡ take at ws → 1 ≤ v → v ≤ 2 * rowPlaces → Begun at v left vs
+  pub begun_more : {vs : List ℕ} {v : ℕ} → length vs ≡ length ws → take at vs ≡ take at ws → 1 ≤ v → v ≤ 2 * row_places → Begun at v left vs
   begun_more n e h k = record {
     at_most = rw n g.at_most;
     few = rw n g.few;
@@ -79,8 +79,8 @@ module _ {at low left : ℕ} {ws : List ℕ} (g : Begun at low left ws) where
   }
 
   -- no list is left
-  pub left-none : left < low * (length ws - at) → map (λ vs. take at ws ++ vs) (widthLists (length ws - at) low left) ≡ []
-  left-none h = rw (width-lists-none (length ws - at) low left (omega (arith, g.at_most)) g.some
+  pub left-none : left < low * (length ws - at) → map (λ vs. take at ws ++ vs) (width_lists (length ws - at) low left) ≡ []
+  left-none h = rw (width_lists-none (length ws - at) low left (omega (arith, g.at_most)) g.some
       (omega (arith, mul_comm low (length ws - at))))
 
   -- the last width is set
@@ -92,18 +92,18 @@ module _ {at low left : ℕ} {ws : List ℕ} (g : Begun at low left ws) where
     pub last-widths : AreWidths (set ws at left)
     last-widths = rw last-is (front-more left (omega (arith, g.some)) g.narrow)
 
-    pub left_one : map (λ vs. take at ws ++ vs) (widthLists (length ws - at) low left) ≡ set ws at left ∷ []
-    left_one = rw (last, width-lists-one low left h, last-is)
+    pub left_one : map (λ vs. take at ws ++ vs) (width_lists (length ws - at) low left) ≡ set ws at left ∷ []
+    left_one = rw (last, width_lists-one low left h, last-is)
 
   -- those that go on with low, and those that go on with more
   pub left-more : (vs : List ℕ) → length vs ≡ length ws → take at vs ≡ take at ws → low ≤ left
-      → map (λ us. take at ws ++ us) (widthLists (length ws - at) low left)
-      ≡ map (λ us. take (at + 1) (set ws at low) ++ us) (widthLists (length (set ws at low) - (at + 1)) low (left - low))
-      ++ map (λ us. take at vs ++ us) (widthLists (length vs - at) (low + 1) left)
+      → map (λ us. take at ws ++ us) (width_lists (length ws - at) low left)
+      ≡ map (λ us. take (at + 1) (set ws at low) ++ us) (width_lists (length (set ws at low) - (at + 1)) low (left - low))
+      ++ map (λ us. take at vs ++ us) (width_lists (length vs - at) (low + 1) left)
   left-more vs n e h =
       let k = length ws - (at + 1) in
       let d : length ws - at ≡ suc k = omega (arith, g.at_most) in
-      rw (e, n, length-set, set_front low, d) (lists-more (take at ws) k low left h)
+      rw (e, n, length-set, set_front low, d) (lists_more (take at ws) k low left h)
 
 pub front_same : (ws vs : List ℕ) (at w : ℕ) → take (at + 1) vs ≡ take (at + 1) (set ws at w) → take at vs ≡ take at ws
 front_same ws vs at w e =

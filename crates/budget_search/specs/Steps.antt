@@ -3,23 +3,23 @@
 use Rattle.std.specs.Prelude.{ℕ, ◌+◌, min, Bool, cond, List, get_or, take, drop, leb, ltb}
 use Rattle.plan_rules.specs.Plans.{Plan}
 use Rattle.plan_rules.specs.Listed.{plan}
-use Rattle.plan_search.specs.Search.{foundBuses, foundModules}
+use Rattle.plan_search.specs.Search.{found_buses, found_modules}
 use Rattle.budget_rules.specs.Tries.{Best, Sought}
 use Rattle.budget_search.specs.declared.steps.Progress.{Progress}
 
 -- the most buses, modules and tries that the search has room for
-abbrev pub busesMax : ℕ
-busesMax = foundBuses
+abbrev pub buses_max : ℕ
+buses_max = found_buses
 
-abbrev pub modulesMax : ℕ
-modulesMax = foundModules
+abbrev pub modules_max : ℕ
+modules_max = found_modules
 
-abbrev pub budgetMax : ℕ
-budgetMax = 1099511627776
+abbrev pub budget_max : ℕ
+budget_max = 1099511627776
 
 -- the best time while no plan is known: no plan takes so long
-abbrev pub noTime : ℕ
-noTime = 9223372036854775808
+abbrev pub no_time : ℕ
+no_time = 9223372036854775808
 
 -- the steps on the record
 abbrev pub reaches : Progress → ℕ → Bool
@@ -38,22 +38,22 @@ abbrev pub keeps : Progress → ℕ → Progress
 keeps s t = cond (reaches s t) s (record { best = t; tries = s.tries })
 
 -- the places of the buffer before the bus numbers: the count of the buses, and their widths
-abbrev pub busesAt : ℕ
-busesAt = 9
+abbrev pub buses_at : ℕ
+buses_at = 9
 
 -- all its places
-abbrev pub bestPlaces : ℕ
-bestPlaces = 48
+abbrev pub best_places : ℕ
+best_places = 48
 
 -- the plan of n modules that the buffer holds
-abbrev pub planIn : ℕ → List ℕ → Plan
-planIn n best = plan (take (get_or best 0 0) (drop 1 best)) (take n (drop busesAt best))
+abbrev pub plan_in : ℕ → List ℕ → Plan
+plan_in n best = plan (take (get_or best 0 0) (drop 1 best)) (take n (drop buses_at best))
 
 -- what record and buffer hold of n modules and a budget
-abbrev pub heldIn : ℕ → ℕ → Progress → List ℕ → Sought
-heldIn n budget s best =
+abbrev pub held_in : ℕ → ℕ → Progress → List ℕ → Sought
+held_in n budget s best =
     record {
-      best = cond (ltb s.best noTime) (Best.known s.best (planIn n best)) Best.unknown;
+      best = cond (ltb s.best no_time) (Best.known s.best (plan_in n best)) Best.unknown;
       stopped = stops budget s;
       tries = min budget s.tries;
     }

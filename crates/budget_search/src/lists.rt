@@ -1,10 +1,10 @@
 // The lists of widths in their order (document 02, item 7: "It goes through bus counts, width lists and bus numbers in the order of
 // plans"), and the modules on the buses of each.
 ghost use Rattle.std.specs.Prelude.{◌≡◌, ◌++◌, map, ◌-◌, ◌≤◌, length, take};
-ghost use Rattle.budget_rules.specs.Tries.{placedOn, onLists};
-ghost use Rattle.plan_rules.specs.Listed.{widthLists};
-ghost use Rattle.budget_search.specs.Steps.{budgetMax, heldIn};
-ghost use Rattle.plan_search.specs.Search.{tableTime, AreTimes};
+ghost use Rattle.budget_rules.specs.Tries.{placed_on, on_lists};
+ghost use Rattle.plan_rules.specs.Listed.{width_lists};
+ghost use Rattle.budget_search.specs.Steps.{budget_max, held_in};
+ghost use Rattle.plan_search.specs.Search.{table_time, AreTimes};
 ghost use Rattle.budget_search.specs.Place.{AreWidths, Rooms};
 ghost use Rattle.budget_search.specs.Lists.{Begun};
 
@@ -21,9 +21,9 @@ fn placed_on(
     best: &mut [u32; BEST_PLACES],
     s: Progress,
 ) -> Progress
-    requires { AreTimes table.now n × AreWidths widths.now × (budget ≤ budgetMax) × Rooms best.old }
-    ensures { (heldIn n budget result best.new ≡
-        placedOn (tableTime table.now) budget n widths.now (heldIn n budget s best.old))
+    requires { AreTimes table.now n × AreWidths widths.now × (budget ≤ budget_max) × Rooms best.old }
+    ensures { (held_in n budget result best.new ≡
+        placed_on (table_time table.now) budget n widths.now (held_in n budget s best.old))
         × Rooms best.new }
 {
     let mut loads = [0u64; BUDGET_BUSES];
@@ -54,11 +54,11 @@ pub(crate) fn over_lists(
     best: &mut [u32; BEST_PLACES],
     s: Progress,
 ) -> Progress
-    requires { AreTimes table.now n × (1 ≤ n) × (budget ≤ budgetMax) × Rooms best.old
+    requires { AreTimes table.now n × (1 ≤ n) × (budget ≤ budget_max) × Rooms best.old
         × Begun at low.0 left.0 widths.old }
-    ensures { (heldIn n budget result best.new ≡ onLists (tableTime table.now) budget n
-        (map (λ ws. take at widths.old ++ ws) (widthLists (length widths.old - at) low.0 left.0))
-        (heldIn n budget s best.old))
+    ensures { (held_in n budget result best.new ≡ on_lists (table_time table.now) budget n
+        (map (λ ws. take at widths.old ++ ws) (width_lists (length widths.old - at) low.0 left.0))
+        (held_in n budget s best.old))
         × Rooms best.new × (take at widths.new ≡ take at widths.old) }
 {
     if is_stopped(s, budget) {

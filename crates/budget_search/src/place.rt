@@ -3,8 +3,8 @@
 ghost use Rattle.std.specs.Prelude.{◌≡◌, ◌++◌, ◌+◌, ◌-◌, ◌≤◌, ◌<◌, length, take, drop};
 ghost use Rattle.budget_rules.specs.Tries.{placed};
 ghost use Rattle.plan_rules.specs.Listed.{plan};
-ghost use Rattle.budget_search.specs.Steps.{busesMax, modulesMax, bestPlaces, planIn, heldIn};
-ghost use Rattle.plan_search.specs.Search.{tableTime};
+ghost use Rattle.budget_search.specs.Steps.{buses_max, modules_max, best_places, plan_in, held_in};
+ghost use Rattle.plan_search.specs.Search.{table_time};
 ghost use Rattle.budget_search.specs.Place.{Rooms, Ready, attempted, Placed};
 
 use super::steps::{Progress, completed, count, halt, is_reached};
@@ -25,9 +25,9 @@ pub(crate) const BEST_PLACES: usize = BUDGET_MODULES + BUSES_AT;
 
 // Numbers are put over those of a buffer from a place on.
 fn put(from: &[u32], to: &mut [u32; BEST_PLACES], at: usize)
-    requires { (at + length from.now ≤ bestPlaces) × (length to.old ≡ bestPlaces) }
+    requires { (at + length from.now ≤ best_places) × (length to.old ≡ best_places) }
     ensures { (to.new ≡ take at to.old ++
-        (from.now ++ drop (at + length from.now) to.old)) × (length to.new ≡ bestPlaces) }
+        (from.now ++ drop (at + length from.now) to.old)) × (length to.new ≡ best_places) }
 {
     let mut i: usize = 0;
     while i < from.len() {
@@ -38,8 +38,8 @@ fn put(from: &[u32], to: &mut [u32; BEST_PLACES], at: usize)
 
 // The plan becomes the best: the count of its buses, their widths, the bus numbers.
 fn keep_plan(widths: &[u32], buses: &[u32], best: &mut [u32; BEST_PLACES])
-    requires { (length widths.now ≤ busesMax) × (length buses.now ≤ modulesMax) × Rooms best.old }
-    ensures { (planIn (length buses.now) best.new ≡ plan widths.now buses.now)
+    requires { (length widths.now ≤ buses_max) × (length buses.now ≤ modules_max) × Rooms best.old }
+    ensures { (plan_in (length buses.now) best.new ≡ plan widths.now buses.now)
         × Rooms best.new }
 {
     best[0] = widths.len() as u32;
@@ -62,8 +62,8 @@ pub(crate) fn place(
 ) -> Progress
     requires { Ready table.now widths.now budget i top loads.old buses.old best.old }
     ensures { Placed budget i loads.old loads.new buses.old buses.new best.new result
-        (placed (tableTime table.now) widths.now budget (length buses.old - i) i
-        loads.old (take i buses.old) (heldIn (length buses.old) budget s best.old)) }
+        (placed (table_time table.now) widths.now budget (length buses.old - i) i
+        loads.old (take i buses.old) (held_in (length buses.old) budget s best.old)) }
 {
     if i == buses.len() {
         if is_reached(s, top) {
@@ -110,8 +110,8 @@ fn attempt(
     requires ready { Ready table.now widths.now budget i top loads.old buses.old best.old }
     requires i_in_bounds { (i < length buses.old) × (b < length widths.now) }
     ensures { Placed budget i loads.old loads.new buses.old buses.new best.new result
-        (attempted (tableTime table.now) widths.now budget (length buses.old - (i + 1)) i
-        loads.old (take i buses.old) b (heldIn (length buses.old) budget s best.old)) }
+        (attempted (table_time table.now) widths.now budget (length buses.old - (i + 1)) i
+        loads.old (take i buses.old) b (held_in (length buses.old) budget s best.old)) }
 {
     let tries = s.tries;
     if budget <= tries {

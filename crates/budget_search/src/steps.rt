@@ -2,7 +2,7 @@
 // has the best plan's time; its widths and bus numbers are in a buffer beside it. It goes down and up with every try, so it has two numbers
 // and no more: that no plan is known and that the search was stopped are values of them that no plan and no count has.
 ghost use Rattle.std.specs.Prelude.{◌≡◌, ◌≤◌, min};
-ghost use Rattle.budget_search.specs.Steps.{budgetMax, reaches, counts, halts, stops, keeps};
+ghost use Rattle.budget_search.specs.Steps.{budget_max, reaches, counts, halts, stops, keeps};
 
 // The best time while no plan is known: 2⁶³, which no plan takes.
 pub(crate) const NO_TIME: u64 = 9223372036854775808;
@@ -23,7 +23,7 @@ pub(crate) fn is_reached(s: Progress, time: u64) -> bool
 
 // One try more.
 pub(crate) fn count(s: Progress) -> Progress
-    requires { s.tries ≤ budgetMax }
+    requires { s.tries ≤ budget_max }
     ensures { result ≡ counts s }
 {
     Progress {
@@ -34,7 +34,7 @@ pub(crate) fn count(s: Progress) -> Progress
 
 // A try is due, and the budget is spent.
 pub(crate) fn halt(s: Progress, budget: u64) -> Progress
-    requires { budget ≤ budgetMax }
+    requires { budget ≤ budget_max }
     ensures { result ≡ halts budget s }
 {
     Progress {

@@ -2,10 +2,10 @@
 ghost use Rattle.std.specs.Prelude.{◌≡◌, ◌≤◌, min, get_or};
 ghost use Rattle.units.specs.Places.{padded};
 ghost use Rattle.budget_rules.specs.Tries.{searched};
-ghost use Rattle.budget_search.specs.Steps.{busesMax, modulesMax, planIn, heldIn};
-ghost use Rattle.plan_search.specs.Search.{tableTime};
+ghost use Rattle.budget_search.specs.Steps.{buses_max, modules_max, plan_in, held_in};
+ghost use Rattle.plan_search.specs.Search.{table_time};
 ghost use Rattle.budget_search.specs.Place.{Rooms};
-ghost use Rattle.budget_search.specs.Within.{Limits, noneFound, spentOf};
+ghost use Rattle.budget_search.specs.Within.{Limits, none_found, spent_of};
 
 use super::lists::over_lists;
 use super::place::{BEST_PLACES, BUDGET_BUSES, BUDGET_MODULES, BUSES_AT};
@@ -40,7 +40,7 @@ fn over_counts(
     best: &mut [u32; BEST_PLACES],
 ) -> Progress
     requires { Limits table.now wires.0 limit n budget × Rooms best.old }
-    ensures { (heldIn n budget result best.new ≡ searched (tableTime table.now) wires.0 limit n budget)
+    ensures { (held_in n budget result best.new ≡ searched (table_time table.now) wires.0 limit n budget)
         × Rooms best.new }
 {
     let most = most_buses(wires, limit);
@@ -69,8 +69,8 @@ fn over_counts(
 
 // The widths that the buffer holds.
 fn widths_in(best: [u32; BEST_PLACES]) -> [u32; BUDGET_BUSES]
-    requires { get_or best 0 0 ≤ busesMax }
-    ensures { result ≡ padded busesMax 0 (planIn modulesMax best).widths }
+    requires { get_or best 0 0 ≤ buses_max }
+    ensures { result ≡ padded buses_max 0 (plan_in modules_max best).widths }
 {
     let count = best[0] as usize;
     let mut widths = [0u32; BUDGET_BUSES];
@@ -84,8 +84,8 @@ fn widths_in(best: [u32; BEST_PLACES]) -> [u32; BUDGET_BUSES]
 
 // The bus numbers of n modules that it holds, as an answer has them.
 fn buses_in(best: [u32; BEST_PLACES], n: usize) -> [u64; BUDGET_MODULES]
-    requires { n ≤ modulesMax }
-    ensures { result ≡ padded modulesMax 0 (planIn n best).buses }
+    requires { n ≤ modules_max }
+    ensures { result ≡ padded modules_max 0 (plan_in n best).buses }
 {
     let mut buses = [0u64; BUDGET_MODULES];
     let mut i: usize = 0;
@@ -98,7 +98,7 @@ fn buses_in(best: [u32; BEST_PLACES], n: usize) -> [u64; BUDGET_MODULES]
 
 // Nothing was found.
 fn none_found() -> Found
-    ensures { result ≡ noneFound }
+    ensures { result ≡ none_found }
 {
     Found {
         count: 0,
@@ -110,8 +110,8 @@ fn none_found() -> Found
 
 // The answer, from what goes along at the end of the search.
 fn spent_of(s: Progress, budget: u64, n: usize, best: [u32; BEST_PLACES]) -> Spent
-    requires { (n ≤ modulesMax) × Rooms best }
-    ensures { result ≡ spentOf (heldIn n budget s best) }
+    requires { (n ≤ modules_max) × Rooms best }
+    ensures { result ≡ spent_of (held_in n budget s best) }
 {
     let stopped = is_stopped(s, budget);
     let tries = tries_of(s, budget);
@@ -142,7 +142,7 @@ fn spent_of(s: Progress, budget: u64, n: usize, best: [u32; BEST_PLACES]) -> Spe
 // The search for W wires, a limit of buses and n modules, over a table of their times, with at most so many tries.
 pub fn search_within(table: &[u64], wires: Wires, limit: usize, n: usize, budget: u64) -> Spent
     requires { Limits table.now wires.0 limit n budget }
-    ensures { result ≡ spentOf (searched (tableTime table.now) wires.0 limit n budget) }
+    ensures { result ≡ spent_of (searched (table_time table.now) wires.0 limit n budget) }
 {
     let mut best = [0u32; BEST_PLACES];
     let r = over_counts(table, wires, limit, n, budget, &mut best);

@@ -11,27 +11,27 @@ use borrow.Rule.Slice.PartMut.{put_mid}
 use lib.ListN.{length, get_or, set, take, drop, length-append, length-take, length-drop, take-append-drop, drop_of_length-le}
 use lib.Seq.{take_all, take_at, take-append_seam, drop-append-add, drop-drop, drop-cons, take-suc, length-take-le, set-append_seam, set_at}
 use lib.Dec.{leb}
-use Rattle.buffer.specs.Puts.{putFront, putCount, putEnd, put_in, put_at, Put}
+use Rattle.buffer.specs.Puts.{put_front, put_count, put_end, put_in, put_at, Put}
 
 -- the part from a place on
-abbrev pub partFrom : ℕ → List ℕ → List ℕ
-partFrom at buf = take (length buf - at) (drop at buf)
+abbrev pub part_from : ℕ → List ℕ → List ℕ
+part_from at buf = take (length buf - at) (drop at buf)
 
-pub part-rest : (at : ℕ) (buf : List ℕ) → partFrom at buf ≡ drop at buf
+pub part-rest : (at : ℕ) (buf : List ℕ) → part_from at buf ≡ drop at buf
 part-rest at buf = take_all (length buf - at) (drop at buf) (simp length-drop (omega arith))
 
 -- into no room nothing is put
-count_none : (w : List ℕ) → putCount w [] ≡ 0
+count_none : (w : List ℕ) → put_count w [] ≡ 0
 count_none [] = refl
 count_none (b ∷ w) = let h : 0 < suc (length w) = omega arith in simp (lt-leb (suc (length w)) 0 h)
 
-front-none : (w : List ℕ) → putFront w [] ≡ []
+front-none : (w : List ℕ) → put_front w [] ≡ []
 front-none [] = refl
 front-none (b ∷ w) = let h : 0 < suc (length w) = omega arith in simp (lt-leb (suc (length w)) 0 h)
 
 module _ (w : List ℕ) (at : ℕ) (buf : List ℕ) where
   -- no more is written than there is room
-  pub count_most : putCount w buf ≤ length buf
+  pub count_most : put_count w buf ≤ length buf
   count_most = go (leb (length w) (length buf)) refl
     where
       go : (t : Bool) → leb (length w) (length buf) ≡ t → cond t (length w) 0 ≤ length buf
@@ -39,22 +39,22 @@ module _ (w : List ℕ) (at : ℕ) (buf : List ℕ) where
       go false e = omega arith
 
   -- behind the end there is no room
-  pub end_none : length buf ≤ at → at ≡ putEnd w at buf
-  unfolding putEnd
+  pub end_none : length buf ≤ at → at ≡ put_end w at buf
+  unfolding put_end
   end_none h = rw (drop_of_length-le buf h, count_none w) (omega arith)
 
-  pub in-none : length buf ≤ at → buf ≡ put_in w at buf
+  pub in_none : length buf ≤ at → buf ≡ put_in w at buf
   unfolding put_in
-  in-none h = rw (drop_of_length-le buf h, front-none w, append-nil) (sym (take_all at buf h))
+  in_none h = rw (drop_of_length-le buf h, front-none w, append-nil) (sym (take_all at buf h))
 
   -- what is written into a part that was lent
-  pub part_end : (r : ℕ) → r ≡ putCount w (partFrom at buf) → at + r ≡ putEnd w at buf
-  unfolding putEnd
-  part_end r e = ap (λ n. at + n) (e ∙ ap (putCount w) (part-rest at buf))
+  pub part_end : (r : ℕ) → r ≡ put_count w (part_from at buf) → at + r ≡ put_end w at buf
+  unfolding put_end
+  part_end r e = ap (λ n. at + n) (e ∙ ap (put_count w) (part-rest at buf))
 
-  pub part_in : (p : List ℕ) → p ≡ putFront w (partFrom at buf) → put_mid at (length buf - at) buf p ≡ put_in w at buf
+  pub part_in : (p : List ℕ) → p ≡ put_front w (part_from at buf) → put_mid at (length buf - at) buf p ≡ put_in w at buf
   unfolding put_in
-  part_in p e = rw (drop_of_length-le (drop at buf) {i = length buf - at} (simp length-drop (omega arith)), append-nil, e ∙ ap (putFront w) (part-rest at buf))
+  part_in p e = rw (drop_of_length-le (drop at buf) {i = length buf - at} (simp length-drop (omega arith)), append-nil, e ∙ ap (put_front w) (part-rest at buf))
 
   room : at + length w ≤ length buf → leb (length w) (length (drop at buf)) ≡ true
   room h = le-leb (length w) (length (drop at buf)) (simp length-drop (omega arith))
@@ -64,13 +64,13 @@ module _ (w : List ℕ) (at : ℕ) (buf : List ℕ) where
   put-length h = simp (length-append, length-take, length-drop) (omega arith)
 
 -- one behind another
-pub put-behind : (v w before : List ℕ) (at : ℕ) {middle after : List ℕ} {e r : ℕ} → (e ≡ putEnd w at before) × (middle ≡ put_in w at before) → (r ≡ putEnd v e middle) × (after ≡ put_in v e middle)
-    → (r ≡ putEnd v (putEnd w at before) (put_in w at before)) × (after ≡ put_in v (putEnd w at before) (put_in w at before))
+pub put-behind : (v w before : List ℕ) (at : ℕ) {middle after : List ℕ} {e r : ℕ} → (e ≡ put_end w at before) × (middle ≡ put_in w at before) → (r ≡ put_end v e middle) × (after ≡ put_in v e middle)
+    → (r ≡ put_end v (put_end w at before) (put_in w at before)) × (after ≡ put_in v (put_end w at before) (put_in w at before))
 put-behind v w before at p q = (cc, cc)
 
 -- with the room for w, all of it is put
-pub put_is : {w : List ℕ} {at r : ℕ} {before after : List ℕ} → at + length w ≤ length before → (r ≡ putEnd w at before) × (after ≡ put_in w at before) → Put w at before after r
-unfolding putEnd put_in put_at
+pub put_is : {w : List ℕ} {at r : ℕ} {before after : List ℕ} → at + length w ≤ length before → (r ≡ put_end w at before) × (after ≡ put_in w at before) → Put w at before after r
+unfolding put_end put_in put_at
 put_is {w} {at} {r} {before} h e = record {
   behind = e.0 ∙ simp (room w at before h);
   holds = e.1 ∙ rw (room w at before h, drop-drop, append_assoc);
@@ -120,12 +120,12 @@ module _ (a rest : List ℕ) {w start buf : List ℕ} {at r : ℕ} (d : Due (a +
       }
 
   -- the same where what was put is said of any buffer
-  pub due-put : {next : List ℕ} {k : ℕ} → (k ≡ putEnd a r buf) × (next ≡ put_in a r buf) → Due rest w at start k next
+  pub due-put : {next : List ℕ} {k : ℕ} → (k ≡ put_end a r buf) × (next ≡ put_in a r buf) → Due rest w at start k next
   due-put e = due-next (put_is due-room e)
 
 -- a key and its number
 pub due-key : (a v rest : List ℕ) {w start buf next : List ℕ} {at r k : ℕ} → Due (a ++ v ++ rest) w at start r buf
-    → (k ≡ putEnd v (putEnd a r buf) (put_in a r buf)) × (next ≡ put_in v (putEnd a r buf) (put_in a r buf)) → Due rest w at start k next
+    → (k ≡ put_end v (put_end a r buf) (put_in a r buf)) × (next ≡ put_in v (put_end a r buf) (put_in a r buf)) → Due rest w at start k next
 due-key a v rest d e = due-put v rest (due-put a (v ++ rest) (rw append_assoc at d) (refl, refl)) e
 
 -- what is put at the front of a buffer

@@ -7,12 +7,12 @@ use native.Mathlib.Omega.{arith}
 use borrow.Author.Tests.{leb-false, le-leb}
 use lib.ListN.{length, take, drop}
 use lib.Dec.{leb}
-use Rattle.buffer.specs.Puts.{putFront}
-use Rattle.buffer.specs.Room.{allOrNone}
+use Rattle.buffer.specs.Puts.{put_front}
+use Rattle.buffer.specs.Room.{all_or_none}
 
 -- no more than there is
-pub room_most : (n room : ℕ) → allOrNone n room ≤ n
-unfolding allOrNone
+pub room_most : (n room : ℕ) → all_or_none n room ≤ n
+unfolding all_or_none
 room_most n room = go (leb n room)
   where
     go : (t : Bool) → cond t n 0 ≤ n
@@ -20,10 +20,10 @@ room_most n room = go (leb n room)
     go false = omega arith
 
 -- of a form whose first n bytes are w, k go into buf, which then is `end`
-module _ (w form buf end : List ℕ) (n k : ℕ) (l : n ≡ length w) (p : take n form ≡ w) (e : k ≡ allOrNone n (length buf)) (a : end ≡ putFront (take k form) buf) where
+module _ (w form buf end : List ℕ) (n k : ℕ) (l : n ≡ length w) (p : take n form ≡ w) (e : k ≡ all_or_none n (length buf)) (a : end ≡ put_front (take k form) buf) where
   -- some are missing: there was no room, and none is written
   pub room-none : k < n → (leb (length w) (length buf) ≡ false) × (end ≡ buf)
-  unfolding allOrNone
+  unfolding all_or_none
   room-none h = go (leb n (length buf)) refl e
     where
       go : (t : Bool) → leb n (length buf) ≡ t → k ≡ cond t n 0 → (leb (length w) (length buf) ≡ false) × (end ≡ buf)
@@ -35,7 +35,7 @@ module _ (w form buf end : List ℕ) (n k : ℕ) (l : n ≡ length w) (p : take 
 
   -- none is missing: there was room, and w is written
   pub room-all : n ≤ k → (leb (length w) (length buf) ≡ true) × (end ≡ w ++ drop (length w) buf)
-  unfolding allOrNone
+  unfolding all_or_none
   room-all h = go (leb n (length buf)) refl e
     where
       go : (t : Bool) → leb n (length buf) ≡ t → k ≡ cond t n 0 → (leb (length w) (length buf) ≡ true) × (end ≡ w ++ drop (length w) buf)

@@ -2,19 +2,19 @@
 use Rattle.std.specs.Prelude.{ℕ, ◌+◌, ◌≡◌, cond, List, ◌++◌, length, take, drop, leb}
 
 -- a buffer with w written at its front, where it has the room; the rest of it keeps its values
-abbrev pub putFront : List ℕ → List ℕ → List ℕ
-putFront w buf = cond (leb (length w) (length buf)) (w ++ drop (length w) buf) buf
+abbrev pub put_front : List ℕ → List ℕ → List ℕ
+put_front w buf = cond (leb (length w) (length buf)) (w ++ drop (length w) buf) buf
 
 -- how many bytes were written
-abbrev pub putCount : List ℕ → List ℕ → ℕ
-putCount w buf = cond (leb (length w) (length buf)) (length w) 0
+abbrev pub put_count : List ℕ → List ℕ → ℕ
+put_count w buf = cond (leb (length w) (length buf)) (length w) 0
 
 -- the place behind w, put at a place of a buffer, and the buffer then; without the room nothing is put
-unfoldable pub putEnd : List ℕ → ℕ → List ℕ → ℕ
-putEnd w at buf = at + putCount w (drop at buf)
+unfoldable pub put_end : List ℕ → ℕ → List ℕ → ℕ
+put_end w at buf = at + put_count w (drop at buf)
 
 unfoldable pub put_in : List ℕ → ℕ → List ℕ → List ℕ
-put_in w at buf = take at buf ++ putFront w (drop at buf)
+put_in w at buf = take at buf ++ put_front w (drop at buf)
 
 -- with the room
 unfoldable pub put_at : List ℕ → ℕ → List ℕ → List ℕ

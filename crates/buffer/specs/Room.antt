@@ -1,5 +1,5 @@
 -- What is written into a room: all of it, or nothing.
 use Rattle.std.specs.Prelude.{ℕ, cond, leb}
 
-unfoldable pub allOrNone : ℕ → ℕ → ℕ
-allOrNone n room = cond (leb n room) n 0
+unfoldable pub all_or_none : ℕ → ℕ → ℕ
+all_or_none n room = cond (leb n room) n 0

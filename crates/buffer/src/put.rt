@@ -1,10 +1,10 @@
 // Bytes put into a lent buffer: at its front, or at a place. Without the room nothing is put.
 ghost use Rattle.std.specs.Prelude.{◌≡◌};
-ghost use Rattle.buffer.specs.Puts.{putFront, putCount, putEnd, put_in};
+ghost use Rattle.buffer.specs.Puts.{put_front, put_count, put_end, put_in};
 
 // At the front. The answer is how many bytes were written.
 pub fn write_bytes(buf: &mut [u8], w: &[u8]) -> usize
-    ensures { (result ≡ putCount w.now buf.old) × (buf.new ≡ putFront w.now buf.old) }
+    ensures { (result ≡ put_count w.now buf.old) × (buf.new ≡ put_front w.now buf.old) }
 {
     if w.len() > buf.len() {
         return 0;
@@ -19,7 +19,7 @@ pub fn write_bytes(buf: &mut [u8], w: &[u8]) -> usize
 
 // At a place. The answer is the place behind them, or without the room the place itself.
 pub fn put_bytes(buf: &mut [u8], at: usize, w: &[u8]) -> usize
-    ensures { (result ≡ putEnd w.now at buf.old) × (buf.new ≡ put_in w.now at buf.old) }
+    ensures { (result ≡ put_end w.now at buf.old) × (buf.new ≡ put_in w.now at buf.old) }
 {
     if buf.len() < at {
         return at;

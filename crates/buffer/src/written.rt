@@ -1,8 +1,8 @@
 // A form written to the front of a lent buffer, all of it or nothing.
 ghost use Rattle.std.specs.Prelude.{◌≡◌};
-ghost use Rattle.buffer.specs.Puts.{putFront};
-ghost use Rattle.buffer.specs.Room.{allOrNone};
-ghost use Rattle.buffer.specs.WriterAnswers.{refusedWrite, written};
+ghost use Rattle.buffer.specs.Puts.{put_front};
+ghost use Rattle.buffer.specs.Room.{all_or_none};
+ghost use Rattle.buffer.specs.WriterAnswers.{refused_write, written};
 
 use super::put::write_bytes;
 use units::Refusal;
@@ -15,7 +15,7 @@ pub struct Written {
 }
 
 pub fn refused_write(n: u8) -> Written
-    ensures { result ≡ refusedWrite n }
+    ensures { result ≡ refused_write n }
 {
     Written {
         refusal: Refusal::at(n, 0),
@@ -25,14 +25,14 @@ pub fn refused_write(n: u8) -> Written
 
 // How many of n bytes are written into a room: all of them, or none.
 fn all_or_none(n: usize, room: usize) -> usize
-    ensures { result ≡ allOrNone n room }
+    ensures { result ≡ all_or_none n room }
 {
     if n <= room { n } else { 0 }
 }
 
 // The form w, or 11.
 pub fn write(buf: &mut [u8], w: &[u8]) -> Written
-    ensures { (result ≡ written w.now buf.old) × (buf.new ≡ putFront w.now buf.old) }
+    ensures { (result ≡ written w.now buf.old) × (buf.new ≡ put_front w.now buf.old) }
 {
     let n = w.len();
     let k = all_or_none(n, buf.len());

@@ -7,99 +7,99 @@ use Rattle.little_endian.specs.Rows.{each}
 use Rattle.little_endian.proofs.LittleLaws.{little-length}
 use Rattle.little_endian.proofs.RowLaws.{each-length}
 use Rattle.units.specs.declared.FlipFlops.{FlipFlops}
-use Rattle.fields.specs.Names.{nameMax}
-use Rattle.soc.specs.Limits.{modulesMax, chainsMax, testsMax}
-use Rattle.soc.specs.Record.{flipFlops, noTest, noModule}
+use Rattle.fields.specs.Names.{name_max}
+use Rattle.soc.specs.Limits.{modules_max, chains_max, tests_max}
+use Rattle.soc.specs.Record.{flip_flops, no_test, no_module}
 use Rattle.soc.specs.Sized.{SizedModule, Sized}
 use Rattle.soc.specs.declared.record.Test.{Test}
 use Rattle.soc.specs.declared.record.Module.{Module}
 use Rattle.soc.specs.declared.record.Soc.{Soc}
-use Rattle.wrapper_fit.specs.Maxima.{widthMax}
+use Rattle.wrapper_fit.specs.Maxima.{width_max}
 use Rattle.wrapper_layout.specs.declared.laid.WrapperLayout.{WrapperLayout}
-use Rattle.plan_record.specs.Record.{busPlaces, modulePlaces, noBus, noPlaced}
+use Rattle.plan_record.specs.Record.{bus_places, module_places, no_bus, no_placed}
 use Rattle.plan_record.specs.Whole.{Whole}
 use Rattle.plan_record.specs.declared.record.Bus.{Bus}
 use Rattle.plan_record.specs.declared.record.PlacedModule.{PlacedModule}
 use Rattle.plan_record.specs.declared.record.BusPlan.{BusPlan}
-use Rattle.c_forms.specs.Words.{wordLength, longLength}
-use Rattle.c_forms.specs.SocForm.{testLength, moduleLength, modulesFrom, socLength, testWords, testBytes}
-use Rattle.c_forms.specs.SocForm.{lengthBytes, moduleBytes, headBytes, socBytes}
-use Rattle.c_forms.specs.PlanForm.{busStride, placedStride, busesFrom, planLength, busBytes}
-use Rattle.c_forms.specs.PlanForm.{placedBytes, countBytes, planBytes}
-use Rattle.c_forms.specs.LayoutForm.{layoutLength, timeBytes, layoutBytes}
-use Rattle.c_forms.specs.BudgetForm.{found_from, budgetLength, stateWords, spentBytes, budgetBytes}
+use Rattle.c_forms.specs.Words.{word_length, long_length}
+use Rattle.c_forms.specs.SocForm.{test_length, module_length, modules_from, soc_length, test_words, test_bytes}
+use Rattle.c_forms.specs.SocForm.{length_bytes, module_bytes, head_bytes, soc_bytes}
+use Rattle.c_forms.specs.PlanForm.{bus_stride, placed_stride, buses_from, plan_length, bus_bytes}
+use Rattle.c_forms.specs.PlanForm.{placed_bytes, count_bytes, plan_bytes}
+use Rattle.c_forms.specs.LayoutForm.{layout_length, time_bytes, layout_bytes}
+use Rattle.c_forms.specs.BudgetForm.{found_from, budget_length, state_words, spent_bytes, budget_bytes}
 use Rattle.c_forms.proofs.WordLaws.{words-length}
 
-pub test-length : (t : Test) → length (testBytes t) ≡ testLength
-unfolding testBytes
-test-length t = words-length (testWords t)
+pub test-length : (t : Test) → length (test_bytes t) ≡ test_length
+unfolding test_bytes
+test-length t = words-length (test_words t)
 
-pub chain_length : (f : FlipFlops) → length (lengthBytes f) ≡ wordLength
-unfolding lengthBytes
-chain_length f = little-length wordLength f.0
+pub chain_length_lem : (f : FlipFlops) → length (length_bytes f) ≡ word_length
+unfolding length_bytes
+chain_length_lem f = little-length word_length f.0
 
 module _ (d : Module) (z : SizedModule d) where
-  pub chains-length : length (each lengthBytes d.chains) ≡ wordLength * chainsMax
-  chains-length = each-length lengthBytes wordLength d.chains chainsMax (flipFlops 0) z.chains (λ i h. chain_length _)
+  pub chains-length : length (each length_bytes d.chains) ≡ word_length * chains_max
+  chains-length = each-length length_bytes word_length d.chains chains_max (flip_flops 0) z.chains (λ i h. chain_length_lem _)
 
-  tests-length : length (each testBytes d.tests) ≡ testLength * testsMax
-  tests-length = each-length testBytes testLength d.tests testsMax noTest z.tests (λ i h. test-length _)
+  tests-length : length (each test_bytes d.tests) ≡ test_length * tests_max
+  tests-length = each-length test_bytes test_length d.tests tests_max no_test z.tests (λ i h. test-length _)
 
-  pub module-length : length (moduleBytes d) ≡ moduleLength
-  unfolding moduleBytes
-  module-length = simp (length-append, words-length, chains-length, tests-length)
+  pub module_length_lem : length (module_bytes d) ≡ module_length
+  unfolding module_bytes
+  module_length_lem = simp (length-append, words-length, chains-length, tests-length)
 
-pub head-length : (s : Soc) → length s.name ≡ nameMax → length (headBytes s) ≡ modulesFrom
-unfolding headBytes
-head-length s n = simp (length-append, little-length, words-length, n)
+pub head_length : (s : Soc) → length s.name ≡ name_max → length (head_bytes s) ≡ modules_from
+unfolding head_bytes
+head_length s n = simp (length-append, little-length, words-length, n)
 
-pub soc-length : (s : Soc) → Sized s → length (socBytes s) ≡ socLength
-unfolding socBytes
+pub soc-length : (s : Soc) → Sized s → length (soc_bytes s) ≡ soc_length
+unfolding soc_bytes
 soc-length s z =
-    let m : length (each moduleBytes s.modules) ≡ moduleLength * modulesMax = each-length moduleBytes moduleLength
-    s.modules modulesMax noModule z.modules (λ i h. module-length _ (z.each i h)) in
-    simp (length-append, head-length s z.name, m)
+    let m : length (each module_bytes s.modules) ≡ module_length * modules_max = each-length module_bytes module_length
+    s.modules modules_max no_module z.modules (λ i h. module_length_lem _ (z.each i h)) in
+    simp (length-append, head_length s z.name, m)
 
-pub bus-length : (b : Bus) → length (busBytes b) ≡ busStride
-unfolding busBytes
+pub bus-length : (b : Bus) → length (bus_bytes b) ≡ bus_stride
+unfolding bus_bytes
 bus-length b = simp (length-append, little-length)
 
-pub placed-length : (m : PlacedModule) → length (placedBytes m) ≡ placedStride
-unfolding placedBytes
+pub placed-length : (m : PlacedModule) → length (placed_bytes m) ≡ placed_stride
+unfolding placed_bytes
 placed-length m = simp (length-append, little-length, words-length)
 
-pub count-length : (p : BusPlan) → length (countBytes p) ≡ busesFrom
-unfolding countBytes
+pub count-length : (p : BusPlan) → length (count_bytes p) ≡ buses_from
+unfolding count_bytes
 count-length p = simp (length-append, little-length, words-length)
 
-pub buses-length : (p : BusPlan) → Whole p → length (each busBytes p.buses) ≡ busStride * busPlaces
-buses-length p w = each-length busBytes busStride p.buses busPlaces noBus w.buses (λ i h. bus-length _)
+pub buses-length : (p : BusPlan) → Whole p → length (each bus_bytes p.buses) ≡ bus_stride * bus_places
+buses-length p w = each-length bus_bytes bus_stride p.buses bus_places no_bus w.buses (λ i h. bus-length _)
 
-pub plan-length : (p : BusPlan) → Whole p → length (planBytes p) ≡ planLength
-unfolding planBytes
+pub plan-length : (p : BusPlan) → Whole p → length (plan_bytes p) ≡ plan_length
+unfolding plan_bytes
 plan-length p w =
-    let m : length (each placedBytes p.modules) ≡ placedStride * modulePlaces = each-length placedBytes placedStride
-    p.modules modulePlaces noPlaced w.modules (λ i h. placed-length _) in
+    let m : length (each placed_bytes p.modules) ≡ placed_stride * module_places = each-length placed_bytes placed_stride
+    p.modules module_places no_placed w.modules (λ i h. placed-length _) in
     simp (length-append, count-length, buses-length p w, m)
 
-spent-length : (f k : Bool) (t : ℕ) → length (spentBytes f k t) ≡ found_from
-unfolding spentBytes
-spent-length f k t = simp (length-append, little-length, words-length)
+spent_length : (f k : Bool) (t : ℕ) → length (spent_bytes f k t) ≡ found_from
+unfolding spent_bytes
+spent_length f k t = simp (length-append, little-length, words-length)
 
-pub budget-length : (f k : Bool) (t : ℕ) (p : BusPlan) → Whole p → length (budgetBytes f k t p) ≡ budgetLength
-unfolding budgetBytes
-budget-length f k t p w = simp (length-append, spent-length f k t, plan-length p w)
+pub budget_length_lem : (f k : Bool) (t : ℕ) (p : BusPlan) → Whole p → length (budget_bytes f k t p) ≡ budget_length
+unfolding budget_bytes
+budget_length_lem f k t p w = simp (length-append, spent_length f k t, plan-length p w)
 
-time-length : (si so cycles : ℕ) → length (timeBytes si so cycles) ≡ longLength * 3
-unfolding timeBytes
+time-length : (si so cycles : ℕ) → length (time_bytes si so cycles) ≡ long_length * 3
+unfolding time_bytes
 time-length si so cycles = simp (length-append, little-length)
 
 -- arrays of a layout have the lengths that their types say
-pub layout-length : (l : WrapperLayout) → length l.flip_flops ≡ widthMax → length l.input_cells ≡ widthMax
-    → length l.output_cells ≡ widthMax → length l.bidir_cells ≡ widthMax → length l.chain_of ≡ chainsMax
-    → length (layoutBytes l) ≡ layoutLength
-unfolding layoutBytes
-layout-length l f i o b c =
-    let g : length (each lengthBytes l.flip_flops) ≡ wordLength * widthMax = each-length lengthBytes wordLength
-    l.flip_flops widthMax (flipFlops 0) f (λ j h. chain_length _) in
+pub layout_length_lem : (l : WrapperLayout) → length l.flip_flops ≡ width_max → length l.input_cells ≡ width_max
+    → length l.output_cells ≡ width_max → length l.bidir_cells ≡ width_max → length l.chain_of ≡ chains_max
+    → length (layout_bytes l) ≡ layout_length
+unfolding layout_bytes
+layout_length_lem l f i o b c =
+    let g : length (each length_bytes l.flip_flops) ≡ word_length * width_max = each-length length_bytes word_length
+    l.flip_flops width_max (flip_flops 0) f (λ j h. chain_length_lem _) in
     simp (length-append, g, words-length, i, o, b, c, time-length)

@@ -9,89 +9,89 @@ use borrow.Author.Tests.{eq-eqb}
 use lib.ListN.{length, length-append}
 use Rattle.little_endian.specs.Rows.{each, rows}
 use Rattle.little_endian.proofs.LittleLaws.{little-length}
-use Rattle.little_endian.proofs.StandLaws.{Stands, stands-whole, stands-first, stands-behind}
-use Rattle.little_endian.proofs.StandLaws.{number-stands, number-first, number_behind, rows-stand}
-use Rattle.plan_record.specs.Record.{busPlaces, modulePlaces, noBus, noPlaced}
-use Rattle.plan_record.specs.Good.{goodPlan}
+use Rattle.little_endian.proofs.StandLaws.{Stands, stands_whole, stands_first, stands_behind}
+use Rattle.little_endian.proofs.StandLaws.{number_stands, number-first, number_behind, rows_stand}
+use Rattle.plan_record.specs.Record.{bus_places, module_places, no_bus, no_placed}
+use Rattle.plan_record.specs.Good.{good_plan}
 use Rattle.plan_record.specs.Whole.{Whole}
 use Rattle.plan_record.specs.declared.record.Bus.{Bus}
 use Rattle.plan_record.specs.declared.record.PlacedModule.{PlacedModule}
 use Rattle.plan_record.specs.declared.record.BusPlan.{BusPlan}
-use Rattle.c_forms.specs.Words.{wordLength, longLength, long, words}
-use Rattle.c_forms.specs.PlanForm.{busStride, cyclesFrom, startFrom, placedStride, timeFrom, busesFrom, placedFrom, planLength, busBytes}
-use Rattle.c_forms.specs.PlanForm.{busAt, placedWords, placedBytes, placed_at, countWords, countBytes, planBytes, plan_at, planIn}
+use Rattle.c_forms.specs.Words.{word_length, long_length, long, words}
+use Rattle.c_forms.specs.PlanForm.{bus_stride, cycles_from, start_from, placed_stride, time_from, buses_from, placed_from, plan_length, bus_bytes}
+use Rattle.c_forms.specs.PlanForm.{bus_at, placed_words, placed_bytes, placed_at, count_words, count_bytes, plan_bytes, plan_at, plan_in}
 use Rattle.c_forms.specs.Fit.{FitBus, FitPlaced, FitPlan}
-use Rattle.c_forms.proofs.WordLaws.{words-length, words-stand, words-behind}
+use Rattle.c_forms.proofs.WordLaws.{words-length, words_stand, words-behind}
 use Rattle.c_forms.proofs.LengthLaws.{bus-length, placed-length, buses-length, plan-length}
 use Rattle.c_forms.proofs.PlanFits.{good-plan-fits}
 
-bus-back : {b : List ℕ} (x : Bus) (at : ℕ) → FitBus x → Stands (busBytes x) b at → busAt b at ≡ x
-unfolding busBytes
-bus-back x at f s =
-    let e : at + wordLength * 0 ≡ at = omega arith in
-    let w = number-first wordLength x.width.0 (long x.busy.0) f.width s in
-    let c = number-stands longLength x.busy.0 f.busy (number_behind wordLength x.width.0 (long x.busy.0)
-    (at + wordLength) refl s) in
+bus_back : {b : List ℕ} (x : Bus) (at : ℕ) → FitBus x → Stands (bus_bytes x) b at → bus_at b at ≡ x
+unfolding bus_bytes
+bus_back x at f s =
+    let e : at + word_length * 0 ≡ at = omega arith in
+    let w = number-first word_length x.width.0 (long x.busy.0) f.width s in
+    let c = number_stands long_length x.busy.0 f.busy (number_behind word_length x.width.0 (long x.busy.0)
+    (at + word_length) refl s) in
     rw (e, w, c)
 
-placed-back : {b : List ℕ} (x : PlacedModule) (at : ℕ) → FitPlaced x → Stands (placedBytes x) b at → placed_at b at ≡ x
-unfolding placedBytes
-placed-back x at f s =
-    let v = placedWords x in
+placed_back : {b : List ℕ} (x : PlacedModule) (at : ℕ) → FitPlaced x → Stands (placed_bytes x) b at → placed_at b at ≡ x
+unfolding placed_bytes
+placed_back x at f s =
+    let v = placed_words x in
     let c = long x.cycles.0 in
     let d = long x.start.0 in
-    let front = stands-first (words v ++ c) d s in
-    let w = stands-first (words v) c front in
-    let n : length (words v ++ c) ≡ startFrom = simp (length-append, words-length, little-length) in
+    let front = stands_first (words v ++ c) d s in
+    let w = stands_first (words v) c front in
+    let n : length (words v ++ c) ≡ start_from = simp (length-append, words-length, little-length) in
     rw (
-      words-stand v 0 (omega arith) f.number w,
-      words-stand v 1 (omega arith) f.bus w,
-      words-stand v 2 (omega arith) f.wires w,
-      number-stands longLength x.cycles.0 f.cycles (words-behind v c (at + cyclesFrom) refl front),
-      number-stands longLength x.start.0 f.start (stands-behind (words v ++ c) d startFrom (at + startFrom) n refl s),
+      words_stand v 0 (omega arith) f.number w,
+      words_stand v 1 (omega arith) f.bus w,
+      words_stand v 2 (omega arith) f.wires w,
+      number_stands long_length x.cycles.0 f.cycles (words-behind v c (at + cycles_from) refl front),
+      number_stands long_length x.start.0 f.start (stands_behind (words v ++ c) d start_from (at + start_from) n refl s),
     )
 
 module _ {b : List ℕ} (p : BusPlan) (w : Whole p) (f : FitPlan p) where
-  buses-back : Stands (each busBytes p.buses) b busesFrom → rows (busAt b) busStride busPlaces busesFrom ≡ p.buses
-  buses-back s =
+  buses_back : Stands (each bus_bytes p.buses) b buses_from → rows (bus_at b) bus_stride bus_places buses_from ≡ p.buses
+  buses_back s =
       rw w.buses at
-      (rows-stand busBytes busStride FitBus (λ x h. bus-length x) b noBus (busAt b) bus-back p.buses busesFrom f.buses s)
+      (rows_stand bus_bytes bus_stride FitBus (λ x h. bus-length x) b no_bus (bus_at b) bus_back p.buses buses_from f.buses s)
 
-  modules-back : Stands (each placedBytes p.modules) b placedFrom → rows (placed_at b) placedStride modulePlaces placedFrom ≡ p.modules
-  modules-back s =
+  modules_back : Stands (each placed_bytes p.modules) b placed_from → rows (placed_at b) placed_stride module_places placed_from ≡ p.modules
+  modules_back s =
       rw w.modules at
-      (rows-stand placedBytes placedStride FitPlaced (λ x h. placed-length x) b noPlaced (placed_at b) placed-back p.modules placedFrom
+      (rows_stand placed_bytes placed_stride FitPlaced (λ x h. placed-length x) b no_placed (placed_at b) placed_back p.modules placed_from
       f.modules s)
 
-  plan-stands : Stands (planBytes p) b 0 → plan_at b ≡ p
-  unfolding planBytes plan_at countBytes
-  plan-stands a =
+  plan_stands : Stands (plan_bytes p) b 0 → plan_at b ≡ p
+  unfolding plan_bytes plan_at count_bytes
+  plan_stands a =
       let s = simp append_assoc at a in
-      let v = countWords p in
+      let v = count_words p in
       let t = long p.time.0 in
-      let u = each busBytes p.buses in
-      let m = each placedBytes p.modules in
-      let c = stands-first (words v) (t ++ (u ++ m)) s in
-      let q = words-behind v (t ++ (u ++ m)) timeFrom refl s in
-      let r = number_behind longLength p.time.0 (u ++ m) busesFrom refl q in
+      let u = each bus_bytes p.buses in
+      let m = each placed_bytes p.modules in
+      let c = stands_first (words v) (t ++ (u ++ m)) s in
+      let q = words-behind v (t ++ (u ++ m)) time_from refl s in
+      let r = number_behind long_length p.time.0 (u ++ m) buses_from refl q in
       rw (
-        words-stand v 0 (omega arith) f.wires c,
-        words-stand v 1 (omega arith) f.limit c,
-        words-stand v 2 (omega arith) f.bus-count c,
-        words-stand v 3 (omega arith) f.module-count c,
-        number-first longLength p.time.0 (u ++ m) f.time q,
-        buses-back (stands-first u m r),
-        modules-back (stands-behind u m (busStride * busPlaces) placedFrom (buses-length p w) refl r),
+        words_stand v 0 (omega arith) f.wires c,
+        words_stand v 1 (omega arith) f.limit c,
+        words_stand v 2 (omega arith) f.bus-count c,
+        words_stand v 3 (omega arith) f.module_count c,
+        number-first long_length p.time.0 (u ++ m) f.time q,
+        buses_back (stands_first u m r),
+        modules_back (stands_behind u m (bus_stride * bus_places) placed_from (buses-length p w) refl r),
       )
 
 -- bytes of the due length say a plan
-plan-in : (b : List ℕ) → length b ≡ planLength → planIn b ≡ plan_at b
-unfolding planIn
-plan-in b e = rw (eq-eqb (length b) planLength e)
+plan_in_lem : (b : List ℕ) → length b ≡ plan_length → plan_in b ≡ plan_at b
+unfolding plan_in
+plan_in_lem b e = rw (eq-eqb (length b) plan_length e)
 
-pub plan-back : (p : BusPlan) → Whole p → FitPlan p → planIn (planBytes p) ≡ p
-plan-back p w f = plan-in (planBytes p) (plan-length p w) ∙ plan-stands p w f (stands-whole (planBytes p))
+pub plan_back : (p : BusPlan) → Whole p → FitPlan p → plan_in (plan_bytes p) ≡ p
+plan_back p w f = plan_in_lem (plan_bytes p) (plan-length p w) ∙ plan_stands p w f (stands_whole (plan_bytes p))
 
 -- a good one's figures fit
-pub good-plan-back : (p : BusPlan) → Whole p → goodPlan p ≡ true → planIn (planBytes p) ≡ p
-good-plan-back p w g = plan-back p w (good-plan-fits p w g)
+pub good-plan_back : (p : BusPlan) → Whole p → good_plan p ≡ true → plan_in (plan_bytes p) ≡ p
+good-plan_back p w g = plan_back p w (good-plan-fits p w g)

@@ -6,33 +6,33 @@ use mathlib.Core.List.{List, ◌++◌}
 use native.Mathlib.Omega.{arith}
 use borrow.Author.Tests.{le-leb, lt-leb}
 use lib.ListN.{length, get_or, length-append}
-use Rattle.buffer.specs.Puts.{putEnd, put_in, put_at, Put}
+use Rattle.buffer.specs.Puts.{put_end, put_in, put_at, Put}
 use Rattle.little_endian.specs.Rows.{each}
 use Rattle.little_endian.proofs.LittleLaws.{little-length}
 use Rattle.buffer.proofs.PutLaws.{put_is, put-kept, put_then}
 use Rattle.little_endian.proofs.RowLaws.{Run, run_more, run-all}
-use Rattle.c_forms.specs.Words.{wordLength, word, words, PutOf, PutWords, PutFront}
+use Rattle.c_forms.specs.Words.{word_length, word, words, PutOf, PutWords, PutFront}
 
 -- a part that there is room for
-pub first-put : {w b0 b1 : List ℕ} {m at r : ℕ} → length w ≡ m → at + m ≤ length b0 → (r ≡ putEnd w at b0) × (b1 ≡ put_in w at b0)
+pub first-put : {w b0 b1 : List ℕ} {m at r : ℕ} → length w ≡ m → at + m ≤ length b0 → (r ≡ put_end w at b0) × (b1 ≡ put_in w at b0)
     → PutOf m w at b0 b1 r
 first-put l h e = record { put = put_is (omega arith) e; long = l }
 
 -- words of which there are n
 pub put-words : {n : ℕ} (vs : List ℕ) {at r : ℕ} {b0 b1 : List ℕ} → length vs ≡ n → PutWords vs at b0 b1 r
-    → PutOf (wordLength * n) (words vs) at b0 b1 r
+    → PutOf (word_length * n) (words vs) at b0 b1 r
 put-words vs l p = rw l at p
 
 -- a part behind another
-pub then-put : {a w b0 b1 b2 : List ℕ} {n m at r s : ℕ} → at ≤ length b0 → PutOf n a at b0 b1 r → PutOf m w r b1 b2 s
+pub then_put : {a w b0 b1 b2 : List ℕ} {n m at r s : ℕ} → at ≤ length b0 → PutOf n a at b0 b1 r → PutOf m w r b1 b2 s
     → PutOf (n + m) (a ++ w) at b0 b2 s
-then-put h p q = record { put = put_then h p.put q.put; long = rw length-append (omega (arith, p.long, q.long)) }
+then_put h p q = record { put = put_then h p.put q.put; long = rw length-append (omega (arith, p.long, q.long)) }
 
 pub next-put : (w : List ℕ) {a b0 b1 b2 : List ℕ} {n m at r s : ℕ} → length w ≡ m → at + (n + m) ≤ length b0 → PutOf n a at b0 b1 r
-    → (s ≡ putEnd w r b1) × (b2 ≡ put_in w r b1) → PutOf (n + m) (a ++ w) at b0 b2 s
+    → (s ≡ put_end w r b1) × (b2 ≡ put_in w r b1) → PutOf (n + m) (a ++ w) at b0 b2 s
 next-put w {a} {b0} {b1} l h p e =
     let k : length b1 ≡ length b0 = put-kept p.put (omega (arith, p.long)) in
-    then-put (omega arith) p (first-put l (omega (arith, p.put.behind, p.long)) e)
+    then_put (omega arith) p (first-put l (omega (arith, p.put.behind, p.long)) e)
 
 module _ {A : Type 0} (f : A → List ℕ) where
   -- one element more
@@ -42,13 +42,13 @@ module _ {A : Type 0} (f : A → List ℕ) where
 
   -- one element more, which is a word
   pub run-word : (l : List A) (v : ℕ) {at i e r : ℕ} {before buf next : List ℕ} (z : A) → f (get_or l i z) ≡ word v → i < length l
-      → at + wordLength * length l ≤ length before → Run f wordLength l at before i buf e
-      → (r ≡ putEnd (word v) e buf) × (next ≡ put_in (word v) e buf) → Run f wordLength l at before (i + 1) next r
+      → at + word_length * length l ≤ length before → Run f word_length l at before i buf e
+      → (r ≡ put_end (word v) e buf) × (next ≡ put_in (word v) e buf) → Run f word_length l at before (i + 1) next r
   run-word l v {at} {i} {e} {r} {before} {buf} {next} z q h a run p =
-      let n : length (word v) ≡ wordLength = little-length wordLength v in
+      let n : length (word v) ≡ word_length = little-length word_length v in
       let o : e + length (word v) ≤ length buf = omega (arith, run.behind, run.kept) in
       let w : Put (word v) e buf next r = put_is o p in
-      run_more f wordLength l z h (omega arith) run (put-kept w o) (rw q n) (rw q w)
+      run_more f word_length l z h (omega arith) run (put-kept w o) (rw q n) (rw q w)
 
   -- all of them
   pub run-put : (k : ℕ) (l : List A) (n : ℕ) {at i e : ℕ} {before buf : List ℕ} → length l ≡ n → i ≡ n → Run f k l at before i buf e

@@ -11,20 +11,20 @@ use lib.Signed.{lt_z, non_neg}
 use mir.Syntax.{w32, w64}
 use mir.Val.{to_z, of_z, Fits, SFits}
 use mir.Facts.{to_z-of_z, to_z_pos}
-use Rattle.c_forms.specs.Words.{signedWord, signedIn, flagWord, flagIn}
+use Rattle.c_forms.specs.Words.{signed_word, signed_in, flag_word, flag_in}
 use Rattle.c_forms.specs.Fit.{Fits4}
 
-pub signed_low : (w : ℕ) → w < 2147483648 → signedIn w ≡ pos w
-unfolding signedIn
+pub signed_low : (w : ℕ) → w < 2147483648 → signed_in w ≡ pos w
+unfolding signed_in
 signed_low w h = rw (lt-ltb w 2147483648 h)
 
-pub signed_high : (w : ℕ) → 2147483648 ≤ w → signedIn w ≡ negsuc (4294967295 - w)
-unfolding signedIn
+pub signed_high : (w : ℕ) → 2147483648 ≤ w → signed_in w ≡ negsuc (4294967295 - w)
+unfolding signed_in
 signed_high w h = rw (le-ltb w 2147483648 h)
 
 -- 2³² taken from a word leaves a number below 0
-pub word-less : (w : ℕ) → w < 4294967296 → to_z w64 w -ℤ pos 4294967296 ≡ negsuc (4294967295 - w)
-word-less w h =
+pub word_less : (w : ℕ) → w < 4294967296 → to_z w64 w -ℤ pos 4294967296 ≡ negsuc (4294967295 - w)
+word_less w h =
     let e : 4294967296 - suc w ≡ 4294967295 - w = omega arith in
     rw (to_z_pos w64 {n = w} (omega arith), lt-ltb w 4294967296 h, e)
 
@@ -32,8 +32,8 @@ word-less w h =
 pub high_fits : (w : ℕ) → 2147483648 ≤ w → SFits w32 (negsuc (4294967295 - w))
 high_fits w h = record { sfits = omega arith }
 
-pub less-fits : (w : ℕ) → SFits w64 (negsuc (4294967295 - w))
-less-fits w = record { sfits = omega arith }
+pub less_fits : (w : ℕ) → SFits w64 (negsuc (4294967295 - w))
+less_fits w = record { sfits = omega arith }
 
 -- a number of 32 bits is one of 64 bits
 pub wide : (z : ℤ) → SFits w32 z → SFits w64 z
@@ -44,55 +44,55 @@ pub wide_back : (z : ℤ) → SFits w32 z → to_z w64 (of_z w64 z) ≡ z
 wide_back z f = to_z-of_z {w = w64} {z = z} (wide z f)
 
 -- below 0
-pub word_sum : (z : ℤ) → SFits w32 z → lt_z z (pos 0) ≡ true → z +ℤ pos 4294967296 ≡ pos (signedWord z)
-unfolding signedWord
+pub word_sum : (z : ℤ) → SFits w32 z → lt_z z (pos 0) ≡ true → z +ℤ pos 4294967296 ≡ pos (signed_word z)
+unfolding signed_word
 word_sum (pos n) f e = absurd (omega (arith, ltb-true n 0 e))
 word_sum (negsuc n) f e =
     let h : n < 2147483648 = f.sfits in
     let k : 4294967296 - suc n ≡ 4294967295 - n = omega arith in
     rw (le-ltb 4294967296 (suc n) (omega arith), k)
 
-pub word_below : (z : ℤ) → SFits w32 z → signedWord z < 4294967296
-unfolding signedWord
+pub word_below : (z : ℤ) → SFits w32 z → signed_word z < 4294967296
+unfolding signed_word
 word_below (pos n) f = let h : n < 2147483648 = f.sfits in omega arith
 word_below (negsuc n) f = omega arith
 
-pub word_fits : (z : ℤ) → SFits w32 z → SFits w64 (pos (signedWord z))
+pub word_fits : (z : ℤ) → SFits w32 z → SFits w64 (pos (signed_word z))
 word_fits z f = record { sfits = omega (arith, word_below z f) }
 
-pub word-bits : (z : ℤ) → SFits w32 z → to_z w64 (of_z w64 (pos (signedWord z))) ≡ pos (signedWord z)
-word-bits z f = to_z-of_z {w = w64} {z = pos (signedWord z)} (word_fits z f)
+pub word_bits : (z : ℤ) → SFits w32 z → to_z w64 (of_z w64 (pos (signed_word z))) ≡ pos (signed_word z)
+word_bits z f = to_z-of_z {w = w64} {z = pos (signed_word z)} (word_fits z f)
 
-pub word-cast : (z : ℤ) → SFits w32 z → T (non_neg (pos (signedWord z))) × Fits w64 (signedWord z)
-word-cast z f = (Prim.tt, record { fits = omega (arith, word_below z f) })
+pub word_cast : (z : ℤ) → SFits w32 z → T (non_neg (pos (signed_word z))) × Fits w64 (signed_word z)
+word_cast z f = (Prim.tt, record { fits = omega (arith, word_below z f) })
 
 -- not below 0
-pub above_word : (z : ℤ) → lt_z z (pos 0) ≡ false → nat_abs z ≡ signedWord z
-unfolding signedWord
+pub above_word : (z : ℤ) → lt_z z (pos 0) ≡ false → nat_abs z ≡ signed_word z
+unfolding signed_word
 above_word (pos n) e = refl
 above_word (negsuc n) e = absurd (true≢false e)
 
-pub above-cast : (z : ℤ) → SFits w32 z → lt_z z (pos 0) ≡ false → T (non_neg z) × Fits w64 (nat_abs z)
-above-cast (pos n) f e = (Prim.tt, record { fits = let h : n < 2147483648 = f.sfits in omega arith })
-above-cast (negsuc n) f e = absurd (true≢false e)
+pub above_cast : (z : ℤ) → SFits w32 z → lt_z z (pos 0) ≡ false → T (non_neg z) × Fits w64 (nat_abs z)
+above_cast (pos n) f e = (Prim.tt, record { fits = let h : n < 2147483648 = f.sfits in omega arith })
+above_cast (negsuc n) f e = absurd (true≢false e)
 
 -- a flag in its word
-pub flag-back : (f : Bool) → flagIn (flagWord f) ≡ f
-unfolding flagWord
-flag-back false = refl
-flag-back true = refl
+pub flag_back : (f : Bool) → flag_in (flag_word f) ≡ f
+unfolding flag_word
+flag_back false = refl
+flag_back true = refl
 
-pub flag_small : (f : Bool) → leb (flagWord f) 1 ≡ true
-unfolding flagWord
+pub flag_small : (f : Bool) → leb (flag_word f) 1 ≡ true
+unfolding flag_word
 flag_small false = refl
 flag_small true = refl
 
-pub flag-fits : (f : Bool) → Fits4 (flagWord f)
-flag-fits f = omega (arith, leb-true (flagWord f) 1 (flag_small f))
+pub flag-fits : (f : Bool) → Fits4 (flag_word f)
+flag-fits f = omega (arith, leb-true (flag_word f) 1 (flag_small f))
 
 -- a signed number read back
-pub signed_back : (z : ℤ) → SFits w32 z → signedIn (signedWord z) ≡ z
-unfolding signedWord
+pub signed_back : (z : ℤ) → SFits w32 z → signed_in (signed_word z) ≡ z
+unfolding signed_word
 signed_back (pos n) f = signed_low n f.sfits
 signed_back (negsuc n) f =
     let h : n < 2147483648 = f.sfits in

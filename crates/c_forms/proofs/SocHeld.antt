@@ -10,7 +10,7 @@ use denote.Array.{each}
 use denote.Shadow.{shadow}
 use denote.Laws.{Is}
 use denote.Struct.Declared as declared
-use Rattle.soc.specs.Record.{noModule}
+use Rattle.soc.specs.Record.{no_module}
 use Rattle.soc.specs.Sized.{SizedModule, Sized}
 use Rattle.soc.specs.declared.record.Module.{Module}
 use Rattle.soc.specs.declared.record.Soc.{Soc}
@@ -26,8 +26,8 @@ each-held to own P h (x ∷ xs) [] s z i l = absurd s
 each-held to own P h (x ∷ xs) (u ∷ us) s z zero l = h x u s.0
 each-held to own P h (x ∷ xs) (u ∷ us) s z (suc i) l = each-held to own P h xs us s.1 z i (omega arith)
 
-held-module : (d : Module) (u : Val) → shadow ((module-type.the_field).row.own_val ((module-type.the_type).to d) (u ∷ [])) → SizedModule d
-held-module d u h = record {
+held_module : (d : Module) (u : Val) → shadow ((module-type.the_field).row.own_val ((module-type.the_type).to d) (u ∷ [])) → SizedModule d
+held_module d u h = record {
   chains = simp length-map at h.1.1.1.1.1.1.1.0.1.0.1;
   tests = simp length-map at h.1.1.1.1.1.1.1.1.1.1.1.0.1.0.1;
 }
@@ -39,6 +39,6 @@ held-soc s vs h =
     record {
       name = simp length-map at h.1.1.1.0.1.0.1;
       modules = n;
-      each = λ i l. each-held (module-type.the_type).to (module-type.the_field).row.own_val SizedModule held-module s.modules m.0
-          m.1.1 noModule i (omega arith);
+      each = λ i l. each-held (module-type.the_type).to (module-type.the_field).row.own_val SizedModule held_module s.modules m.0
+          m.1.1 no_module i (omega arith);
     }

@@ -2,22 +2,22 @@
 -- tries, and the plan record, which says nothing where no plan is known.
 use Rattle.std.specs.Prelude.{ℕ, ◌+◌, ◌*◌, Bool, List, [], ◌∷◌, ◌++◌}
 use Rattle.plan_record.specs.declared.record.BusPlan.{BusPlan}
-use Rattle.c_forms.specs.Words.{wordLength, longLength, long, words, flagWord}
-use Rattle.c_forms.specs.PlanForm.{planLength, planBytes}
+use Rattle.c_forms.specs.Words.{word_length, long_length, long, words, flag_word}
+use Rattle.c_forms.specs.PlanForm.{plan_length, plan_bytes}
 
 -- where the plan record begins, and how many bytes there are: 16 and 1,228
 abbrev pub found_from : ℕ
-found_from = wordLength * 2 + longLength
+found_from = word_length * 2 + long_length
 
-abbrev pub budgetLength : ℕ
-budgetLength = found_from + planLength
+abbrev pub budget_length : ℕ
+budget_length = found_from + plan_length
 
-abbrev pub stateWords : Bool → Bool → List ℕ
-stateWords finished known = flagWord finished ∷ flagWord known ∷ []
+abbrev pub state_words : Bool → Bool → List ℕ
+state_words finished known = flag_word finished ∷ flag_word known ∷ []
 
 -- finished, known, tries
-unfoldable pub spentBytes : Bool → Bool → ℕ → List ℕ
-spentBytes finished known tries = words (stateWords finished known) ++ long tries
+unfoldable pub spent_bytes : Bool → Bool → ℕ → List ℕ
+spent_bytes finished known tries = words (state_words finished known) ++ long tries
 
-unfoldable pub budgetBytes : Bool → Bool → ℕ → BusPlan → List ℕ
-budgetBytes finished known tries p = spentBytes finished known tries ++ planBytes p
+unfoldable pub budget_bytes : Bool → Bool → ℕ → BusPlan → List ℕ
+budget_bytes finished known tries p = spent_bytes finished known tries ++ plan_bytes p

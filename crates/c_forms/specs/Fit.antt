@@ -4,11 +4,11 @@ use Rattle.std.specs.Prelude.{ℕ, ◌<◌, length, get_or}
 use Rattle.std.specs.Int.{w32}
 use Rattle.std.proofs.Common.{SFits}
 use Rattle.units.specs.declared.FlipFlops.{FlipFlops}
-use Rattle.soc.specs.Record.{flipFlops, noTest, noModule}
+use Rattle.soc.specs.Record.{flip_flops, no_test, no_module}
 use Rattle.soc.specs.declared.record.Test.{Test}
 use Rattle.soc.specs.declared.record.Module.{Module}
 use Rattle.soc.specs.declared.record.Soc.{Soc}
-use Rattle.plan_record.specs.Record.{noBus, noPlaced}
+use Rattle.plan_record.specs.Record.{no_bus, no_placed}
 use Rattle.plan_record.specs.declared.record.Bus.{Bus}
 use Rattle.plan_record.specs.declared.record.PlacedModule.{PlacedModule}
 use Rattle.plan_record.specs.declared.record.BusPlan.{BusPlan}
@@ -35,10 +35,10 @@ pub record FitPlan (p : BusPlan) : Type 0 where
   pub wires : Fits4 p.wires.0
   pub limit : Fits4 p.limit
   pub bus-count : Fits4 p.bus_count
-  pub module-count : Fits4 p.module_count
+  pub module_count : Fits4 p.module_count
   pub time : Fits8 p.time.0
-  pub buses : (i : ℕ) → i < length p.buses → FitBus (get_or p.buses i noBus)
-  pub modules : (i : ℕ) → i < length p.modules → FitPlaced (get_or p.modules i noPlaced)
+  pub buses : (i : ℕ) → i < length p.buses → FitBus (get_or p.buses i no_bus)
+  pub modules : (i : ℕ) → i < length p.modules → FitPlaced (get_or p.modules i no_placed)
 
 pub record FitTest (t : Test) : Type 0 where
   pub patterns : Fits4 t.patterns
@@ -52,14 +52,14 @@ pub record FitModule (d : Module) : Type 0 where
   pub inputs : Fits4 d.inputs
   pub outputs : Fits4 d.outputs
   pub bidirs : Fits4 d.bidirs
-  pub chain-count : Fits4 d.chain_count
-  pub chains : (i : ℕ) → i < length d.chains → FitLength (get_or d.chains i (flipFlops 0))
+  pub chain_count : Fits4 d.chain_count
+  pub chains : (i : ℕ) → i < length d.chains → FitLength (get_or d.chains i (flip_flops 0))
   pub x : SFits w32 d.x
   pub y : SFits w32 d.y
   pub test-count : Fits4 d.test_count
-  pub tests : (i : ℕ) → i < length d.tests → FitTest (get_or d.tests i noTest)
+  pub tests : (i : ℕ) → i < length d.tests → FitTest (get_or d.tests i no_test)
 
 pub record FitSoc (s : Soc) : Type 0 where
   pub name-len : Fits4 s.name_len
-  pub module-count : Fits4 s.module_count
-  pub modules : (i : ℕ) → i < length s.modules → FitModule (get_or s.modules i noModule)
+  pub module_count : Fits4 s.module_count
+  pub modules : (i : ℕ) → i < length s.modules → FitModule (get_or s.modules i no_module)

@@ -2,52 +2,52 @@
 use Rattle.std.specs.Prelude.{ℕ, ◌+◌, ◌*◌, cond, List, [], ◌∷◌, ◌++◌, length, eqb}
 use Rattle.little_endian.specs.Rows.{each, rows}
 use Rattle.wrapper_fit.specs.Counts.{wires, cycles}
-use Rattle.plan_record.specs.Record.{busPlaces, modulePlaces, noPlan}
+use Rattle.plan_record.specs.Record.{bus_places, module_places, no_plan}
 use Rattle.plan_record.specs.declared.record.Bus.{Bus}
 use Rattle.plan_record.specs.declared.record.PlacedModule.{PlacedModule}
 use Rattle.plan_record.specs.declared.record.BusPlan.{BusPlan}
-use Rattle.c_forms.specs.Words.{wordLength, longLength, word, long, longAt, words, word_at}
+use Rattle.c_forms.specs.Words.{word_length, long_length, word, long, long_at, words, word_at}
 
 -- how many bytes a bus has: 12
-abbrev pub busStride : ℕ
-busStride = wordLength + longLength
+abbrev pub bus_stride : ℕ
+bus_stride = word_length + long_length
 
 -- in a planned module, where its cycles begin, and its start, and how many bytes it has: 12, 20 and 28
-abbrev pub cyclesFrom : ℕ
-cyclesFrom = wordLength * 3
+abbrev pub cycles_from : ℕ
+cycles_from = word_length * 3
 
-abbrev pub startFrom : ℕ
-startFrom = cyclesFrom + longLength
+abbrev pub start_from : ℕ
+start_from = cycles_from + long_length
 
-abbrev pub placedStride : ℕ
-placedStride = startFrom + longLength
+abbrev pub placed_stride : ℕ
+placed_stride = start_from + long_length
 
 -- in a record, where its time begins, its buses and its planned modules, and how many bytes it has: 16, 24, 120 and 1,212
-abbrev pub timeFrom : ℕ
-timeFrom = wordLength * 4
+abbrev pub time_from : ℕ
+time_from = word_length * 4
 
-abbrev pub busesFrom : ℕ
-busesFrom = timeFrom + longLength
+abbrev pub buses_from : ℕ
+buses_from = time_from + long_length
 
-abbrev pub placedFrom : ℕ
-placedFrom = busesFrom + busStride * busPlaces
+abbrev pub placed_from : ℕ
+placed_from = buses_from + bus_stride * bus_places
 
-abbrev pub planLength : ℕ
-planLength = placedFrom + placedStride * modulePlaces
+abbrev pub plan_length : ℕ
+plan_length = placed_from + placed_stride * module_places
 
 -- width, busy
-unfoldable pub busBytes : Bus → List ℕ
-busBytes b = word b.width.0 ++ long b.busy.0
+unfoldable pub bus_bytes : Bus → List ℕ
+bus_bytes b = word b.width.0 ++ long b.busy.0
 
-abbrev pub busAt : List ℕ → ℕ → Bus
-busAt b at = record { width = wires (word_at b at 0); busy = cycles (longAt b (at + wordLength)) }
+abbrev pub bus_at : List ℕ → ℕ → Bus
+bus_at b at = record { width = wires (word_at b at 0); busy = cycles (long_at b (at + word_length)) }
 
 -- number, bus, wires, cycles, start
-abbrev pub placedWords : PlacedModule → List ℕ
-placedWords m = m.number ∷ m.bus ∷ m.wires.0 ∷ []
+abbrev pub placed_words : PlacedModule → List ℕ
+placed_words m = m.number ∷ m.bus ∷ m.wires.0 ∷ []
 
-unfoldable pub placedBytes : PlacedModule → List ℕ
-placedBytes m = words (placedWords m) ++ long m.cycles.0 ++ long m.start.0
+unfoldable pub placed_bytes : PlacedModule → List ℕ
+placed_bytes m = words (placed_words m) ++ long m.cycles.0 ++ long m.start.0
 
 abbrev pub placed_at : List ℕ → ℕ → PlacedModule
 placed_at b at =
@@ -55,19 +55,19 @@ placed_at b at =
       number = word_at b at 0;
       bus = word_at b at 1;
       wires = wires (word_at b at 2);
-      cycles = cycles (longAt b (at + cyclesFrom));
-      start = cycles (longAt b (at + startFrom));
+      cycles = cycles (long_at b (at + cycles_from));
+      start = cycles (long_at b (at + start_from));
     }
 
 -- W, B, number of buses, number of modules, time; the buses; the planned modules
-abbrev pub countWords : BusPlan → List ℕ
-countWords p = p.wires.0 ∷ p.limit ∷ p.bus_count ∷ p.module_count ∷ []
+abbrev pub count_words : BusPlan → List ℕ
+count_words p = p.wires.0 ∷ p.limit ∷ p.bus_count ∷ p.module_count ∷ []
 
-unfoldable pub countBytes : BusPlan → List ℕ
-countBytes p = words (countWords p) ++ long p.time.0
+unfoldable pub count_bytes : BusPlan → List ℕ
+count_bytes p = words (count_words p) ++ long p.time.0
 
-unfoldable pub planBytes : BusPlan → List ℕ
-planBytes p = countBytes p ++ each busBytes p.buses ++ each placedBytes p.modules
+unfoldable pub plan_bytes : BusPlan → List ℕ
+plan_bytes p = count_bytes p ++ each bus_bytes p.buses ++ each placed_bytes p.modules
 
 unfoldable pub plan_at : List ℕ → BusPlan
 plan_at b =
@@ -75,12 +75,12 @@ plan_at b =
       wires = wires (word_at b 0 0);
       limit = word_at b 0 1;
       bus_count = word_at b 0 2;
-      buses = rows (busAt b) busStride busPlaces busesFrom;
+      buses = rows (bus_at b) bus_stride bus_places buses_from;
       module_count = word_at b 0 3;
-      modules = rows (placed_at b) placedStride modulePlaces placedFrom;
-      time = cycles (longAt b timeFrom);
+      modules = rows (placed_at b) placed_stride module_places placed_from;
+      time = cycles (long_at b time_from);
     }
 
 -- bytes of another length are no record, and the plan that says nothing stands for them: it is not good (12)
-unfoldable pub planIn : List ℕ → BusPlan
-planIn b = cond (eqb (length b) planLength) (plan_at b) noPlan
+unfoldable pub plan_in : List ℕ → BusPlan
+plan_in b = cond (eqb (length b) plan_length) (plan_at b) no_plan

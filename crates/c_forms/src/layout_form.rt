@@ -1,8 +1,8 @@
 // A layout put into a lent buffer as its bytes. Without the room nothing is put, and the answer is 0.
 ghost use Rattle.std.specs.Prelude.{◌+◌, ◌*◌, ◌≤◌, length};
-ghost use Rattle.soc.specs.Limits.{chainsMax};
-ghost use Rattle.c_forms.specs.Words.{wordLength, longLength, words, PutOf, PutFront};
-ghost use Rattle.c_forms.specs.LayoutForm.{layoutLength, timeBytes, layoutBytes};
+ghost use Rattle.soc.specs.Limits.{chains_max};
+ghost use Rattle.c_forms.specs.Words.{word_length, long_length, words, PutOf, PutFront};
+ghost use Rattle.c_forms.specs.LayoutForm.{layout_length, time_bytes, layout_bytes};
 
 use super::soc_form::put_lengths;
 use super::word::{LONG_BYTES, WORD_BYTES, put_words};
@@ -14,8 +14,8 @@ pub const LAYOUT_BYTES: usize = WORD_BYTES * (WIDTH_MAX as usize * 4 + CHAINS_MA
 
 // The wrapper chain of each internal chain.
 fn put_chains(buf: &mut [u8], at: usize, list: [usize; CHAINS_MAX]) -> usize
-    requires { at + wordLength * chainsMax ≤ length buf.old }
-    ensures { PutOf (wordLength * chainsMax) (words list) at buf.old buf.new result }
+    requires { at + word_length * chains_max ≤ length buf.old }
+    ensures { PutOf (word_length * chains_max) (words list) at buf.old buf.new result }
 {
     let mut e = at;
     let mut i: usize = 0;
@@ -28,8 +28,8 @@ fn put_chains(buf: &mut [u8], at: usize, list: [usize; CHAINS_MAX]) -> usize
 
 // The longest scan-in and scan-out, and the test's cycles.
 fn put_time(buf: &mut [u8], at: usize, si: u64, so: u64, cycles: u64) -> usize
-    requires { at + longLength * 3 ≤ length buf.old }
-    ensures { PutOf (longLength * 3) (timeBytes si so cycles) at buf.old buf.new result }
+    requires { at + long_length * 3 ≤ length buf.old }
+    ensures { PutOf (long_length * 3) (time_bytes si so cycles) at buf.old buf.new result }
 {
     let a = little_endian::put_u64(&mut *buf, at, si);
     let b = little_endian::put_u64(&mut *buf, a, so);
@@ -37,7 +37,7 @@ fn put_time(buf: &mut [u8], at: usize, si: u64, so: u64, cycles: u64) -> usize
 }
 
 pub fn layout_bytes(l: WrapperLayout, buf: &mut [u8]) -> usize
-    ensures { PutFront layoutLength (layoutBytes l) buf.old buf.new result }
+    ensures { PutFront layout_length (layout_bytes l) buf.old buf.new result }
 {
     if buf.len() < LAYOUT_BYTES {
         return 0;

@@ -1,10 +1,10 @@
 // A plan record put into a lent buffer as its bytes. Without the room nothing is put, and the answer is 0.
 ghost use Rattle.std.specs.Prelude.{◌+◌, ◌*◌, ◌≤◌, length};
 ghost use Rattle.little_endian.specs.Rows.{each};
-ghost use Rattle.plan_record.specs.Record.{busPlaces, modulePlaces};
+ghost use Rattle.plan_record.specs.Record.{bus_places, module_places};
 ghost use Rattle.c_forms.specs.Words.{PutOf, PutFront};
-ghost use Rattle.c_forms.specs.PlanForm.{busStride, placedStride, busesFrom, planLength};
-ghost use Rattle.c_forms.specs.PlanForm.{busBytes, placedBytes, countBytes, planBytes};
+ghost use Rattle.c_forms.specs.PlanForm.{bus_stride, placed_stride, buses_from, plan_length};
+ghost use Rattle.c_forms.specs.PlanForm.{bus_bytes, placed_bytes, count_bytes, plan_bytes};
 
 use super::word::{LONG_BYTES, WORD_BYTES, put_words};
 use plan_record::{BUS_PLACES, Bus, BusPlan, MODULE_PLACES, PlacedModule};
@@ -29,16 +29,16 @@ pub(crate) const PLACED_FROM: usize = BUSES_FROM + BUS_STRIDE * BUS_PLACES;
 pub const PLAN_BYTES: usize = PLACED_FROM + PLACED_STRIDE * MODULE_PLACES;
 
 fn put_bus(buf: &mut [u8], at: usize, b: Bus) -> usize
-    requires { at + busStride ≤ length buf.old }
-    ensures { PutOf busStride (busBytes b) at buf.old buf.new result }
+    requires { at + bus_stride ≤ length buf.old }
+    ensures { PutOf bus_stride (bus_bytes b) at buf.old buf.new result }
 {
     let a = little_endian::put_u32(&mut *buf, at, b.width.0 as u64);
     little_endian::put_u64(&mut *buf, a, b.busy.0)
 }
 
 pub(crate) fn put_buses(buf: &mut [u8], at: usize, p: BusPlan) -> usize
-    requires { at + busStride * busPlaces ≤ length buf.old }
-    ensures { PutOf (busStride * busPlaces) (each busBytes p.buses) at buf.old buf.new result }
+    requires { at + bus_stride * bus_places ≤ length buf.old }
+    ensures { PutOf (bus_stride * bus_places) (each bus_bytes p.buses) at buf.old buf.new result }
 {
     let mut e = at;
     let mut i: usize = 0;
@@ -51,8 +51,8 @@ pub(crate) fn put_buses(buf: &mut [u8], at: usize, p: BusPlan) -> usize
 }
 
 fn put_placed(buf: &mut [u8], at: usize, m: PlacedModule) -> usize
-    requires { at + placedStride ≤ length buf.old }
-    ensures { PutOf placedStride (placedBytes m) at buf.old buf.new result }
+    requires { at + placed_stride ≤ length buf.old }
+    ensures { PutOf placed_stride (placed_bytes m) at buf.old buf.new result }
 {
     let w = [m.number as u64, m.bus as u64, m.wires.0 as u64];
     let a = put_words(&mut *buf, at, &w);
@@ -61,8 +61,8 @@ fn put_placed(buf: &mut [u8], at: usize, m: PlacedModule) -> usize
 }
 
 pub(crate) fn put_modules(buf: &mut [u8], at: usize, p: BusPlan) -> usize
-    requires { at + placedStride * modulePlaces ≤ length buf.old }
-    ensures { PutOf (placedStride * modulePlaces) (each placedBytes p.modules) at buf.old buf.new result }
+    requires { at + placed_stride * module_places ≤ length buf.old }
+    ensures { PutOf (placed_stride * module_places) (each placed_bytes p.modules) at buf.old buf.new result }
 {
     let mut e = at;
     let mut i: usize = 0;
@@ -75,8 +75,8 @@ pub(crate) fn put_modules(buf: &mut [u8], at: usize, p: BusPlan) -> usize
 }
 
 pub(crate) fn put_counts(buf: &mut [u8], at: usize, p: BusPlan) -> usize
-    requires { at + busesFrom ≤ length buf.old }
-    ensures { PutOf busesFrom (countBytes p) at buf.old buf.new result }
+    requires { at + buses_from ≤ length buf.old }
+    ensures { PutOf buses_from (count_bytes p) at buf.old buf.new result }
 {
     let w = [
         p.wires.0 as u64,
@@ -89,7 +89,7 @@ pub(crate) fn put_counts(buf: &mut [u8], at: usize, p: BusPlan) -> usize
 }
 
 pub fn plan_bytes(p: BusPlan, buf: &mut [u8]) -> usize
-    ensures { PutFront planLength (planBytes p) buf.old buf.new result }
+    ensures { PutFront plan_length (plan_bytes p) buf.old buf.new result }
 {
     if buf.len() < PLAN_BYTES {
         return 0;

@@ -1,8 +1,8 @@
 // A plan record from its bytes. Bytes of another length stand for the plan that says nothing, which is not good.
 ghost use Rattle.std.specs.Prelude.{◌≡◌, ◌+◌, ◌≤◌, length};
 ghost use Rattle.little_endian.specs.Rows.{rows};
-ghost use Rattle.plan_record.specs.Record.{busPlaces, modulePlaces};
-ghost use Rattle.c_forms.specs.PlanForm.{busStride, placedStride, busesFrom, placedFrom, planLength, busAt, placed_at, plan_at, planIn};
+ghost use Rattle.plan_record.specs.Record.{bus_places, module_places};
+ghost use Rattle.c_forms.specs.PlanForm.{bus_stride, placed_stride, buses_from, placed_from, plan_length, bus_at, placed_at, plan_at, plan_in};
 
 use super::plan_form::{
     BUS_STRIDE, BUSES_FROM, CYCLES_FROM, PLACED_FROM, PLACED_STRIDE, PLAN_BYTES, START_FROM,
@@ -13,8 +13,8 @@ use plan_record::{BUS_PLACES, Bus, BusPlan, MODULE_PLACES, PlacedModule};
 use units::{Cycles, Wires};
 
 fn bus_at(b: &[u8], at: usize) -> Bus
-    requires { at + busStride ≤ length b.now }
-    ensures { result ≡ busAt b.now at }
+    requires { at + bus_stride ≤ length b.now }
+    ensures { result ≡ bus_at b.now at }
 {
     Bus {
         width: Wires(word_at(b, at, 0)),
@@ -23,8 +23,8 @@ fn bus_at(b: &[u8], at: usize) -> Bus
 }
 
 fn buses_at(b: &[u8]) -> [Bus; BUS_PLACES]
-    requires { planLength ≤ length b.now }
-    ensures { result ≡ rows (busAt b.now) busStride busPlaces busesFrom }
+    requires { plan_length ≤ length b.now }
+    ensures { result ≡ rows (bus_at b.now) bus_stride bus_places buses_from }
 {
     let mut list = [plan_record::no_bus(); BUS_PLACES];
     let mut i: usize = 0;
@@ -36,7 +36,7 @@ fn buses_at(b: &[u8]) -> [Bus; BUS_PLACES]
 }
 
 fn placed_at(b: &[u8], at: usize) -> PlacedModule
-    requires { at + placedStride ≤ length b.now }
+    requires { at + placed_stride ≤ length b.now }
     ensures { result ≡ placed_at b.now at }
 {
     PlacedModule {
@@ -49,8 +49,8 @@ fn placed_at(b: &[u8], at: usize) -> PlacedModule
 }
 
 fn modules_at(b: &[u8]) -> [PlacedModule; MODULE_PLACES]
-    requires { planLength ≤ length b.now }
-    ensures { result ≡ rows (placed_at b.now) placedStride modulePlaces placedFrom }
+    requires { plan_length ≤ length b.now }
+    ensures { result ≡ rows (placed_at b.now) placed_stride module_places placed_from }
 {
     let mut list = [plan_record::no_placed(); MODULE_PLACES];
     let mut i: usize = 0;
@@ -62,7 +62,7 @@ fn modules_at(b: &[u8]) -> [PlacedModule; MODULE_PLACES]
 }
 
 fn plan_at(b: &[u8]) -> BusPlan
-    requires { planLength ≤ length b.now }
+    requires { plan_length ≤ length b.now }
     ensures { result ≡ plan_at b.now }
 {
     BusPlan {
@@ -77,7 +77,7 @@ fn plan_at(b: &[u8]) -> BusPlan
 }
 
 pub fn plan_in(b: &[u8]) -> BusPlan
-    ensures { result ≡ planIn b.now }
+    ensures { result ≡ plan_in b.now }
 {
     if b.len() != PLAN_BYTES {
         return plan_record::no_plan();

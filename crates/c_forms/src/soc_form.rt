@@ -1,10 +1,10 @@
 // A SOC record put into a lent buffer as its bytes. Without the room nothing is put, and the answer is 0.
 ghost use Rattle.std.specs.Prelude.{◌+◌, ◌*◌, ◌≤◌, length};
 ghost use Rattle.little_endian.specs.Rows.{each};
-ghost use Rattle.soc.specs.Limits.{modulesMax, chainsMax, testsMax};
-ghost use Rattle.c_forms.specs.Words.{wordLength, PutOf, PutFront};
-ghost use Rattle.c_forms.specs.SocForm.{testLength, moduleLength, modulesFrom, socLength};
-ghost use Rattle.c_forms.specs.SocForm.{testBytes, lengthBytes, moduleBytes, headBytes, socBytes};
+ghost use Rattle.soc.specs.Limits.{modules_max, chains_max, tests_max};
+ghost use Rattle.c_forms.specs.Words.{word_length, PutOf, PutFront};
+ghost use Rattle.c_forms.specs.SocForm.{test_length, module_length, modules_from, soc_length};
+ghost use Rattle.c_forms.specs.SocForm.{test_bytes, length_bytes, module_bytes, head_bytes, soc_bytes};
 
 use super::word::{WORD_BYTES, flag_word, put_words, signed_word};
 use fields::NAME_MAX;
@@ -31,8 +31,8 @@ pub(crate) const MODULES_FROM: usize = OPTIONS_FROM + WORD_BYTES * 3;
 pub const SOC_BYTES: usize = MODULES_FROM + MODULE_BYTES * MODULES_MAX;
 
 fn put_test(buf: &mut [u8], at: usize, t: Test) -> usize
-    requires { at + testLength ≤ length buf.old }
-    ensures { PutOf testLength (testBytes t) at buf.old buf.new result }
+    requires { at + test_length ≤ length buf.old }
+    ensures { PutOf test_length (test_bytes t) at buf.old buf.new result }
 {
     let w = [
         flag_word(t.scan_use),
@@ -44,8 +44,8 @@ fn put_test(buf: &mut [u8], at: usize, t: Test) -> usize
 }
 
 fn put_tests(buf: &mut [u8], at: usize, d: Module) -> usize
-    requires { at + testLength * testsMax ≤ length buf.old }
-    ensures { PutOf (testLength * testsMax) (each testBytes d.tests) at buf.old buf.new result }
+    requires { at + test_length * tests_max ≤ length buf.old }
+    ensures { PutOf (test_length * tests_max) (each test_bytes d.tests) at buf.old buf.new result }
 {
     let mut e = at;
     let mut i: usize = 0;
@@ -58,8 +58,8 @@ fn put_tests(buf: &mut [u8], at: usize, d: Module) -> usize
 }
 
 pub(crate) fn put_lengths(buf: &mut [u8], at: usize, list: [FlipFlops; CHAINS_MAX]) -> usize
-    requires { at + wordLength * chainsMax ≤ length buf.old }
-    ensures { PutOf (wordLength * chainsMax) (each lengthBytes list) at buf.old buf.new result }
+    requires { at + word_length * chains_max ≤ length buf.old }
+    ensures { PutOf (word_length * chains_max) (each length_bytes list) at buf.old buf.new result }
 {
     let mut e = at;
     let mut i: usize = 0;
@@ -72,8 +72,8 @@ pub(crate) fn put_lengths(buf: &mut [u8], at: usize, list: [FlipFlops; CHAINS_MA
 }
 
 fn put_module(buf: &mut [u8], at: usize, d: Module) -> usize
-    requires { at + moduleLength ≤ length buf.old }
-    ensures { PutOf moduleLength (moduleBytes d) at buf.old buf.new result }
+    requires { at + module_length ≤ length buf.old }
+    ensures { PutOf module_length (module_bytes d) at buf.old buf.new result }
 {
     let chains = d.chains;
     let shape = [
@@ -91,8 +91,8 @@ fn put_module(buf: &mut [u8], at: usize, d: Module) -> usize
 }
 
 fn put_modules(buf: &mut [u8], at: usize, s: Soc) -> usize
-    requires { at + moduleLength * modulesMax ≤ length buf.old }
-    ensures { PutOf (moduleLength * modulesMax) (each moduleBytes s.modules) at buf.old buf.new result }
+    requires { at + module_length * modules_max ≤ length buf.old }
+    ensures { PutOf (module_length * modules_max) (each module_bytes s.modules) at buf.old buf.new result }
 {
     let mut e = at;
     let mut i: usize = 0;
@@ -105,8 +105,8 @@ fn put_modules(buf: &mut [u8], at: usize, s: Soc) -> usize
 }
 
 fn put_head(buf: &mut [u8], at: usize, s: Soc) -> usize
-    requires { at + modulesFrom ≤ length buf.old }
-    ensures { PutOf modulesFrom (headBytes s) at buf.old buf.new result }
+    requires { at + modules_from ≤ length buf.old }
+    ensures { PutOf modules_from (head_bytes s) at buf.old buf.new result }
 {
     let name = s.name;
     let options = [flag_word(s.power), flag_word(s.xy), s.module_count as u64];
@@ -116,7 +116,7 @@ fn put_head(buf: &mut [u8], at: usize, s: Soc) -> usize
 }
 
 pub fn soc_bytes(s: Soc, buf: &mut [u8]) -> usize
-    ensures { PutFront socLength (socBytes s) buf.old buf.new result }
+    ensures { PutFront soc_length (soc_bytes s) buf.old buf.new result }
 {
     if buf.len() < SOC_BYTES {
         return 0;

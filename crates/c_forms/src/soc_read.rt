@@ -2,11 +2,11 @@
 // which is not good.
 ghost use Rattle.std.specs.Prelude.{◌≡◌, ◌+◌, ◌*◌, ◌≤◌, length, take, drop};
 ghost use Rattle.little_endian.specs.Rows.{rows};
-ghost use Rattle.fields.specs.Names.{nameMax};
-ghost use Rattle.soc.specs.Limits.{modulesMax, chainsMax, testsMax};
-ghost use Rattle.c_forms.specs.Words.{wordLength};
-ghost use Rattle.c_forms.specs.SocForm.{testLength, moduleLength, modulesFrom, socLength, testAt, length_at};
-ghost use Rattle.c_forms.specs.SocForm.{moduleAt, socAt, flagsAt, moduleFlags, socFlags, socIn};
+ghost use Rattle.fields.specs.Names.{name_max};
+ghost use Rattle.soc.specs.Limits.{modules_max, chains_max, tests_max};
+ghost use Rattle.c_forms.specs.Words.{word_length};
+ghost use Rattle.c_forms.specs.SocForm.{test_length, module_length, modules_from, soc_length, test_at, length_at};
+ghost use Rattle.c_forms.specs.SocForm.{module_at, soc_at, flags_at, module_flags, soc_flags, soc_in};
 
 use super::soc_form::{
     CHAINS_FROM, MODULE_BYTES, MODULES_FROM, OPTIONS_FROM, POSITION_FROM, SOC_BYTES, TEST_BYTES,
@@ -18,8 +18,8 @@ use soc::{CHAINS_MAX, MODULES_MAX, Module, Soc, TESTS_MAX, Test};
 use units::FlipFlops;
 
 fn test_at(b: &[u8], at: usize) -> Test
-    requires { at + testLength ≤ length b.now }
-    ensures { result ≡ testAt b.now at }
+    requires { at + test_length ≤ length b.now }
+    ensures { result ≡ test_at b.now at }
 {
     Test {
         scan_use: word_at(b, at, 0) == 1,
@@ -30,8 +30,8 @@ fn test_at(b: &[u8], at: usize) -> Test
 }
 
 fn tests_at(b: &[u8], at: usize) -> [Test; TESTS_MAX]
-    requires { at + testLength * testsMax ≤ length b.now }
-    ensures { result ≡ rows (testAt b.now) testLength testsMax at }
+    requires { at + test_length * tests_max ≤ length b.now }
+    ensures { result ≡ rows (test_at b.now) test_length tests_max at }
 {
     let mut list = [soc::no_test(); TESTS_MAX];
     let mut i: usize = 0;
@@ -43,8 +43,8 @@ fn tests_at(b: &[u8], at: usize) -> [Test; TESTS_MAX]
 }
 
 fn lengths_at(b: &[u8], at: usize) -> [FlipFlops; CHAINS_MAX]
-    requires { at + wordLength * chainsMax ≤ length b.now }
-    ensures { result ≡ rows (length_at b.now) wordLength chainsMax at }
+    requires { at + word_length * chains_max ≤ length b.now }
+    ensures { result ≡ rows (length_at b.now) word_length chains_max at }
 {
     let mut list = [FlipFlops(0); CHAINS_MAX];
     let mut i: usize = 0;
@@ -56,8 +56,8 @@ fn lengths_at(b: &[u8], at: usize) -> [FlipFlops; CHAINS_MAX]
 }
 
 fn module_at(b: &[u8], at: usize) -> Module
-    requires { at + moduleLength ≤ length b.now }
-    ensures { result ≡ moduleAt b.now at }
+    requires { at + module_length ≤ length b.now }
+    ensures { result ≡ module_at b.now at }
 {
     let position = at + POSITION_FROM;
     Module {
@@ -75,8 +75,8 @@ fn module_at(b: &[u8], at: usize) -> Module
 }
 
 fn modules_at(b: &[u8]) -> [Module; MODULES_MAX]
-    requires { socLength ≤ length b.now }
-    ensures { result ≡ rows (moduleAt b.now) moduleLength modulesMax modulesFrom }
+    requires { soc_length ≤ length b.now }
+    ensures { result ≡ rows (module_at b.now) module_length modules_max modules_from }
 {
     let mut list = [soc::no_module(); MODULES_MAX];
     let mut i: usize = 0;
@@ -88,8 +88,8 @@ fn modules_at(b: &[u8]) -> [Module; MODULES_MAX]
 }
 
 fn name_at(b: &[u8]) -> [u8; NAME_MAX]
-    requires { socLength ≤ length b.now }
-    ensures { result ≡ take nameMax (drop wordLength b.now) }
+    requires { soc_length ≤ length b.now }
+    ensures { result ≡ take name_max (drop word_length b.now) }
 {
     let mut name = [0u8; NAME_MAX];
     let mut i: usize = 0;
@@ -101,8 +101,8 @@ fn name_at(b: &[u8]) -> [u8; NAME_MAX]
 }
 
 fn soc_at(b: &[u8]) -> Soc
-    requires { socLength ≤ length b.now }
-    ensures { result ≡ socAt b.now }
+    requires { soc_length ≤ length b.now }
+    ensures { result ≡ soc_at b.now }
 {
     Soc {
         name_len: word_at(b, 0, 0) as usize,
@@ -116,8 +116,8 @@ fn soc_at(b: &[u8]) -> Soc
 
 // Whether the first two words from a place on are flags, 0 or 1.
 fn are_flags(b: &[u8], at: usize) -> bool
-    requires { at + wordLength * 2 ≤ length b.now }
-    ensures { result ≡ flagsAt b.now at }
+    requires { at + word_length * 2 ≤ length b.now }
+    ensures { result ≡ flags_at b.now at }
 {
     if word_at(b, at, 0) > 1 {
         return false;
@@ -126,8 +126,8 @@ fn are_flags(b: &[u8], at: usize) -> bool
 }
 
 fn are_module_flags(b: &[u8], at: usize) -> bool
-    requires { at + moduleLength ≤ length b.now }
-    ensures { result ≡ moduleFlags b.now at }
+    requires { at + module_length ≤ length b.now }
+    ensures { result ≡ module_flags b.now at }
 {
     let mut i: usize = 0;
     while i < TESTS_MAX {
@@ -140,8 +140,8 @@ fn are_module_flags(b: &[u8], at: usize) -> bool
 }
 
 fn are_soc_flags(b: &[u8]) -> bool
-    requires { socLength ≤ length b.now }
-    ensures { result ≡ socFlags b.now }
+    requires { soc_length ≤ length b.now }
+    ensures { result ≡ soc_flags b.now }
 {
     if !are_flags(b, OPTIONS_FROM) {
         return false;
@@ -157,7 +157,7 @@ fn are_soc_flags(b: &[u8]) -> bool
 }
 
 pub fn soc_in(b: &[u8]) -> Soc
-    ensures { result ≡ socIn b.now }
+    ensures { result ≡ soc_in b.now }
 {
     if b.len() != SOC_BYTES {
         return soc::no_soc();

@@ -5,7 +5,7 @@ use Rattle.units.specs.declared.Refusal.{Refusal}
 use Rattle.pair.specs.declared.read.Meant.{Meant}
 use Rattle.pair.specs.declared.read.Meant.TheVariants as meant
 use Rattle.pair.specs.declared.shown.Shown.{Shown}
-use Rattle.c_interface.specs.Codes.{meantNumber}
+use Rattle.c_interface.specs.Codes.{meant_number}
 
 -- the lowest byte is the refusal's number; what stands above it is the figure, or the refusal's line
 abbrev pub Says : ℕ → Refusal → ℕ → Type 0
@@ -20,11 +20,11 @@ pub record PairSays (c : ℕ) (r : Refusal) (m : Meant) (v : ℕ) : Type 0 where
   pub number : c % 256 ≡ r.number
   pub figure : r.number ≡ 0 → c / 256 ≡ v
   pub line : (r.number ≡ 0 → ⊥) → c / 256 / 4 ≡ r.line
-  pub text : (r.number ≡ 0 → ⊥) → (c / 256) % 4 ≡ meantNumber m
+  pub text : (r.number ≡ 0 → ⊥) → (c / 256) % 4 ≡ meant_number m
 
 -- what is refused when the pair is not, 11 among it, is about neither text
-unfoldable pub roomedMeant : Refusal → Meant → Meant
-roomedMeant r m = cond (eqb r.number 0) meant.Neither m
+unfoldable pub roomed_meant : Refusal → Meant → Meant
+roomed_meant r m = cond (eqb r.number 0) meant.Neither m
 
 -- of the lines of a module: the place of their first byte, the place behind the last one, and whether they stand in the overlay
 pub record PlacesSay (v : ℕ) (s : Shown) : Type 0 where

@@ -1,11 +1,11 @@
 // Every entry of the library for callers in other languages, on numbers and bytes (include/tallowwing.h). An answer is one number: its lowest byte
 // is the refusal's number or 0, above it stands the refusal's line, or the figure that the function gives.
 ghost use Rattle.std.specs.Prelude.{◌≡◌};
-ghost use Rattle.c_interface.specs.Codes.{above, code, bytesCode, read_code, readHeld, writeCode, writeHeld, layoutCode, layoutHeld, moduleTimeCode, moduleWiresCode, plan_code, planHeld, writePlanCode, writePlanHeld, readPlanCode, readPlanHeld, listingCode, listingHeld, showCode, showHeld, meantNumber, pairRefused, readPairCode, readPairHeld, partFigure, moduleLinesCode};
-ghost use Rattle.c_interface.specs.Codes.{pairFigure, writePairCode, layoutPairCode, layoutPairHeld};
-ghost use Rattle.c_interface.specs.Codes.{moduleTimePairCode, moduleWiresPairCode, planPairCode, planPairHeld};
-ghost use Rattle.c_interface.specs.Codes.{isFinished, budgetCode, budgetHeld};
-ghost use Rattle.pair_entries.specs.WrittenPair.{writePairLeaves};
+ghost use Rattle.c_interface.specs.Codes.{above, code, bytes_code, read_code, read_held, write_code, write_held, layout_code, layout_held, module_time_code, module_wires_code, plan_code, plan_held, write_plan_code, write_plan_held, read_plan_code, read_plan_held, listing_code, listing_held, show_code, show_held, meant_number, pair_refused, read_pair_code, read_pair_held, part_figure, module_lines_code};
+ghost use Rattle.c_interface.specs.Codes.{pair_figure, write_pair_code, layout_pair_code, layout_pair_held};
+ghost use Rattle.c_interface.specs.Codes.{module_time_pair_code, module_wires_pair_code, plan_pair_code, plan_pair_held};
+ghost use Rattle.c_interface.specs.Codes.{is_finished, budget_code, budget_held};
+ghost use Rattle.pair_entries.specs.WrittenPair.{write_pair_leaves};
 
 use budget::Ended;
 use pair::Meant;
@@ -29,7 +29,7 @@ fn code_of(r: Refusal, v: u64) -> u64
 
 // Where k bytes of a result were put, and 0 says that there was no room.
 fn code_of_bytes(k: usize) -> u64
-    ensures { result ≡ bytesCode k }
+    ensures { result ≡ bytes_code k }
 {
     if k == 0 {
         return above_byte(11, 0);
@@ -39,7 +39,7 @@ fn code_of_bytes(k: usize) -> u64
 
 #[unsafe(no_mangle)]
 pub extern "C" fn tallowwing_read_soc(text: &[u8], into: &mut [u8]) -> u64
-    ensures { (result ≡ read_code text.now into.old) × (into.new ≡ readHeld text.now into.old) }
+    ensures { (result ≡ read_code text.now into.old) × (into.new ≡ read_held text.now into.old) }
 {
     let read = text::read_soc(text);
     if read.refusal.number != 0 {
@@ -50,7 +50,7 @@ pub extern "C" fn tallowwing_read_soc(text: &[u8], into: &mut [u8]) -> u64
 
 #[unsafe(no_mangle)]
 pub extern "C" fn tallowwing_write_soc(soc: &[u8], into: &mut [u8]) -> u64
-    ensures { (result ≡ writeCode soc.now into.old) × (into.new ≡ writeHeld soc.now into.old) }
+    ensures { (result ≡ write_code soc.now into.old) × (into.new ≡ write_held soc.now into.old) }
 {
     let s = c_forms::soc_in(soc);
     let written = text::write_soc(s, &mut *into);
@@ -66,7 +66,7 @@ pub extern "C" fn tallowwing_layout(
     capture: u32,
     into: &mut [u8],
 ) -> u64
-    ensures { (result ≡ layoutCode soc.now «module» test width capture into.old) × (into.new ≡ layoutHeld soc.now «module» test width capture into.old) }
+    ensures { (result ≡ layout_code soc.now «module» test width capture into.old) × (into.new ≡ layout_held soc.now «module» test width capture into.old) }
 {
     let s = c_forms::soc_in(soc);
     let laid = wrapper::layout(s, module, test, Wires(width), CaptureCycles(capture));
@@ -78,7 +78,7 @@ pub extern "C" fn tallowwing_layout(
 
 #[unsafe(no_mangle)]
 pub extern "C" fn tallowwing_module_time(soc: &[u8], module: u32, width: u32, capture: u32) -> u64
-    ensures { result ≡ moduleTimeCode soc.now «module» width capture }
+    ensures { result ≡ module_time_code soc.now «module» width capture }
 {
     let s = c_forms::soc_in(soc);
     let time = wrapper::module_time(s, module, Wires(width), CaptureCycles(capture));
@@ -87,7 +87,7 @@ pub extern "C" fn tallowwing_module_time(soc: &[u8], module: u32, width: u32, ca
 
 #[unsafe(no_mangle)]
 pub extern "C" fn tallowwing_module_wires(soc: &[u8], module: u32, width: u32, capture: u32) -> u64
-    ensures { result ≡ moduleWiresCode soc.now «module» width capture }
+    ensures { result ≡ module_wires_code soc.now «module» width capture }
 {
     let s = c_forms::soc_in(soc);
     let best = wrapper::module_time(s, module, Wires(width), CaptureCycles(capture));
@@ -102,7 +102,7 @@ pub extern "C" fn tallowwing_plan(
     capture: u32,
     into: &mut [u8],
 ) -> u64
-    ensures { (result ≡ plan_code soc.now wires limit capture into.old) × (into.new ≡ planHeld soc.now wires limit capture into.old) }
+    ensures { (result ≡ plan_code soc.now wires limit capture into.old) × (into.new ≡ plan_held soc.now wires limit capture into.old) }
 {
     let s = c_forms::soc_in(soc);
     let answer = plan::plan(s, Wires(wires), limit, CaptureCycles(capture));
@@ -113,7 +113,7 @@ pub extern "C" fn tallowwing_plan(
 }
 
 fn is_finished(e: Ended) -> bool
-    ensures { result ≡ isFinished e }
+    ensures { result ≡ is_finished e }
 {
     match e {
         Ended::Finished => true,
@@ -130,8 +130,8 @@ pub extern "C" fn tallowwing_budget(
     tries: u64,
     into: &mut [u8],
 ) -> u64
-    ensures { (result ≡ budgetCode soc.now wires limit capture tries into.old)
-        × (into.new ≡ budgetHeld soc.now wires limit capture tries into.old) }
+    ensures { (result ≡ budget_code soc.now wires limit capture tries into.old)
+        × (into.new ≡ budget_held soc.now wires limit capture tries into.old) }
 {
     let s = c_forms::soc_in(soc);
     let answer = budget::plan_within(s, Wires(wires), limit, CaptureCycles(capture), tries);
@@ -151,7 +151,7 @@ pub extern "C" fn tallowwing_budget(
 
 #[unsafe(no_mangle)]
 pub extern "C" fn tallowwing_write_plan(from: &[u8], into: &mut [u8]) -> u64
-    ensures { (result ≡ writePlanCode from.now into.old) × (into.new ≡ writePlanHeld from.now into.old) }
+    ensures { (result ≡ write_plan_code from.now into.old) × (into.new ≡ write_plan_held from.now into.old) }
 {
     let p = c_forms::plan_in(from);
     let filed = plan_file::write_plan(p, &mut *into);
@@ -160,7 +160,7 @@ pub extern "C" fn tallowwing_write_plan(from: &[u8], into: &mut [u8]) -> u64
 
 #[unsafe(no_mangle)]
 pub extern "C" fn tallowwing_read_plan(file: &[u8], into: &mut [u8]) -> u64
-    ensures { (result ≡ readPlanCode file.now into.old) × (into.new ≡ readPlanHeld file.now into.old) }
+    ensures { (result ≡ read_plan_code file.now into.old) × (into.new ≡ read_plan_held file.now into.old) }
 {
     let held = plan_file::read_plan(file);
     if held.refusal.number != 0 {
@@ -171,7 +171,7 @@ pub extern "C" fn tallowwing_read_plan(file: &[u8], into: &mut [u8]) -> u64
 
 #[unsafe(no_mangle)]
 pub extern "C" fn tallowwing_listing(input: &[u8], into: &mut [u8]) -> u64
-    ensures { (result ≡ listingCode input.now into.old) × (into.new ≡ listingHeld input.now into.old) }
+    ensures { (result ≡ listing_code input.now into.old) × (into.new ≡ listing_held input.now into.old) }
 {
     let listed = listing::listing(input, &mut *into);
     code_of(listed.refusal, listed.len as u64)
@@ -179,7 +179,7 @@ pub extern "C" fn tallowwing_listing(input: &[u8], into: &mut [u8]) -> u64
 
 #[unsafe(no_mangle)]
 pub extern "C" fn tallowwing_show(from: &[u8], into: &mut [u8]) -> u64
-    ensures { (result ≡ showCode from.now into.old) × (into.new ≡ showHeld from.now into.old) }
+    ensures { (result ≡ show_code from.now into.old) × (into.new ≡ show_held from.now into.old) }
 {
     let p = c_forms::plan_in(from);
     let shown = plan_lines::show(p, &mut *into);
@@ -187,7 +187,7 @@ pub extern "C" fn tallowwing_show(from: &[u8], into: &mut [u8]) -> u64
 }
 
 fn meant_number(m: Meant) -> u64
-    ensures { result ≡ meantNumber m }
+    ensures { result ≡ meant_number m }
 {
     match m {
         Meant::Neither => 0,
@@ -198,7 +198,7 @@ fn meant_number(m: Meant) -> u64
 
 // A line stays far below 2⁵⁴.
 fn pair_refused(r: Refusal, m: Meant) -> u64
-    ensures { result ≡ pairRefused r m }
+    ensures { result ≡ pair_refused r m }
 {
     above_byte(
         r.number,
@@ -207,7 +207,7 @@ fn pair_refused(r: Refusal, m: Meant) -> u64
 }
 
 fn pair_code_of(r: Refusal, m: Meant, v: u64) -> u64
-    ensures { result ≡ pairFigure r m v }
+    ensures { result ≡ pair_figure r m v }
 {
     if r.number == 0 {
         return above_byte(0, v);
@@ -217,7 +217,7 @@ fn pair_code_of(r: Refusal, m: Meant, v: u64) -> u64
 
 #[unsafe(no_mangle)]
 pub extern "C" fn tallowwing_read_pair(base: &[u8], overlay: &[u8], into: &mut [u8]) -> u64
-    ensures { (result ≡ readPairCode base.now overlay.now into.old) × (into.new ≡ readPairHeld base.now overlay.now into.old) }
+    ensures { (result ≡ read_pair_code base.now overlay.now into.old) × (into.new ≡ read_pair_held base.now overlay.now into.old) }
 {
     let both = pair::read_pair(base, overlay);
     if both.refusal.number != 0 {
@@ -228,7 +228,7 @@ pub extern "C" fn tallowwing_read_pair(base: &[u8], overlay: &[u8], into: &mut [
 }
 
 fn part_figure(over: bool, from: usize, to: usize) -> u64
-    ensures { result ≡ partFigure over from to }
+    ensures { result ≡ part_figure over from to }
 {
     let places = 131072 * (from as u64 % 65536) + 2 * (to as u64 % 65536);
     if over {
@@ -239,7 +239,7 @@ fn part_figure(over: bool, from: usize, to: usize) -> u64
 
 #[unsafe(no_mangle)]
 pub extern "C" fn tallowwing_module_lines(base: &[u8], overlay: &[u8], module: u32) -> u64
-    ensures { result ≡ moduleLinesCode base.now overlay.now «module» }
+    ensures { result ≡ module_lines_code base.now overlay.now «module» }
 {
     let shown = pair::lines_shown(base, overlay, module);
     if shown.refusal.number != 0 {
@@ -251,8 +251,8 @@ pub extern "C" fn tallowwing_module_lines(base: &[u8], overlay: &[u8], module: u
 
 #[unsafe(no_mangle)]
 pub extern "C" fn tallowwing_write_pair(base: &[u8], overlay: &[u8], into: &mut [u8]) -> u64
-    ensures { (result ≡ writePairCode base.now overlay.now into.old)
-        × (into.new ≡ writePairLeaves base.now overlay.now into.old) }
+    ensures { (result ≡ write_pair_code base.now overlay.now into.old)
+        × (into.new ≡ write_pair_leaves base.now overlay.now into.old) }
 {
     let written = pair_entries::write_pair(base, overlay, &mut *into);
     let meant = written.meant;
@@ -269,8 +269,8 @@ pub extern "C" fn tallowwing_layout_pair(
     capture: u32,
     into: &mut [u8],
 ) -> u64
-    ensures { (result ≡ layoutPairCode base.now overlay.now «module» test width capture into.old)
-        × (into.new ≡ layoutPairHeld base.now overlay.now «module» test width capture into.old) }
+    ensures { (result ≡ layout_pair_code base.now overlay.now «module» test width capture into.old)
+        × (into.new ≡ layout_pair_held base.now overlay.now «module» test width capture into.old) }
 {
     let laid = pair_entries::layout_pair(
         base,
@@ -295,7 +295,7 @@ pub extern "C" fn tallowwing_module_time_pair(
     width: u32,
     capture: u32,
 ) -> u64
-    ensures { result ≡ moduleTimePairCode base.now overlay.now «module» width capture }
+    ensures { result ≡ module_time_pair_code base.now overlay.now «module» width capture }
 {
     let time = pair_entries::module_time_pair(
         base,
@@ -316,7 +316,7 @@ pub extern "C" fn tallowwing_module_wires_pair(
     width: u32,
     capture: u32,
 ) -> u64
-    ensures { result ≡ moduleWiresPairCode base.now overlay.now «module» width capture }
+    ensures { result ≡ module_wires_pair_code base.now overlay.now «module» width capture }
 {
     let best = pair_entries::module_time_pair(
         base,
@@ -338,8 +338,8 @@ pub extern "C" fn tallowwing_plan_pair(
     capture: u32,
     into: &mut [u8],
 ) -> u64
-    ensures { (result ≡ planPairCode base.now overlay.now wires limit capture into.old)
-        × (into.new ≡ planPairHeld base.now overlay.now wires limit capture into.old) }
+    ensures { (result ≡ plan_pair_code base.now overlay.now wires limit capture into.old)
+        × (into.new ≡ plan_pair_held base.now overlay.now wires limit capture into.old) }
 {
     let planned = pair_entries::plan_pair(
         base,

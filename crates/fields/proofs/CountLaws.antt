@@ -1,5 +1,5 @@
 -- Laws of a count of the elements at the front of a list that pass a test, for a loop that goes past them one by one. `gaps`, `run` and
--- `untilLf` are such counts.
+-- `until_lf` are such counts.
 use Prim.Native.Nat.{ℕ, suc, ◌+◌, ◌≤◌, ◌<◌}
 use mathlib.Core.Path.{◌≡◌, refl}
 use mathlib.Core.Bool.{Bool, true, false, cond, not}
@@ -11,7 +11,7 @@ use lib.Seq.{drop-cons}
 use lib.Dec.{eqb}
 use Rattle.fields.specs.Bytes.{lf}
 use Rattle.fields.specs.Fields.{gap, gaps, run}
-use Rattle.fields.specs.Lines.{untilLf}
+use Rattle.fields.specs.Lines.{until_lf}
 
 -- f counts the elements at the front that pass the test p
 pub record Counts (f : List ℕ → ℕ) (p : ℕ → Bool) : Type 0 where
@@ -19,9 +19,9 @@ pub record Counts (f : List ℕ → ℕ) (p : ℕ → Bool) : Type 0 where
   pub more : (b : ℕ) (bs : List ℕ) → f (b ∷ bs) ≡ cond (p b) (suc (f bs)) 0
 
 -- the same of a test that is written the other way round
-cond-not : (t : Bool) (m n : ℕ) → cond t m n ≡ cond (not t) n m
-cond-not true m n = refl
-cond-not false m n = refl
+cond_not : (t : Bool) (m n : ℕ) → cond t m n ≡ cond (not t) n m
+cond_not true m n = refl
+cond_not false m n = refl
 
 pub gaps-counts : Counts gaps gap
 unfolding gaps
@@ -29,25 +29,25 @@ gaps-counts = record { none = refl; more = λ b bs. refl }
 
 pub run-counts : Counts run (λ b. not (gap b))
 unfolding run
-run-counts = record { none = refl; more = λ b bs. cond-not (gap b) 0 (suc (run bs)) }
+run-counts = record { none = refl; more = λ b bs. cond_not (gap b) 0 (suc (run bs)) }
 
-pub lf-counts : Counts untilLf (λ b. not (eqb b lf))
-unfolding untilLf
-lf-counts = record { none = refl; more = λ b bs. cond-not (eqb b lf) 0 (suc (untilLf bs)) }
+pub lf-counts : Counts until_lf (λ b. not (eqb b lf))
+unfolding until_lf
+lf-counts = record { none = refl; more = λ b bs. cond_not (eqb b lf) 0 (suc (until_lf bs)) }
 
 module _ (f : List ℕ → ℕ) (p : ℕ → Bool) (k : Counts f p) where
-  pub count-on : (s : List ℕ) (i : ℕ) → i < length s → p (get_or s i 0) ≡ true → i + f (drop i s) ≡ (i + 1) + f (drop (i + 1) s)
-  count-on s i h e = rw (add-one, drop-cons s i 0, k.more) (simp e (omega arith))
+  pub count_on : (s : List ℕ) (i : ℕ) → i < length s → p (get_or s i 0) ≡ true → i + f (drop i s) ≡ (i + 1) + f (drop (i + 1) s)
+  count_on s i h e = rw (add-one, drop-cons s i 0, k.more) (simp e (omega arith))
 
-  pub count-stop : (s : List ℕ) (i : ℕ) → i < length s → p (get_or s i 0) ≡ false → i + f (drop i s) ≡ i
-  count-stop s i h e = rw (drop-cons s i 0, k.more) (simp e (omega arith))
+  pub count_stop : (s : List ℕ) (i : ℕ) → i < length s → p (get_or s i 0) ≡ false → i + f (drop i s) ≡ i
+  count_stop s i h e = rw (drop-cons s i 0, k.more) (simp e (omega arith))
 
   pub count-end : (s : List ℕ) (i : ℕ) → length s ≤ i → i + f (drop i s) ≡ i
   count-end s i h = rw (drop_of_length-le s h, k.none) (omega arith)
 
-  pub count-le : (l : List ℕ) → f l ≤ length l
-  count-le [] = rw k.none (omega arith)
-  count-le (b ∷ l) = rw k.more (go (count-le l) (p b))
+  pub count_le : (l : List ℕ) → f l ≤ length l
+  count_le [] = rw k.none (omega arith)
+  count_le (b ∷ l) = rw k.more (go (count_le l) (p b))
     where
       go : f l ≤ length l → (t : Bool) → cond t (suc (f l)) 0 ≤ suc (length l)
       go ih true = omega arith

@@ -1,4 +1,4 @@
--- Laws of the fields of a line: what `nextField` names is the first field at or behind a place, and where it names none there is none;
+-- Laws of the fields of a line: what `next_field` names is the first field at or behind a place, and where it names none there is none;
 -- behind the end of that field stand the other fields.
 use Prim.Native.Nat.{ℕ, suc, ◌+◌, ◌-◌, ◌≤◌, ◌<◌}
 use mathlib.Core.Path.{◌≡◌, refl, sym, ap, ◌∙◌}
@@ -10,10 +10,10 @@ use lib.ListN.{length, take, drop, length-drop, drop_of_length-le}
 use lib.Dec.{ltb}
 use lib.Seq.{drop-drop}
 use Rattle.units.proofs.TestLaws.{clash}
-use Rattle.fields.specs.Fields.{gap, begins, onField, fields_of, part, gaps, run, runEnd, fieldFrom, nextField, fieldEnd}
+use Rattle.fields.specs.Fields.{gap, begins, on_field, fields_of, part, gaps, run, run_end, field_from, next_field, field_end}
 use Rattle.fields.specs.declared.field.Next.{Next}
 use Rattle.fields.specs.declared.field.Next.TheVariants.{Field, Nothing}
-use Rattle.fields.proofs.CountLaws.{run-counts, count-le}
+use Rattle.fields.proofs.CountLaws.{run-counts, count_le}
 
 -- the first field at or behind at is the part of s from a to e
 pub record FieldIs (s : List ℕ) (at a e : ℕ) : Type 0 where
@@ -50,7 +50,7 @@ run-some [] h = let z : ◌≡◌ {A = ℕ} 0 1 = cc in omega arith
 run-some (b ∷ l) h = simp (not-true (gap b) h) (omega arith)
 
 fields-run : (l : List ℕ) → begins l ≡ true → fields_of l ≡ take (run l) l ∷ fields_of (drop (run l) l)
-unfolding begins fields_of onField run
+unfolding begins fields_of on_field run
 fields-run [] h = clash cc
 fields-run (b ∷ l) h = go (fields-run l) (not-true (gap b) h) (begins l) refl
   where
@@ -74,39 +74,39 @@ field_is s at a e h k m =
     let r : e - a ≡ run (drop a s) = omega arith in
     record {
       some = omega (arith, run-some (drop a s) b);
-      high = omega (arith, count-le run (λ b. not (gap b)) run-counts (drop a s), length-drop a s);
+      high = omega (arith, count_le run (λ b. not (gap b)) run-counts (drop a s), length-drop a s);
       is = fields-past s at a h ∙ fields-run (drop a s) b ∙ rw (drop-drop, m, r);
     }
 
-pub next_field : (s : List ℕ) (at a e : ℕ) → nextField s at ≡ Field a e → FieldIs s at a e
-unfolding nextField fieldFrom
-next_field s at a e h = go (at + gaps (drop at s)) refl (ltb (at + gaps (drop at s)) (length s)) refl h
+pub next_field_lem : (s : List ℕ) (at a e : ℕ) → next_field s at ≡ Field a e → FieldIs s at a e
+unfolding next_field field_from
+next_field_lem s at a e h = go (at + gaps (drop at s)) refl (ltb (at + gaps (drop at s)) (length s)) refl h
   where
     go : (m : ℕ) → at + gaps (drop at s) ≡ m → (t : Bool) → ltb m (length s) ≡ t → cond t (Field m (m + run (drop m s))) Nothing ≡ Field a e → FieldIs s at a e
     go m p true l q = let x : m ≡ a = cc in let y : m + run (drop m s) ≡ e = cc in rw x at (field_is s at m e p (ltb-true m (length s) l) y)
     go m p false l q = clash cc
 
-pub next-nothing : (s : List ℕ) (at : ℕ) → nextField s at ≡ Nothing → fields_of (drop at s) ≡ []
-unfolding nextField fieldFrom fields_of
+pub next-nothing : (s : List ℕ) (at : ℕ) → next_field s at ≡ Nothing → fields_of (drop at s) ≡ []
+unfolding next_field field_from fields_of
 next-nothing s at h = go (at + gaps (drop at s)) refl (ltb (at + gaps (drop at s)) (length s)) refl h
   where
     go : (m : ℕ) → at + gaps (drop at s) ≡ m → (t : Bool) → ltb m (length s) ≡ t → cond t (Field m (m + run (drop m s))) Nothing ≡ Nothing → fields_of (drop at s) ≡ []
     go m p true l q = clash cc
     go m p false l q = fields-past s at m p ∙ ap fields_of (drop_of_length-le s (ltb-false m (length s) l))
 
--- the end that `nextField` names is the field's end
-pub next-end : (s : List ℕ) (at a e : ℕ) → nextField s at ≡ Field a e → fieldEnd s at ≡ e
-unfolding nextField fieldFrom fieldEnd
+-- the end that `next_field` names is the field's end
+pub next-end : (s : List ℕ) (at a e : ℕ) → next_field s at ≡ Field a e → field_end s at ≡ e
+unfolding next_field field_from field_end
 next-end s at a e h = go (at + gaps (drop at s)) (ltb (at + gaps (drop at s)) (length s)) h
   where
-    go : (m : ℕ) (t : Bool) → cond t (Field m (runEnd s m)) Nothing ≡ Field a e → runEnd s m ≡ e
+    go : (m : ℕ) (t : Bool) → cond t (Field m (run_end s m)) Nothing ≡ Field a e → run_end s m ≡ e
     go m true q = cc
     go m false q = clash cc
 
 -- the fields behind the first one are those behind its end
-pub fields-behind : (s : List ℕ) (at : ℕ) (f : List ℕ) (fs : List (List ℕ)) → fields_of (drop at s) ≡ f ∷ fs → fs ≡ fields_of (drop (fieldEnd s at) s)
-fields-behind s at f fs h = go (nextField s at) refl
+pub fields-behind : (s : List ℕ) (at : ℕ) (f : List ℕ) (fs : List (List ℕ)) → fields_of (drop at s) ≡ f ∷ fs → fs ≡ fields_of (drop (field_end s at) s)
+fields-behind s at f fs h = go (next_field s at) refl
   where
-    go : (n : Next) → nextField s at ≡ n → fs ≡ fields_of (drop (fieldEnd s at) s)
-    go (Field a e) q = let k : part s a e ∷ fields_of (drop e s) ≡ f ∷ fs = sym (next_field s at a e q).is ∙ h in rw (next-end s at a e q) (cc)
+    go : (n : Next) → next_field s at ≡ n → fs ≡ fields_of (drop (field_end s at) s)
+    go (Field a e) q = let k : part s a e ∷ fields_of (drop e s) ≡ f ∷ fs = sym (next_field_lem s at a e q).is ∙ h in rw (next-end s at a e q) (cc)
     go Nothing q = let k = next-nothing s at q in clash cc

@@ -7,12 +7,12 @@ use native.Mathlib.Numerals.{add-one}
 use lib.ListN.{length, get_or, take, length-append}
 use lib.Seq.{take-suc, take-add}
 use Rattle.fields.specs.Bytes.{lf}
-use Rattle.fields.specs.WrittenLines.{joined, writtenLines}
+use Rattle.fields.specs.WrittenLines.{joined, written_lines}
 
-pub written-append : (xs ys : List (List (List ℕ))) → writtenLines (xs ++ ys) ≡ writtenLines xs ++ writtenLines ys
-unfolding writtenLines
+pub written-append : (xs ys : List (List (List ℕ))) → written_lines (xs ++ ys) ≡ written_lines xs ++ written_lines ys
+unfolding written_lines
 written-append [] ys = refl
-written-append (l ∷ xs) ys = ap (λ t. joined l ++ lf ∷ t) (written-append xs ys) ∙ sym (append_assoc (joined l) (lf ∷ writtenLines xs) (writtenLines ys))
+written-append (l ∷ xs) ys = ap (λ t. joined l ++ lf ∷ t) (written-append xs ys) ∙ sym (append_assoc (joined l) (lf ∷ written_lines xs) (written_lines ys))
 
 -- a text of a list, to which more elements add text at the end: what those add behind xs is more xs
 module _ {A : Type 0} (text : List A → List ℕ) (more : List A → List A → List ℕ) (adds : (xs ys : List A) → text (xs ++ ys) ≡ text xs ++ more xs ys) where

@@ -12,7 +12,7 @@ use lib.ListN.{length, get_or, drop}
 use lib.Dec.{eqb, ltb}
 use lib.Seq.{drop-cons, drop-length}
 use Rattle.fields.specs.declared.number.Number.TheVariants.{Value}
-use Rattle.fields.specs.Numbers.{digit, digits, more, decimalOf, cap, cut}
+use Rattle.fields.specs.Numbers.{digit, digits, more, decimal_of, cap, cut}
 
 cut-cond : (t : Bool) (x y : Option ℕ) → cut x ≡ cut y → cut (cond t x none) ≡ cut (cond t y none)
 cut-cond true x y h = h
@@ -33,8 +33,8 @@ pub cut-end : (f : List ℕ) (i v : ℕ) → length f ≡ i → v ≤ cap → cu
 unfolding digits cut
 cut-end f i v e h = simp (← e, drop-length, min-eq_left h)
 
-pub decimal-start : (f : List ℕ) → (length f ≡ 0 → ⊥) → (eqb (get_or f 0 0) 48 && ltb 1 (length f)) ≡ false → decimalOf f ≡ digits (drop 0 f) 0
-unfolding decimalOf more
+pub decimal-start : (f : List ℕ) → (length f ≡ 0 → ⊥) → (eqb (get_or f 0 0) 48 && ltb 1 (length f)) ≡ false → decimal_of f ≡ digits (drop 0 f) 0
+unfolding decimal_of more
 decimal-start [] n h = absurd (n refl)
 decimal-start (b ∷ []) n h = simp and-false
 decimal-start (b ∷ d ∷ f) n h =
@@ -42,13 +42,13 @@ decimal-start (b ∷ d ∷ f) n h =
     let e : eqb b 48 ≡ false = sym (and-true (eqb b 48)) ∙ simp t at h in
     simp e
 
-pub decimal-zero : (f : List ℕ) → get_or f 0 0 ≡ 48 → 1 < length f → decimalOf f ≡ none
-unfolding decimalOf more
+pub decimal-zero : (f : List ℕ) → get_or f 0 0 ≡ 48 → 1 < length f → decimal_of f ≡ none
+unfolding decimal_of more
 decimal-zero [] e h = absurd (omega arith)
 decimal-zero (b ∷ []) e h = absurd (omega arith)
 decimal-zero (b ∷ d ∷ f) e h = simp (eq-eqb _ _ e)
 
-pub decimal-none : (f : List ℕ) → length f ≡ 0 → decimalOf f ≡ none
-unfolding decimalOf
+pub decimal-none : (f : List ℕ) → length f ≡ 0 → decimal_of f ≡ none
+unfolding decimal_of
 decimal-none [] e = refl
 decimal-none (b ∷ f) e = absurd (omega arith)

@@ -9,10 +9,10 @@ use native.Mathlib.Omega.{arith}
 use lib.ListN.{drop}
 use lib.Dec.{leb}
 use Rattle.units.proofs.TestLaws.{clash}
-use Rattle.fields.specs.Bytes.{sameBytes}
-use Rattle.fields.specs.Fields.{fields_of, fieldEnd}
-use Rattle.fields.specs.Numbers.{decimalOf}
-use Rattle.fields.specs.Readers.{no, got, FieldsGot, after, bytesDue, within, between, keyBetween, pastIs, figureIs, past_at, figureAt, wordAnswer, numberAnswer, keyNumberAnswer}
+use Rattle.fields.specs.Bytes.{same_bytes}
+use Rattle.fields.specs.Fields.{fields_of, field_end}
+use Rattle.fields.specs.Numbers.{decimal_of}
+use Rattle.fields.specs.Readers.{no, got, FieldsGot, after, bytes_due, within, between, key_between, past_is, figure_is, past_at, figure_at, word_answer, number_answer, key_number_answer}
 use Rattle.fields.specs.declared.reader.Past.{Past}
 use Rattle.fields.specs.declared.reader.Past.TheVariants as past
 use Rattle.fields.specs.declared.reader.Figure.{Figure}
@@ -20,10 +20,10 @@ use Rattle.fields.specs.declared.reader.Figure.TheVariants as figure
 use Rattle.fields.proofs.FieldLaws.{fields-behind}
 
 -- a keyword or a number takes the first field: gs is what stands behind it
-due-first : (w : List ℕ) (fs : List (List ℕ)) (u : Unit {0}) (gs : List (List ℕ)) → bytesDue w fs ≡ got u gs → (f : List ℕ) × (fs ≡ f ∷ gs)
-unfolding bytesDue
+due-first : (w : List ℕ) (fs : List (List ℕ)) (u : Unit {0}) (gs : List (List ℕ)) → bytes_due w fs ≡ got u gs → (f : List ℕ) × (fs ≡ f ∷ gs)
+unfolding bytes_due
 due-first w [] u gs h = clash cc
-due-first w (f ∷ fs) u gs h = go (sameBytes f w) h
+due-first w (f ∷ fs) u gs h = go (same_bytes f w) h
   where
     go : (t : Bool) → cond {A = FieldsGot (Unit {0})} t (got tt fs) (no 3) ≡ got u gs → (x : List ℕ) × (f ∷ fs ≡ x ∷ gs)
     go true h = let k : fs ≡ gs = cc in (f, ap (◌∷◌ f) k)
@@ -41,81 +41,81 @@ within-rest low high (some n) fs v gs h = go (leb low n && leb n high) h
 between_first : (low high : ℕ) (fs : List (List ℕ)) (v : ℕ) (gs : List (List ℕ)) → between low high fs ≡ got v gs → (f : List ℕ) × (fs ≡ f ∷ gs)
 unfolding between
 between_first low high [] v gs h = clash cc
-between_first low high (f ∷ fs) v gs h = (f, ap (◌∷◌ f) (within-rest low high (decimalOf f) fs v gs h))
+between_first low high (f ∷ fs) v gs h = (f, ap (◌∷◌ f) (within-rest low high (decimal_of f) fs v gs h))
 
 module _ (l : List ℕ) (at : ℕ) where
   -- what is left behind the first field are the fields behind its end
-  due-left : (w : List ℕ) (u : Unit {0}) (gs : List (List ℕ)) → bytesDue w (fields_of (drop at l)) ≡ got u gs → gs ≡ fields_of (drop (fieldEnd l at) l)
+  due-left : (w : List ℕ) (u : Unit {0}) (gs : List (List ℕ)) → bytes_due w (fields_of (drop at l)) ≡ got u gs → gs ≡ fields_of (drop (field_end l at) l)
   due-left w u gs h = let k = due-first w (fields_of (drop at l)) u gs h in fields-behind l at k.0 gs k.1
 
-  between_left : (low high v : ℕ) (gs : List (List ℕ)) → between low high (fields_of (drop at l)) ≡ got v gs → gs ≡ fields_of (drop (fieldEnd l at) l)
+  between_left : (low high v : ℕ) (gs : List (List ℕ)) → between low high (fields_of (drop at l)) ≡ got v gs → gs ≡ fields_of (drop (field_end l at) l)
   between_left low high v gs h = let k = between_first low high (fields_of (drop at l)) v gs h in fields-behind l at k.0 gs k.1
 
 -- an answer means what was read where its place is the one behind which the fields are left
-past-means : (l : List ℕ) (e : ℕ) (g : FieldsGot (Unit {0})) → ((u : Unit {0}) (gs : List (List ℕ)) → g ≡ got u gs → gs ≡ fields_of (drop e l)) → pastIs l (past_at e g) ≡ g
+past_means : (l : List ℕ) (e : ℕ) (g : FieldsGot (Unit {0})) → ((u : Unit {0}) (gs : List (List ℕ)) → g ≡ got u gs → gs ≡ fields_of (drop e l)) → past_is l (past_at e g) ≡ g
 unfolding past_at
-past-means l e (no c) h = refl
-past-means l e (got u gs) h = ap (got u) (sym (h u gs refl))
+past_means l e (no c) h = refl
+past_means l e (got u gs) h = ap (got u) (sym (h u gs refl))
 
-figure-means : (l : List ℕ) (e : ℕ) (g : FieldsGot ℕ) → ((v : ℕ) (gs : List (List ℕ)) → g ≡ got v gs → gs ≡ fields_of (drop e l)) → figureIs l (figureAt e g) ≡ g
-unfolding figureAt
-figure-means l e (no c) h = refl
-figure-means l e (got v gs) h = ap (got v) (sym (h v gs refl))
+figure_means : (l : List ℕ) (e : ℕ) (g : FieldsGot ℕ) → ((v : ℕ) (gs : List (List ℕ)) → g ≡ got v gs → gs ≡ fields_of (drop e l)) → figure_is l (figure_at e g) ≡ g
+unfolding figure_at
+figure_means l e (no c) h = refl
+figure_means l e (got v gs) h = ap (got v) (sym (h v gs refl))
 
 -- what the answers mean
-pub word-is : (l : List ℕ) (at : ℕ) (w : List ℕ) {r : Past} → r ≡ wordAnswer l at w → pastIs l r ≡ bytesDue w (fields_of (drop at l))
-unfolding wordAnswer
-word-is l at w h = ap (pastIs l) h ∙ past-means l (fieldEnd l at) (bytesDue w (fields_of (drop at l))) (due-left l at w)
+pub word-is : (l : List ℕ) (at : ℕ) (w : List ℕ) {r : Past} → r ≡ word_answer l at w → past_is l r ≡ bytes_due w (fields_of (drop at l))
+unfolding word_answer
+word-is l at w h = ap (past_is l) h ∙ past_means l (field_end l at) (bytes_due w (fields_of (drop at l))) (due-left l at w)
 
-pub number_is : (l : List ℕ) (at low high : ℕ) {r : Figure} → r ≡ numberAnswer l at low high → figureIs l r ≡ between low high (fields_of (drop at l))
-unfolding numberAnswer
-number_is l at low high h = ap (figureIs l) h ∙ figure-means l (fieldEnd l at) (between low high (fields_of (drop at l))) (between_left l at low high)
+pub number_is : (l : List ℕ) (at low high : ℕ) {r : Figure} → r ≡ number_answer l at low high → figure_is l r ≡ between low high (fields_of (drop at l))
+unfolding number_answer
+number_is l at low high h = ap (figure_is l) h ∙ figure_means l (field_end l at) (between low high (fields_of (drop at l))) (between_left l at low high)
 
-key_left : (l : List ℕ) (at : ℕ) (w : List ℕ) (low high v : ℕ) (gs : List (List ℕ)) → keyBetween w low high (fields_of (drop at l)) ≡ got v gs → gs ≡ fields_of (drop (fieldEnd l (fieldEnd l at)) l)
+key_left : (l : List ℕ) (at : ℕ) (w : List ℕ) (low high v : ℕ) (gs : List (List ℕ)) → key_between w low high (fields_of (drop at l)) ≡ got v gs → gs ≡ fields_of (drop (field_end l (field_end l at)) l)
 unfolding after
-key_left l at w low high v gs h = go (bytesDue w (fields_of (drop at l))) refl h
+key_left l at w low high v gs h = go (bytes_due w (fields_of (drop at l))) refl h
   where
-    go : (g : FieldsGot (Unit {0})) → bytesDue w (fields_of (drop at l)) ≡ g → after g (λ _. between low high) ≡ got v gs → gs ≡ fields_of (drop (fieldEnd l (fieldEnd l at)) l)
+    go : (g : FieldsGot (Unit {0})) → bytes_due w (fields_of (drop at l)) ≡ g → after g (λ _. between low high) ≡ got v gs → gs ≡ fields_of (drop (field_end l (field_end l at)) l)
     go (no c) e h = clash cc
-    go (got u fs) e h = between_left l (fieldEnd l at) low high v gs (ap (between low high) (sym (due-left l at w u fs e)) ∙ h)
+    go (got u fs) e h = between_left l (field_end l at) low high v gs (ap (between low high) (sym (due-left l at w u fs e)) ∙ h)
 
-pub key-number-is : (l : List ℕ) (at : ℕ) (w : List ℕ) (low high : ℕ) {r : Figure} → r ≡ keyNumberAnswer l at w low high → figureIs l r ≡ keyBetween w low high (fields_of (drop at l))
-unfolding keyNumberAnswer
-key-number-is l at w low high h = ap (figureIs l) h ∙ figure-means l (fieldEnd l (fieldEnd l at)) (keyBetween w low high (fields_of (drop at l))) (key_left l at w low high)
+pub key-number-is : (l : List ℕ) (at : ℕ) (w : List ℕ) (low high : ℕ) {r : Figure} → r ≡ key_number_answer l at w low high → figure_is l r ≡ key_between w low high (fields_of (drop at l))
+unfolding key_number_answer
+key-number-is l at w low high h = ap (figure_is l) h ∙ figure_means l (field_end l (field_end l at)) (key_between w low high (fields_of (drop at l))) (key_left l at w low high)
 
 -- the answer that follows from a refusal, and from a value where the field ends at e
 module _ (l : List ℕ) (at : ℕ) where
-  pub word-no : (w : List ℕ) (c : ℕ) → bytesDue w (fields_of (drop at l)) ≡ no c → past.No c ≡ wordAnswer l at w
-  unfolding wordAnswer past_at
+  pub word-no : (w : List ℕ) (c : ℕ) → bytes_due w (fields_of (drop at l)) ≡ no c → past.No c ≡ word_answer l at w
+  unfolding word_answer past_at
   word-no w c h = rw h
 
-  pub word_got : (w : List ℕ) (e : ℕ) (fs : List (List ℕ)) → fieldEnd l at ≡ e → bytesDue w (fields_of (drop at l)) ≡ got tt fs → past.At e ≡ wordAnswer l at w
-  unfolding wordAnswer past_at
+  pub word_got : (w : List ℕ) (e : ℕ) (fs : List (List ℕ)) → field_end l at ≡ e → bytes_due w (fields_of (drop at l)) ≡ got tt fs → past.At e ≡ word_answer l at w
+  unfolding word_answer past_at
   word_got w e fs k h = rw (h, k)
 
-  pub number-no : (low high c : ℕ) → between low high (fields_of (drop at l)) ≡ no c → figure.No c ≡ numberAnswer l at low high
-  unfolding numberAnswer figureAt
+  pub number-no : (low high c : ℕ) → between low high (fields_of (drop at l)) ≡ no c → figure.No c ≡ number_answer l at low high
+  unfolding number_answer figure_at
   number-no low high c h = rw h
 
-  pub number-got : (low high v e : ℕ) (fs : List (List ℕ)) → fieldEnd l at ≡ e → between low high (fields_of (drop at l)) ≡ got v fs → figure.Is v e ≡ numberAnswer l at low high
-  unfolding numberAnswer figureAt
+  pub number-got : (low high v e : ℕ) (fs : List (List ℕ)) → field_end l at ≡ e → between low high (fields_of (drop at l)) ≡ got v fs → figure.Is v e ≡ number_answer l at low high
+  unfolding number_answer figure_at
   number-got low high v e fs k h = rw (h, k)
 
   -- behind a keyword the answer is that of the number there
   module _ (w : List ℕ) (low high : ℕ) where
-    pub key-number-no : (c : ℕ) → past.No c ≡ wordAnswer l at w → figure.No c ≡ keyNumberAnswer l at w low high
-    unfolding wordAnswer keyNumberAnswer past_at figureAt after
-    key-number-no c h = go (bytesDue w (fields_of (drop at l))) h
+    pub key-number-no : (c : ℕ) → past.No c ≡ word_answer l at w → figure.No c ≡ key_number_answer l at w low high
+    unfolding word_answer key_number_answer past_at figure_at after
+    key-number-no c h = go (bytes_due w (fields_of (drop at l))) h
       where
-        go : (g : FieldsGot (Unit {0})) → past.No c ≡ past_at (fieldEnd l at) g → figure.No c ≡ figureAt (fieldEnd l (fieldEnd l at)) (after g (λ _. between low high))
+        go : (g : FieldsGot (Unit {0})) → past.No c ≡ past_at (field_end l at) g → figure.No c ≡ figure_at (field_end l (field_end l at)) (after g (λ _. between low high))
         go (no d) h = let k : c ≡ d = cc in ap figure.No k
         go (got u fs) h = clash cc
 
-    pub key-number-past : (e : ℕ) → past.At e ≡ wordAnswer l at w → numberAnswer l e low high ≡ keyNumberAnswer l at w low high
-    unfolding wordAnswer numberAnswer keyNumberAnswer past_at after
-    key-number-past e h = go (bytesDue w (fields_of (drop at l))) refl h
+    pub key-number-past : (e : ℕ) → past.At e ≡ word_answer l at w → number_answer l e low high ≡ key_number_answer l at w low high
+    unfolding word_answer number_answer key_number_answer past_at after
+    key-number-past e h = go (bytes_due w (fields_of (drop at l))) refl h
       where
-        go : (g : FieldsGot (Unit {0})) → bytesDue w (fields_of (drop at l)) ≡ g → past.At e ≡ past_at (fieldEnd l at) g
-            → figureAt (fieldEnd l e) (between low high (fields_of (drop e l))) ≡ figureAt (fieldEnd l (fieldEnd l at)) (after g (λ _. between low high))
+        go : (g : FieldsGot (Unit {0})) → bytes_due w (fields_of (drop at l)) ≡ g → past.At e ≡ past_at (field_end l at) g
+            → figure_at (field_end l e) (between low high (fields_of (drop e l))) ≡ figure_at (field_end l (field_end l at)) (after g (λ _. between low high))
         go (no d) q h = clash cc
-        go (got u fs) q h = let k : e ≡ fieldEnd l at = cc in rw (due-left l at w u fs q, k)
+        go (got u fs) q h = let k : e ≡ field_end l at = cc in rw (due-left l at w u fs q, k)

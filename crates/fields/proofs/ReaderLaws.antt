@@ -8,9 +8,9 @@ use native.Mathlib.Omega.{arith}
 use borrow.Author.Tests.{leb-true, le-leb, lt-leb}
 use lib.Dec.{leb}
 use lib.Seq.{append_snoc}
-use Rattle.fields.specs.Numbers.{decimalOf, cap, cut}
+use Rattle.fields.specs.Numbers.{decimal_of, cap, cut}
 use Rattle.fields.specs.declared.number.Number.TheVariants.{Bad, Value}
-use Rattle.fields.specs.Readers.{Got, no, got, Reads, FieldsGot, after, give, each, bytesDue, within, between, keyBetween}
+use Rattle.fields.specs.Readers.{Got, no, got, Reads, FieldsGot, after, give, each, bytes_due, within, between, key_between}
 use Rattle.units.proofs.TestLaws.{clash, and_both}
 
 module _ {E S A B : Type 0} (g : Got E S A) (k : A → Reads E S B) where
@@ -27,15 +27,15 @@ unfoldable pub prepend : {E S A : Type 0} → List A → Got E S (List A) → Go
 prepend xs (no c) = no c
 prepend xs (got ys s) = got (xs ++ ys) s
 
-pub prepend-after : {E S A : Type 0} (x : A) (xs : List A) (g : Got E S (List A)) → prepend xs (after g (λ ys. give (x ∷ ys))) ≡ prepend (xs ++ x ∷ []) g
+pub prepend_after : {E S A : Type 0} (x : A) (xs : List A) (g : Got E S (List A)) → prepend xs (after g (λ ys. give (x ∷ ys))) ≡ prepend (xs ++ x ∷ []) g
 unfolding prepend after
-prepend-after x xs (no c) = refl
-prepend-after x xs (got ys s) = ap (λ l. got l s) (sym (append_snoc xs x ys))
+prepend_after x xs (no c) = refl
+prepend_after x xs (got ys s) = ap (λ l. got l s) (sym (append_snoc xs x ys))
 
-pub prepend-none : {E S A : Type 0} (g : Got E S (List A)) → prepend [] g ≡ g
+pub prepend_none : {E S A : Type 0} (g : Got E S (List A)) → prepend [] g ≡ g
 unfolding prepend
-prepend-none (no c) = refl
-prepend-none (got ys s) = refl
+prepend_none (no c) = refl
+prepend_none (got ys s) = refl
 
 -- n readings of which i are done, numbered from `from`, whose values are xs
 module _ {E S A : Type 0} (p : ℕ → Reads E S A) (from n i : ℕ) (xs : List A) (s : S) where
@@ -49,7 +49,7 @@ module _ {E S A : Type 0} (p : ℕ → Reads E S A) (from n i : ℕ) (xs : List 
   each_more x t h e =
       let k : n - i ≡ suc (n - (i + 1)) = omega arith in
       let m : from + (i + 1) ≡ suc (from + i) = omega arith in
-      rw (k, e, m) (prepend-after x xs (each (n - (i + 1)) p (suc (from + i)) t))
+      rw (k, e, m) (prepend_after x xs (each (n - (i + 1)) p (suc (from + i)) t))
 
   pub each-end : n ≤ i → prepend xs (each (n - i) p (from + i) s) ≡ got xs s
   unfolding each prepend
@@ -70,21 +70,21 @@ within-within low high (some u) fs v gs h = tested low high u fs v gs (leb low u
 pub between-within : (low high : ℕ) (fs : List (List ℕ)) (v : ℕ) (gs : List (List ℕ)) → between low high fs ≡ got v gs → (low ≤ v) × (v ≤ high)
 unfolding between
 between-within low high [] v gs h = clash cc
-between-within low high (f ∷ fs) v gs h = within-within low high (decimalOf f) fs v gs h
+between-within low high (f ∷ fs) v gs h = within-within low high (decimal_of f) fs v gs h
 
 due-within : (low high : ℕ) (g : FieldsGot (Unit {0})) (v : ℕ) (gs : List (List ℕ)) → after g (λ _. between low high) ≡ got v gs → (low ≤ v) × (v ≤ high)
 unfolding after
 due-within low high (no c) v gs h = clash cc
 due-within low high (got a fs) v gs h = between-within low high fs v gs h
 
-pub key-between-within : (w : List ℕ) (low high : ℕ) (fs : List (List ℕ)) (v : ℕ) (gs : List (List ℕ)) → keyBetween w low high fs ≡ got v gs → (low ≤ v) × (v ≤ high)
-key-between-within w low high fs v gs h = due-within low high (bytesDue w fs) v gs h
+pub key-between-within : (w : List ℕ) (low high : ℕ) (fs : List (List ℕ)) (v : ℕ) (gs : List (List ℕ)) → key_between w low high fs ≡ got v gs → (low ≤ v) × (v ≤ high)
+key-between-within w low high fs v gs h = due-within low high (bytes_due w fs) v gs h
 
 -- the field is no number
-pub within-bad : (low high : ℕ) (o : Option ℕ) (fs : List (List ℕ)) → cut o ≡ Bad → within low high o fs ≡ no 4
+pub within_bad : (low high : ℕ) (o : Option ℕ) (fs : List (List ℕ)) → cut o ≡ Bad → within low high o fs ≡ no 4
 unfolding within cut
-within-bad low high none fs h = refl
-within-bad low high (some n) fs h = clash cc
+within_bad low high none fs h = refl
+within_bad low high (some n) fs h = clash cc
 
 -- the field is the number v, or where v is the cap, some number from there on
 module _ (low high v : ℕ) (fs : List (List ℕ)) where

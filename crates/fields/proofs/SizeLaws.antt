@@ -8,41 +8,41 @@ use native.Mathlib.Omega.{arith}
 use borrow.Author.Tests.{ltb-true, ltb-false, leb-true}
 use lib.ListN.{length, length-append}
 use lib.Dec.{leb, ltb}
-use Rattle.fields.specs.Names.{nameBytes, nameMax, isName}
+use Rattle.fields.specs.Names.{name_bytes, name_max, is_name}
 use Rattle.fields.specs.WrittenLines.{decimal, joined}
 use Rattle.units.proofs.TestLaws.{and_both}
-use Rattle.fields.proofs.WrittenLaws.{decimal-small, length-large}
+use Rattle.fields.proofs.WrittenLaws.{decimal-small, length_large}
 
 pub length-small : (n : ℕ) → n < 10 → length (decimal n) ≡ 1
 length-small n h = rw (decimal-small n h)
 
-pub decimal-size : (k n : ℕ) → n < 10 ^ suc k → length (decimal n) ≤ suc k
-decimal-size zero n h = omega (arith, length-small n (omega arith))
-decimal-size (suc k) n h = go (decimal-size k (n / 10)) (ltb n 10) refl
+pub decimal_size : (k n : ℕ) → n < 10 ^ suc k → length (decimal n) ≤ suc k
+decimal_size zero n h = omega (arith, length-small n (omega arith))
+decimal_size (suc k) n h = go (decimal_size k (n / 10)) (ltb n 10) refl
   where
     go : (n / 10 < 10 ^ suc k → length (decimal (n / 10)) ≤ suc k) → (t : Bool) → ltb n 10 ≡ t → length (decimal n) ≤ suc (suc k)
     go ih true e = omega (arith, length-small n (ltb-true n 10 e))
     go ih false e =
         let p : 10 ^ suc (suc k) ≡ 10 ^ suc k * 10 = pow-suc 10 (suc k) in
-        omega (arith, length-large n (ltb-false n 10 e), ih (omega arith))
+        omega (arith, length_large n (ltb-false n 10 e), ih (omega arith))
 
 -- each field with one byte behind it
 unfoldable pub size : List (List ℕ) → ℕ
 size [] = 0
 size (f ∷ fs) = length f + 1 + size fs
 
-pub size-append : (xs ys : List (List ℕ)) → size (xs ++ ys) ≡ size xs + size ys
+pub size_append : (xs ys : List (List ℕ)) → size (xs ++ ys) ≡ size xs + size ys
 unfolding size
-size-append [] ys = omega arith
-size-append (f ∷ xs) ys = omega (arith, size-append xs ys)
+size_append [] ys = omega arith
+size_append (f ∷ xs) ys = omega (arith, size_append xs ys)
 
-pub joined-size : (fs : List (List ℕ)) → length (joined fs) ≤ size fs
+pub joined_size : (fs : List (List ℕ)) → length (joined fs) ≤ size fs
 unfolding joined size
-joined-size [] = omega arith
-joined-size (f ∷ []) = omega arith
-joined-size (f ∷ g ∷ fs) = rw length-append (omega (arith, joined-size (g ∷ fs)))
+joined_size [] = omega arith
+joined_size (f ∷ []) = omega arith
+joined_size (f ∷ g ∷ fs) = rw length-append (omega (arith, joined_size (g ∷ fs)))
 
-pub name-size : (f : List ℕ) → isName f ≡ true → length f ≤ 32
-name-size f h =
-    let p = and_both (leb 1 (length f)) (leb (length f) nameMax && nameBytes f) h in
-    leb-true (length f) nameMax (and_both (leb (length f) nameMax) (nameBytes f) p.1).0
+pub name_size : (f : List ℕ) → is_name f ≡ true → length f ≤ 32
+name_size f h =
+    let p = and_both (leb 1 (length f)) (leb (length f) name_max && name_bytes f) h in
+    leb-true (length f) name_max (and_both (leb (length f) name_max) (name_bytes f) p.1).0

@@ -23,26 +23,26 @@ abbrev pub space : ℕ
 space = 32
 
 -- is an LF next?
-unfoldable pub lfNext : List ℕ → Bool
-lfNext [] = false
-lfNext (b ∷ bs) = eqb b lf
+unfoldable pub lf_next : List ℕ → Bool
+lf_next [] = false
+lf_next (b ∷ bs) = eqb b lf
 
 -- "tab, LF, CR before LF, or 32 to 126": is the byte b one of these, with bs behind it?
 abbrev pub allowed : ℕ → List ℕ → Bool
-allowed b bs = eqb b tab || (eqb b lf || (eqb b cr && lfNext bs || leb 32 b && leb b 126))
+allowed b bs = eqb b tab || (eqb b lf || (eqb b cr && lf_next bs || leb 32 b && leb b 126))
 
 -- the line behind byte b of line n
-abbrev pub lineBehind : ℕ → ℕ → ℕ
-lineBehind n b = cond (eqb b lf) (suc n) n
+abbrev pub line_behind : ℕ → ℕ → ℕ
+line_behind n b = cond (eqb b lf) (suc n) n
 
 -- the line of the first byte that is none of these, in a text that begins on line n
-unfoldable pub badByte : ℕ → List ℕ → BadByte
-badByte n [] = Nowhere
-badByte n (b ∷ bs) = cond (allowed b bs) (badByte (lineBehind n b) bs) (OnLine n)
+unfoldable pub bad_byte : ℕ → List ℕ → BadByte
+bad_byte n [] = Nowhere
+bad_byte n (b ∷ bs) = cond (allowed b bs) (bad_byte (line_behind n b) bs) (OnLine n)
 
 -- the two are the same bytes
-unfoldable pub sameBytes : List ℕ → List ℕ → Bool
-sameBytes [] [] = true
-sameBytes [] (y ∷ ys) = false
-sameBytes (x ∷ xs) [] = false
-sameBytes (x ∷ xs) (y ∷ ys) = eqb x y && sameBytes xs ys
+unfoldable pub same_bytes : List ℕ → List ℕ → Bool
+same_bytes [] [] = true
+same_bytes [] (y ∷ ys) = false
+same_bytes (x ∷ xs) [] = false
+same_bytes (x ∷ xs) (y ∷ ys) = eqb x y && same_bytes xs ys

@@ -15,15 +15,15 @@ begins [] = false
 begins (b ∷ bs) = not (gap b)
 
 -- byte b before a line with the fields fs: part of the first one where that goes on at once, else a field of its own
-unfoldable pub onField : ℕ → Bool → List (List ℕ) → List (List ℕ)
-onField b false fs = (b ∷ []) ∷ fs
-onField b true [] = (b ∷ []) ∷ []
-onField b true (f ∷ fs) = (b ∷ f) ∷ fs
+unfoldable pub on_field : ℕ → Bool → List (List ℕ) → List (List ℕ)
+on_field b false fs = (b ∷ []) ∷ fs
+on_field b true [] = (b ∷ []) ∷ []
+on_field b true (f ∷ fs) = (b ∷ f) ∷ fs
 
 -- the fields of a line: its longest runs of bytes that are neither space nor tab
 unfoldable pub fields_of : List ℕ → List (List ℕ)
 fields_of [] = []
-fields_of (b ∷ bs) = cond (gap b) (fields_of bs) (onField b (begins bs) (fields_of bs))
+fields_of (b ∷ bs) = cond (gap b) (fields_of bs) (on_field b (begins bs) (fields_of bs))
 
 -- nothing but spaces and tabs
 unfoldable pub blank : List (List ℕ) → Bool
@@ -45,17 +45,17 @@ run [] = 0
 run (b ∷ bs) = cond (gap b) 0 (suc (run bs))
 
 -- where the run of such bytes from a place on ends
-abbrev pub runEnd : List ℕ → ℕ → ℕ
-runEnd s a = a + run (drop a s)
+abbrev pub run_end : List ℕ → ℕ → ℕ
+run_end s a = a + run (drop a s)
 
 -- the field that begins at a place, and where it ends; nothing behind the end
-unfoldable pub fieldFrom : List ℕ → ℕ → Next
-fieldFrom s a = cond (ltb a (length s)) (Field a (runEnd s a)) Nothing
+unfoldable pub field_from : List ℕ → ℕ → Next
+field_from s a = cond (ltb a (length s)) (Field a (run_end s a)) Nothing
 
 -- the first field at or behind a place
-unfoldable pub nextField : List ℕ → ℕ → Next
-nextField s at = fieldFrom s (at + gaps (drop at s))
+unfoldable pub next_field : List ℕ → ℕ → Next
+next_field s at = field_from s (at + gaps (drop at s))
 
 -- where that field ends; where there is none, the end of the gaps
-unfoldable pub fieldEnd : List ℕ → ℕ → ℕ
-fieldEnd s at = runEnd s (at + gaps (drop at s))
+unfoldable pub field_end : List ℕ → ℕ → ℕ
+field_end s at = run_end s (at + gaps (drop at s))

@@ -2,16 +2,16 @@
 use Rattle.std.specs.Prelude.{ℕ, Bool, true, ◌&&◌, ◌||◌, List, [], ◌∷◌, length, leb, eqb}
 use Rattle.fields.specs.Numbers.{digit}
 
-abbrev pub nameMax : ℕ
-nameMax = 32
+abbrev pub name_max : ℕ
+name_max = 32
 
 -- a letter, a digit, `_` or `-`
-abbrev pub nameByte : ℕ → Bool
-nameByte b = leb 65 b && leb b 90 || (leb 97 b && leb b 122 || (digit b || (eqb b 95 || eqb b 45)))
+abbrev pub name_byte : ℕ → Bool
+name_byte b = leb 65 b && leb b 90 || (leb 97 b && leb b 122 || (digit b || (eqb b 95 || eqb b 45)))
 
-unfoldable pub nameBytes : List ℕ → Bool
-nameBytes [] = true
-nameBytes (b ∷ bs) = nameByte b && nameBytes bs
+unfoldable pub name_bytes : List ℕ → Bool
+name_bytes [] = true
+name_bytes (b ∷ bs) = name_byte b && name_bytes bs
 
-abbrev pub isName : List ℕ → Bool
-isName f = leb 1 (length f) && (leb (length f) nameMax && nameBytes f)
+abbrev pub is_name : List ℕ → Bool
+is_name f = leb 1 (length f) && (leb (length f) name_max && name_bytes f)

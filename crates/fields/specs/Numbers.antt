@@ -17,9 +17,9 @@ more [] = false
 more (b ∷ bs) = true
 
 -- the number that a field is, however long; none where it is not decimal
-unfoldable pub decimalOf : List ℕ → Option ℕ
-decimalOf [] = none
-decimalOf (b ∷ bs) = cond (eqb b 48 && more bs) none (digits (b ∷ bs) 0)
+unfoldable pub decimal_of : List ℕ → Option ℕ
+decimal_of [] = none
+decimal_of (b ∷ bs) = cond (eqb b 48 && more bs) none (digits (b ∷ bs) 0)
 
 -- over every limit of the documents
 abbrev pub cap : ℕ

@@ -2,9 +2,9 @@
 use Rattle.std.specs.Prelude.{ℕ, zero, suc, cond, ◌&&◌, List, [], ◌∷◌, drop, leb}
 use Prim.Native.String.{String}
 use Rattle.std.proofs.Math.Option.{Option, some, none}
-use Rattle.fields.specs.Bytes.{bytes, sameBytes}
-use Rattle.fields.specs.Fields.{fields_of, fieldEnd}
-use Rattle.fields.specs.Numbers.{decimalOf}
+use Rattle.fields.specs.Bytes.{bytes, same_bytes}
+use Rattle.fields.specs.Fields.{fields_of, field_end}
+use Rattle.fields.specs.Numbers.{decimal_of}
 use Rattle.fields.specs.declared.reader.Past.{Past}
 use Rattle.fields.specs.declared.reader.Past.TheVariants as past
 use Rattle.fields.specs.declared.reader.Figure.{Figure}
@@ -49,12 +49,12 @@ abbrev pub Reader : Type 0 → Type 0
 Reader A = Reads ℕ (List (List ℕ)) A
 
 -- "a wrong keyword .. too few .. fields on a line" is 3
-unfoldable pub bytesDue : List ℕ → Reader (Unit {0})
-bytesDue w [] = no 3
-bytesDue w (f ∷ fs) = cond (sameBytes f w) (got tt fs) (no 3)
+unfoldable pub bytes_due : List ℕ → Reader (Unit {0})
+bytes_due w [] = no 3
+bytes_due w (f ∷ fs) = cond (same_bytes f w) (got tt fs) (no 3)
 
 abbrev pub word : String → Reader (Unit {0})
-word w = bytesDue (bytes w)
+word w = bytes_due (bytes w)
 
 -- "a number field not decimal or outside its limit" is 4
 unfoldable pub within : ℕ → ℕ → Option ℕ → Reader ℕ
@@ -64,38 +64,38 @@ within low high (some v) fs = cond (leb low v && leb v high) (got v fs) (no 4)
 -- a number from low to high
 unfoldable pub between : ℕ → ℕ → Reader ℕ
 between low high [] = no 3
-between low high (f ∷ fs) = within low high (decimalOf f) fs
+between low high (f ∷ fs) = within low high (decimal_of f) fs
 
 -- the keyword w, and then a number from low to high
-abbrev pub keyBetween : List ℕ → ℕ → ℕ → Reader ℕ
-keyBetween w low high = bytesDue w >> between low high
+abbrev pub key_between : List ℕ → ℕ → ℕ → Reader ℕ
+key_between w low high = bytes_due w >> between low high
 
 -- what an answer about a place in a line means: the refusal, or the value and the fields behind the place it gives
-abbrev pub pastIs : List ℕ → Past → FieldsGot (Unit {0})
-pastIs l (past.No c) = no c
-pastIs l (past.At e) = got tt (fields_of (drop e l))
+abbrev pub past_is : List ℕ → Past → FieldsGot (Unit {0})
+past_is l (past.No c) = no c
+past_is l (past.At e) = got tt (fields_of (drop e l))
 
-abbrev pub figureIs : List ℕ → Figure → FieldsGot ℕ
-figureIs l (figure.No c) = no c
-figureIs l (figure.Is v e) = got v (fields_of (drop e l))
+abbrev pub figure_is : List ℕ → Figure → FieldsGot ℕ
+figure_is l (figure.No c) = no c
+figure_is l (figure.Is v e) = got v (fields_of (drop e l))
 
 -- the answer to a reading whose last field ends at e: the refusal, or the value and the place e
 unfoldable pub past_at : ℕ → FieldsGot (Unit {0}) → Past
 past_at e (no c) = past.No c
 past_at e (got a fs) = past.At e
 
-unfoldable pub figureAt : ℕ → FieldsGot ℕ → Figure
-figureAt e (no c) = figure.No c
-figureAt e (got v fs) = figure.Is v e
+unfoldable pub figure_at : ℕ → FieldsGot ℕ → Figure
+figure_at e (no c) = figure.No c
+figure_at e (got v fs) = figure.Is v e
 
 -- the keyword w at a place of the line l: it ends where its field does
-unfoldable pub wordAnswer : List ℕ → ℕ → List ℕ → Past
-wordAnswer l at w = past_at (fieldEnd l at) (bytesDue w (fields_of (drop at l)))
+unfoldable pub word_answer : List ℕ → ℕ → List ℕ → Past
+word_answer l at w = past_at (field_end l at) (bytes_due w (fields_of (drop at l)))
 
 -- a number from low to high there
-unfoldable pub numberAnswer : List ℕ → ℕ → ℕ → ℕ → Figure
-numberAnswer l at low high = figureAt (fieldEnd l at) (between low high (fields_of (drop at l)))
+unfoldable pub number_answer : List ℕ → ℕ → ℕ → ℕ → Figure
+number_answer l at low high = figure_at (field_end l at) (between low high (fields_of (drop at l)))
 
 -- the keyword w and then such a number, which is the second field
-unfoldable pub keyNumberAnswer : List ℕ → ℕ → List ℕ → ℕ → ℕ → Figure
-keyNumberAnswer l at w low high = figureAt (fieldEnd l (fieldEnd l at)) (keyBetween w low high (fields_of (drop at l)))
+unfoldable pub key_number_answer : List ℕ → ℕ → List ℕ → ℕ → ℕ → Figure
+key_number_answer l at w low high = figure_at (field_end l (field_end l at)) (key_between w low high (fields_of (drop at l)))

@@ -3,13 +3,13 @@ use Rattle.std.specs.Prelude.{ℕ, zero, suc, ◌+◌, ◌/◌, ◌%◌, cond, L
 use Rattle.fields.specs.Bytes.{space, lf}
 
 -- the digits of n, of which there are at most k
-unfoldable pub digitsOf : ℕ → ℕ → List ℕ
-digitsOf zero n = []
-digitsOf (suc k) n = cond (ltb n 10) ((48 + n) ∷ []) (digitsOf k (n / 10) ++ (48 + n % 10) ∷ [])
+unfoldable pub digits_of : ℕ → ℕ → List ℕ
+digits_of zero n = []
+digits_of (suc k) n = cond (ltb n 10) ((48 + n) ∷ []) (digits_of k (n / 10) ++ (48 + n % 10) ∷ [])
 
 -- a number in decimal without leading zeros
 unfoldable pub decimal : ℕ → List ℕ
-decimal n = digitsOf (suc n) n
+decimal n = digits_of (suc n) n
 
 -- fields parted by single spaces
 unfoldable pub joined : List (List ℕ) → List ℕ
@@ -18,6 +18,6 @@ joined (f ∷ []) = f
 joined (f ∷ g ∷ fs) = f ++ space ∷ joined (g ∷ fs)
 
 -- lines of fields: single spaces, and LF after every line
-unfoldable pub writtenLines : List (List (List ℕ)) → List ℕ
-writtenLines [] = []
-writtenLines (l ∷ ls) = joined l ++ lf ∷ writtenLines ls
+unfoldable pub written_lines : List (List (List ℕ)) → List ℕ
+written_lines [] = []
+written_lines (l ∷ ls) = joined l ++ lf ∷ written_lines ls

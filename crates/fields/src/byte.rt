@@ -1,6 +1,6 @@
 // Which bytes a text may have (refusal 2), and whether two parts of it are the same bytes.
 ghost use Rattle.std.specs.Prelude.{◌≡◌, drop, get_or, ◌+◌};
-ghost use Rattle.fields.specs.Bytes.{allowed, badByte, sameBytes, lfNext};
+ghost use Rattle.fields.specs.Bytes.{allowed, bad_byte, same_bytes, lf_next};
 
 // The first byte that a text may not have: its line.
 #[derive(Drop)]
@@ -10,7 +10,7 @@ pub enum BadByte {
 }
 
 fn is_lf_at(text: &[u8], at: usize) -> bool
-    ensures { result ≡ lfNext (drop at text.now) }
+    ensures { result ≡ lf_next (drop at text.now) }
 {
     if at < text.len() {
         text[at] == 10
@@ -39,7 +39,7 @@ fn is_allowed(text: &[u8], b: u8, next: usize) -> bool
 }
 
 pub fn bad_byte(text: &[u8]) -> BadByte
-    ensures { result ≡ badByte 1 text.now }
+    ensures { result ≡ bad_byte 1 text.now }
 {
     let mut line: usize = 1;
     let mut i: usize = 0;
@@ -57,7 +57,7 @@ pub fn bad_byte(text: &[u8]) -> BadByte
 }
 
 pub fn same_bytes(a: &[u8], b: &[u8]) -> bool
-    ensures { result ≡ sameBytes a.now b.now }
+    ensures { result ≡ same_bytes a.now b.now }
 {
     if a.len() != b.len() {
         return false;

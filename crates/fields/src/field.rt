@@ -1,6 +1,6 @@
 // The fields of a line: parted by spaces and tabs, which count for nothing at its ends.
 ghost use Rattle.std.specs.Prelude.{◌≡◌, ◌+◌, drop};
-ghost use Rattle.fields.specs.Fields.{gap, gaps, run, nextField, fields_of, blank};
+ghost use Rattle.fields.specs.Fields.{gap, gaps, run, next_field, fields_of, blank};
 
 // The next field: where it begins and where it ends.
 #[derive(Drop)]
@@ -44,7 +44,7 @@ fn past_run(l: &[u8], from: usize) -> usize
 }
 
 pub fn next_field(l: &[u8], from: usize) -> Next
-    ensures { result ≡ nextField l.now from }
+    ensures { result ≡ next_field l.now from }
 {
     let a = past_gaps(l, from);
     if l.len() <= a {

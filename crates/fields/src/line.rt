@@ -1,6 +1,6 @@
 // The lines of a text: each ends in LF or CRLF, the last may lack its end, and blank ones are skipped but counted.
 ghost use Rattle.std.specs.Prelude.{◌≡◌, ◌+◌, drop};
-ghost use Rattle.fields.specs.Lines.{untilLf, line_at, NextLineIs};
+ghost use Rattle.fields.specs.Lines.{until_lf, line_at, NextLineIs};
 
 // A line's place without its end, and where the next line begins.
 #[derive(Drop)]
@@ -17,7 +17,7 @@ pub enum NextLine {
 }
 
 fn past_line(text: &[u8], from: usize) -> usize
-    ensures { result ≡ from + untilLf (drop from text.now) }
+    ensures { result ≡ from + until_lf (drop from text.now) }
 {
     let mut i = from;
     while i < text.len() {

@@ -1,11 +1,11 @@
 // Names: 1 to 32 letters, digits, `_` or `-`.
 ghost use Rattle.std.specs.Prelude.{◌≡◌};
-ghost use Rattle.fields.specs.Names.{nameByte, isName};
+ghost use Rattle.fields.specs.Names.{name_byte, is_name};
 
 pub const NAME_MAX: usize = 32;
 
 fn is_name_byte(b: u8) -> bool
-    ensures { result ≡ nameByte b }
+    ensures { result ≡ name_byte b }
 {
     if b == 45 {
         return true;
@@ -32,7 +32,7 @@ fn is_name_byte(b: u8) -> bool
 }
 
 pub fn is_name(f: &[u8]) -> bool
-    ensures { result ≡ isName f.now }
+    ensures { result ≡ is_name f.now }
 {
     if f.len() < 1 {
         return false;

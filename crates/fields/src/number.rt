@@ -1,6 +1,6 @@
 // Decimal numbers without leading zeros, however long: over 4,294,967,296 a number counts as that, which is over every limit.
 ghost use Rattle.std.specs.Prelude.{◌≡◌, ◌-◌, ◌≤◌, min};
-ghost use Rattle.fields.specs.Numbers.{cap, cut, decimalOf};
+ghost use Rattle.fields.specs.Numbers.{cap, cut, decimal_of};
 
 #[derive(Drop)]
 pub enum Number {
@@ -24,7 +24,7 @@ fn cut_at_cap(v: u64) -> u64
 }
 
 pub fn number_of(f: &[u8]) -> Number
-    ensures { result ≡ cut (decimalOf f.now) }
+    ensures { result ≡ cut (decimal_of f.now) }
 {
     if f.len() == 0 {
         return Number::Bad;

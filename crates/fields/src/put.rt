@@ -2,10 +2,10 @@
 // itself.
 ghost use Rattle.std.specs.Prelude.{◌≡◌};
 ghost use Rattle.fields.specs.WrittenLines.{decimal};
-ghost use Rattle.buffer.specs.Puts.{putEnd, put_in};
+ghost use Rattle.buffer.specs.Puts.{put_end, put_in};
 
 pub fn put_number(buf: &mut [u8], at: usize, v: u64) -> usize
-    ensures { (result ≡ putEnd (decimal v) at buf.old) × (buf.new ≡ put_in (decimal v) at buf.old) }
+    ensures { (result ≡ put_end (decimal v) at buf.old) × (buf.new ≡ put_in (decimal v) at buf.old) }
 {
     if buf.len() < at {
         return at;
@@ -15,7 +15,7 @@ pub fn put_number(buf: &mut [u8], at: usize, v: u64) -> usize
 
 // Bytes, and a number behind them: each is put if there is room for it, so the bytes may stand there without the number.
 pub fn put_key(buf: &mut [u8], at: usize, w: &[u8], v: u64) -> usize
-    ensures { (result ≡ putEnd (decimal v) (putEnd w.now at buf.old) (put_in w.now at buf.old)) × (buf.new ≡ put_in (decimal v) (putEnd w.now at buf.old) (put_in w.now at buf.old)) }
+    ensures { (result ≡ put_end (decimal v) (put_end w.now at buf.old) (put_in w.now at buf.old)) × (buf.new ≡ put_in (decimal v) (put_end w.now at buf.old) (put_in w.now at buf.old)) }
 {
     let e = buffer::put_bytes(&mut *buf, at, w);
     put_number(&mut *buf, e, v)

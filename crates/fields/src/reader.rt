@@ -1,7 +1,7 @@
 // Fields read left to right at a place of a line: a keyword that is due, a number within its limits. An answer is the refusal's number, or
 // what was read and the place behind it.
 ghost use Rattle.std.specs.Prelude.{◌≡◌};
-ghost use Rattle.fields.specs.Readers.{wordAnswer, numberAnswer, keyNumberAnswer};
+ghost use Rattle.fields.specs.Readers.{word_answer, number_answer, key_number_answer};
 
 use super::{Next, Number};
 
@@ -19,7 +19,7 @@ pub enum Figure {
 
 // The keyword w.
 pub fn past_word(l: &[u8], at: usize, w: &[u8]) -> Past
-    ensures { result ≡ wordAnswer l.now at w.now }
+    ensures { result ≡ word_answer l.now at w.now }
 {
     match super::next_field(l, at) {
         Next::Nothing => Past::No(3),
@@ -35,7 +35,7 @@ pub fn past_word(l: &[u8], at: usize, w: &[u8]) -> Past
 
 // A number from low to high, both below 4,294,967,296.
 pub fn figure_at(l: &[u8], at: usize, low: u32, high: u32) -> Figure
-    ensures { result ≡ numberAnswer l.now at low high }
+    ensures { result ≡ number_answer l.now at low high }
 {
     match super::next_field(l, at) {
         Next::Nothing => Figure::No(3),
@@ -56,7 +56,7 @@ pub fn figure_at(l: &[u8], at: usize, low: u32, high: u32) -> Figure
 
 // The keyword w, and then a number from low to high.
 pub fn key_figure(l: &[u8], at: usize, w: &[u8], low: u32, high: u32) -> Figure
-    ensures { result ≡ keyNumberAnswer l.now at w.now low high }
+    ensures { result ≡ key_number_answer l.now at w.now low high }
 {
     match past_word(l, at, w) {
         Past::No(c) => Figure::No(c),

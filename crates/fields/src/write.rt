@@ -1,6 +1,6 @@
 // How numbers are written, at the front of a lent buffer. Without room nothing is written, and the answer is 0.
 ghost use Rattle.std.specs.Prelude.{◌≡◌, ◌≤◌, ◌++◌, length, drop};
-ghost use Rattle.buffer.specs.Puts.{putFront, putCount};
+ghost use Rattle.buffer.specs.Puts.{put_front, put_count};
 ghost use Rattle.fields.specs.WrittenLines.{decimal};
 
 fn digit_count(v: u64) -> usize
@@ -24,7 +24,7 @@ fn put_digits(buf: &mut [u8], v: u64) -> usize
 
 // A number in decimal.
 pub fn write_number(buf: &mut [u8], v: u64) -> usize
-    ensures { (result ≡ putCount (decimal v) buf.old) × (buf.new ≡ putFront (decimal v) buf.old) }
+    ensures { (result ≡ put_count (decimal v) buf.old) × (buf.new ≡ put_front (decimal v) buf.old) }
 {
     if digit_count(v) <= buf.len() {
         put_digits(&mut *buf, v)

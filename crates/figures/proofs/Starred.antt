@@ -2,37 +2,37 @@
 -- computation, of t1 from its very text. Assumes nothing.
 use mathlib.Core.Path.{◌≡◌, refl, ap}
 use mathlib.Core.List.{◌++◌}
-use Rattle.fields.specs.Names.{nameBytes}
-use Rattle.soc.specs.Rules.{goodPower, goodPosition, pinsRule, goodTest, spareTest, levelRule, goodTerminals, goodChains, goodTests, goodModule, goodModules, spareModule, goodName, goodSoc}
-use Rattle.soc.specs.Planned.{isPlanned, plannedFrom}
+use Rattle.fields.specs.Names.{name_bytes}
+use Rattle.soc.specs.Rules.{good_power, good_position, pins_rule, good_test, spare_test, level_rule, good_terminals, good_chains, good_tests, good_module, good_modules, spare_module, good_name, good_soc}
+use Rattle.soc.specs.Planned.{is_planned, planned_from}
 use Rattle.units.specs.Places.{padded, all_of, any_of}
-use Rattle.wrapper_fit.specs.Fit.{longest, total, better, bestFrom, goes, placed, withCells, longestAfter}
-use Rattle.wrapper_scans.specs.Chains.{numberedFrom, insert, ordered, sumOver, howMany, usedChains, thread, threaded}
-use Rattle.wrapper_scans.specs.TestTimes.{scanIn, scanOut, testCycles, testTime}
-use Rattle.wrapper_times.specs.Times.{sumTimes, figure, bestTo, moduleBest}
-use Rattle.plan_rules.specs.Plans.{sum, busyFrom, busies, largest, timeOf}
-use Rattle.plan_rules.specs.Listed.{upward, widthLists, placements, plansOn, plans, firstLeast, first_of, bestOf}
-use Rattle.plan_record.specs.Record.{cyclesOn, busRecords, moduleRecords, planRecord}
-use Rattle.plan.specs.PlanAnswers.{timeIn, wiresIn, bestFor, planAnswer}
-use Rattle.figures.proofs.Read.{t1-read, copies-read}
+use Rattle.wrapper_fit.specs.Fit.{longest, total, better, best_from, goes, placed, with_cells, longest_after}
+use Rattle.wrapper_scans.specs.Chains.{numbered_from, insert, ordered, sum_over, how_many, used_chains, thread, threaded}
+use Rattle.wrapper_scans.specs.TestTimes.{scan_in, scan_out, test_cycles, test_time}
+use Rattle.wrapper_times.specs.Times.{sum_times, figure, best_to, module_best}
+use Rattle.plan_rules.specs.Plans.{sum, busy_from, busies, largest, time_of}
+use Rattle.plan_rules.specs.Listed.{upward, width_lists, placements, plans_on, plans, first_least, first_of, best_of}
+use Rattle.plan_record.specs.Record.{cycles_on, bus_records, module_records, plan_record}
+use Rattle.plan.specs.PlanAnswers.{time_in, wires_in, best_for, plan_answer}
+use Rattle.figures.proofs.Read.{t1-read, copies_read}
 use Rattle.soc.specs.declared.record.Soc.{Soc}
-use Rattle.text_reader.specs.Reading.{readSoc}
-use Rattle.figures.specs.Records.{t1, twoCopies}
-use Rattle.figures.specs.Texts.{t1Text, twoCopiesText}
-use Rattle.figures.specs.Figures.{wrapperFigures, captureFigures, planFigures, startFigures, figures, computedOf, statedOf}
+use Rattle.text_reader.specs.Reading.{read_soc}
+use Rattle.figures.specs.Records.{t1, two_copies}
+use Rattle.figures.specs.Texts.{t1_text, two_copies_text}
+use Rattle.figures.specs.Figures.{wrapper_figures, capture_figures, plan_figures, start_figures, figures, computed_of, stated_of}
 
 -- of the records
 records-hold :
-    let l = wrapperFigures ++ captureFigures ++ planFigures t1 twoCopies ++ startFigures t1 twoCopies in
-    computedOf l ≡ statedOf l
-unfolding isPlanned plannedFrom padded all_of any_of longest total better bestFrom goes placed withCells longestAfter numberedFrom insert ordered sumOver howMany usedChains thread threaded scanIn scanOut testCycles testTime sumTimes figure bestTo moduleBest sum busyFrom busies largest timeOf upward widthLists placements plansOn plans firstLeast first_of bestOf cyclesOn busRecords moduleRecords planRecord timeIn wiresIn bestFor planAnswer computedOf statedOf goodPower goodPosition goodTest spareTest levelRule goodTerminals goodChains goodTests goodModule goodModules spareModule goodName goodSoc nameBytes pinsRule
+    let l = wrapper_figures ++ capture_figures ++ plan_figures t1 two_copies ++ start_figures t1 two_copies in
+    computed_of l ≡ stated_of l
+unfolding is_planned planned_from padded all_of any_of longest total better best_from goes placed with_cells longest_after numbered_from insert ordered sum_over how_many used_chains thread threaded scan_in scan_out test_cycles test_time sum_times figure best_to module_best sum busy_from busies largest time_of upward width_lists placements plans_on plans first_least first_of best_of cycles_on bus_records module_records plan_record time_in wires_in best_for plan_answer computed_of stated_of good_power good_position good_test spare_test level_rule good_terminals good_chains good_tests good_module good_modules spare_module good_name good_soc name_bytes pins_rule
 records-hold = refl
 
 -- and of the texts
-pub starred-hold : computedOf figures ≡ statedOf figures
-starred-hold = go (readSoc t1Text).soc (readSoc twoCopiesText).soc (ap (λ a. a.soc) t1-read) (ap (λ a. a.soc) copies-read)
+pub starred_hold : computed_of figures ≡ stated_of figures
+starred_hold = go (read_soc t1_text).soc (read_soc two_copies_text).soc (ap (λ a. a.soc) t1-read) (ap (λ a. a.soc) copies_read)
   where
-    go : (s c : Soc) → s ≡ t1 → c ≡ twoCopies →
-        let l = wrapperFigures ++ captureFigures ++ planFigures s c ++ startFigures s c in
-        computedOf l ≡ statedOf l
+    go : (s c : Soc) → s ≡ t1 → c ≡ two_copies →
+        let l = wrapper_figures ++ capture_figures ++ plan_figures s c ++ start_figures s c in
+        computed_of l ≡ stated_of l
     go s c e f = rw (e, f) records-hold

@@ -1,16 +1,16 @@
 -- Document 01's starred figures ("Figures to hold against"), each beside the definition that it is a figure of, with one capture cycle, and
 -- the starts of the same plans. And some of the wrapper's with more capture cycles (document 02, item 5).
 use Rattle.std.specs.Prelude.{ℕ, true, List, [], ◌∷◌, ◌++◌, get_or}
-use Rattle.wrapper_scans.specs.TestTimes.{scanIn, scanOut}
-use Rattle.wrapper_times.specs.Times.{figure, moduleBest}
+use Rattle.wrapper_scans.specs.TestTimes.{scan_in, scan_out}
+use Rattle.wrapper_times.specs.Times.{figure, module_best}
 use Rattle.soc.specs.declared.record.Soc.{Soc}
-use Rattle.text_reader.specs.Reading.{readSoc}
-use Rattle.plan_record.specs.Record.{modulesOf, places_of}
+use Rattle.text_reader.specs.Reading.{read_soc}
+use Rattle.plan_record.specs.Record.{modules_of, places_of}
 use Rattle.plan_record.specs.Starts.{module_of}
 use Rattle.plan_record.specs.declared.record.BusPlan.{BusPlan}
-use Rattle.plan.specs.PlanAnswers.{planAnswer}
-use Rattle.figures.specs.Cores.{coreA, oneChain, terminals, nothing}
-use Rattle.figures.specs.Texts.{t1Text, twoCopiesText}
+use Rattle.plan.specs.PlanAnswers.{plan_answer}
+use Rattle.figures.specs.Cores.{core_a, one_chain, terminals, nothing}
+use Rattle.figures.specs.Texts.{t1_text, two_copies_text}
 
 -- a figure as the definitions have it, and as document 01 states it
 pub record Figure : Type 0 where
@@ -21,52 +21,52 @@ infix 30 ◌is◌
 abbrev pub ◌is◌ : ℕ → ℕ → Figure
 c is s = record { computed = c; stated = s }
 
-abbrev pub wrapperFigures : List Figure
-wrapperFigures =
-    (figure 1 coreA 1 is 920)
-    ∷ (figure 1 coreA 2 is 470)
-    ∷ (figure 1 coreA 3 is 317)
-    ∷ (figure 1 coreA 4 is 240)
-    ∷ (figure 1 coreA 5 is 208)
-    ∷ (scanIn coreA true 4 is 20)
-    ∷ (scanOut coreA true 4 is 21)
-    ∷ ((moduleBest 1 oneChain 1).cycles is 65)
-    ∷ ((moduleBest 1 oneChain 1).wires is 1)
-    ∷ ((moduleBest 1 oneChain 2).cycles is 65)
-    ∷ ((moduleBest 1 oneChain 2).wires is 1)
+abbrev pub wrapper_figures : List Figure
+wrapper_figures =
+    (figure 1 core_a 1 is 920)
+    ∷ (figure 1 core_a 2 is 470)
+    ∷ (figure 1 core_a 3 is 317)
+    ∷ (figure 1 core_a 4 is 240)
+    ∷ (figure 1 core_a 5 is 208)
+    ∷ (scan_in core_a true 4 is 20)
+    ∷ (scan_out core_a true 4 is 21)
+    ∷ ((module_best 1 one_chain 1).cycles is 65)
+    ∷ ((module_best 1 one_chain 1).wires is 1)
+    ∷ ((module_best 1 one_chain 2).cycles is 65)
+    ∷ ((module_best 1 one_chain 2).wires is 1)
     ∷ (figure 1 terminals 1 is 18)
     ∷ (figure 1 terminals 2 is 13)
     ∷ (figure 1 terminals 3 is 9)
     ∷ (figure 1 terminals 4 is 9)
-    ∷ ((moduleBest 1 terminals 4).wires is 3)
-    ∷ ((moduleBest 1 nothing 1).cycles is 7)
+    ∷ ((module_best 1 terminals 4).wires is 3)
+    ∷ ((module_best 1 nothing 1).cycles is 7)
     ∷ []
 
 -- with c = 2 and 4: Core A at width 4, where max(si, so) is 21 and min(si, so) is 20, takes (c + 21) × 10 + 20, and no terminals and no
 -- chains c × 7
-abbrev pub captureFigures : List Figure
-captureFigures = (figure 2 coreA 4 is 250) ∷ (figure 4 coreA 4 is 270) ∷ ((moduleBest 4 nothing 1).cycles is 28) ∷ []
+abbrev pub capture_figures : List Figure
+capture_figures = (figure 2 core_a 4 is 250) ∷ (figure 4 core_a 4 is 270) ∷ ((module_best 4 nothing 1).cycles is 28) ∷ []
 
 -- what the planner answers for W wires and limit B
 abbrev pub planned : Soc → ℕ → ℕ → BusPlan
-planned s W B = (planAnswer s W B 1).plan
+planned s W B = (plan_answer s W B 1).plan
 
 -- "Text t1 above: W 4, B 1: 74*; W 1, B 3: 83*; W 4, B 3: 65 with two buses*. Two copies of its module 1, W 2, B 2: 65, modules on buses 1 and 2*.":
 -- of a record and one with the copies
-abbrev pub planFigures : Soc → Soc → List Figure
-planFigures s c =
+abbrev pub plan_figures : Soc → Soc → List Figure
+plan_figures s c =
     ((planned s 4 1).time.0 is 74)
     ∷ ((planned s 1 3).time.0 is 83)
     ∷ ((planned s 4 3).time.0 is 65)
     ∷ ((planned s 4 3).bus_count is 2)
     ∷ ((planned c 2 2).time.0 is 65)
-    ∷ (get_or (places_of (modulesOf (planned c 2 2))) 0 0 is 1)
-    ∷ (get_or (places_of (modulesOf (planned c 2 2))) 1 0 is 2)
+    ∷ (get_or (places_of (modules_of (planned c 2 2))) 0 0 is 1)
+    ∷ (get_or (places_of (modules_of (planned c 2 2))) 1 0 is 2)
     ∷ []
 
 -- the starts in these plans (document 02, item 1): on one bus module 2 of t1 begins where module 1 ends, on two buses both begin at once
-abbrev pub startFigures : Soc → Soc → List Figure
-startFigures s c =
+abbrev pub start_figures : Soc → Soc → List Figure
+start_figures s c =
     ((module_of (planned s 4 1) 0).start.0 is 0)
     ∷ ((module_of (planned s 4 1) 1).start.0 is 65)
     ∷ ((module_of (planned s 1 3) 1).start.0 is 65)
@@ -77,16 +77,16 @@ startFigures s c =
 -- all of them, for the records that the reader gives for the texts
 abbrev pub figures : List Figure
 figures =
-    wrapperFigures
-    ++ captureFigures
-    ++ planFigures (readSoc t1Text).soc (readSoc twoCopiesText).soc
-    ++ startFigures (readSoc t1Text).soc (readSoc twoCopiesText).soc
+    wrapper_figures
+    ++ capture_figures
+    ++ plan_figures (read_soc t1_text).soc (read_soc two_copies_text).soc
+    ++ start_figures (read_soc t1_text).soc (read_soc two_copies_text).soc
 
 -- the computed figures of a table, and the stated ones
-unfoldable pub computedOf : List Figure → List ℕ
-computedOf [] = []
-computedOf (f ∷ fs) = f.computed ∷ computedOf fs
+unfoldable pub computed_of : List Figure → List ℕ
+computed_of [] = []
+computed_of (f ∷ fs) = f.computed ∷ computed_of fs
 
-unfoldable pub statedOf : List Figure → List ℕ
-statedOf [] = []
-statedOf (f ∷ fs) = f.stated ∷ statedOf fs
+unfoldable pub stated_of : List Figure → List ℕ
+stated_of [] = []
+stated_of (f ∷ fs) = f.stated ∷ stated_of fs

@@ -9,8 +9,8 @@ text [] = []
 text (l ∷ ls) = bytes l ++ lf ∷ text ls
 
 -- the lines of t1 before those of its module 2
-abbrev pub upTo2 : List String
-upTo2 =
+abbrev pub up_to2 : List String
+up_to2 =
     "SocName t1"
     ∷ "TotalModules 3"
     ∷ "Options Power 0 XY 0"
@@ -22,9 +22,9 @@ upTo2 =
     ∷ []
 
 -- "Text t1"
-abbrev pub t1Text : List ℕ
-t1Text =
-    text upTo2
+abbrev pub t1_text : List ℕ
+t1_text =
+    text up_to2
     ++ text
     ("Module 2 Level 1 Inputs 3 Outputs 2 Bidirs 0 ScanChains 0 :"
     ∷ "Module 2 TotalTests 1"
@@ -32,9 +32,9 @@ t1Text =
     ∷ [])
 
 -- "Two copies of its module 1"
-abbrev pub twoCopiesText : List ℕ
-twoCopiesText =
-    text upTo2
+abbrev pub two_copies_text : List ℕ
+two_copies_text =
+    text up_to2
     ++ text
     ("Module 2 Level 1 Inputs 0 Outputs 0 Bidirs 0 ScanChains 1 : 10"
     ∷ "Module 2 TotalTests 1"

@@ -9,33 +9,33 @@ use lib.Dec.{leb, eqb}
 use borrow.Author.Tests.{eqb-true, eqb-false}
 use lib.Seq.{get_or-set_same, get_or-set_other}
 use Rattle.units.specs.Refusals.{refused}
-use Rattle.fields.specs.Bytes.{badByte}
+use Rattle.fields.specs.Bytes.{bad_byte}
 use Rattle.fields.specs.declared.byte.BadByte.{BadByte}
 use Rattle.fields.specs.declared.byte.BadByte.TheVariants.{OnLine, Nowhere}
 use Rattle.fields.specs.Lines.{Line, lines_from}
 use Rattle.fields.specs.Readers.{no, got}
-use Rattle.soc.specs.Limits.{textMax, modulesMax}
-use Rattle.soc.specs.Record.{noModule}
+use Rattle.soc.specs.Limits.{text_max, modules_max}
+use Rattle.soc.specs.Record.{no_module}
 use Rattle.text_lines.specs.Kinds.{Options}
 use Rattle.text_reader.specs.Lines.{LinesRead}
-use Rattle.text.proofs.PartOnly.{after-only}
-use Rattle.text.proofs.Accepted.{got-only, module-read}
-use Rattle.overlay.specs.Overlay.{Block, block, goesOn, blocks, blocksMax, Places, noPlaces, put, puts, places, with_blocks, behindName, overlay, refusedOverlay, answer, unlessBad, readOverlay}
+use Rattle.text.proofs.PartOnly.{after_only}
+use Rattle.text.proofs.Accepted.{got_only, module_read}
+use Rattle.overlay.specs.Overlay.{Block, block, goes_on, blocks, blocks_max, Places, no_places, put, puts, places, with_blocks, behind_name, overlay, refused_overlay, answer, unless_bad, read_overlay}
 use Rattle.overlay.specs.declared.read.Overlay.{Overlay}
 use Rattle.overlay.proofs.BlockLaws.{block_within}
 use Rattle.late_changes.specs.Blocks.{GoodBut, GoodPlaces}
-use Rattle.late_changes.proofs.BlockAs.{block-as}
+use Rattle.late_changes.proofs.BlockAs.{block_as}
 
 -- one block
 block-good : (o : Options) (low : ℕ) (ls : List Line) (b : Block) (ms : List Line) → block o low ls ≡ got b ms → GoodBut o.power o.xy b.number b.says
 block-good o low ls b ms h =
     record {
-      good = λ last r. (module-read o b.number last ls b.says ms (block-as o low last ls b ms h r)).good;
-      sized = λ last r. (module-read o b.number last ls b.says ms (block-as o low last ls b ms h r)).sized;
+      good = λ last r. (module_read o b.number last ls b.says ms (block_as o low last ls b ms h r)).good;
+      sized = λ last r. (module_read o b.number last ls b.says ms (block_as o low last ls b ms h r)).sized;
     }
 
 -- places into which a good block is put
-put-good : (power xy : Bool) (p : Places) (b : Block) → GoodPlaces power xy p.has p.modules → b.number ≤ modulesMax - 1 → GoodBut power xy b.number b.says
+put-good : (power xy : Bool) (p : Places) (b : Block) → GoodPlaces power xy p.has p.modules → b.number ≤ modules_max - 1 → GoodBut power xy b.number b.says
     → GoodPlaces power xy (put p b).has (put p b).modules
 put-good power xy p b g h k =
     record {
@@ -44,14 +44,14 @@ put-good power xy p b g h k =
       each = λ m e. go m e (eqb m b.number) refl;
     }
   where
-    go : (m : ℕ) → get_or (set p.has b.number true) m false ≡ true → (t : Bool) → eqb m b.number ≡ t → GoodBut power xy m (get_or (set p.modules b.number b.says) m noModule)
+    go : (m : ℕ) → get_or (set p.has b.number true) m false ≡ true → (t : Bool) → eqb m b.number ≡ t → GoodBut power xy m (get_or (set p.modules b.number b.says) m no_module)
     go m e true i =
         let n : m ≡ b.number = eqb-true m b.number i in
-        let s : get_or (set p.modules b.number b.says) b.number noModule ≡ b.says = get_or-set_same p.modules b.number b.says noModule (omega (arith, g.modules-length)) in
+        let s : get_or (set p.modules b.number b.says) b.number no_module ≡ b.says = get_or-set_same p.modules b.number b.says no_module (omega (arith, g.modules-length)) in
         rw (n, s) k
     go m e false i =
         let n : m ≡ b.number → ⊥ = eqb-false m b.number i in
-        let s : get_or (set p.modules b.number b.says) m noModule ≡ get_or p.modules m noModule = get_or-set_other p.modules b.number m b.says noModule n in
+        let s : get_or (set p.modules b.number b.says) m no_module ≡ get_or p.modules m no_module = get_or-set_other p.modules b.number m b.says no_module n in
         let u : get_or p.has m false ≡ true = sym (get_or-set_other p.has b.number m true false n) ∙ e in
         rw s (g.each m u)
 
@@ -59,21 +59,21 @@ put-good power xy p b g h k =
 blocks-good : (o : Options) (n low : ℕ) (ls : List Line) (bs : List Block) (rest : List Line) (p : Places) → blocks o n low ls ≡ got bs rest → GoodPlaces o.power o.xy p.has p.modules
     → GoodPlaces o.power o.xy (puts p bs).has (puts p bs).modules
 unfolding blocks puts
-blocks-good o zero low ls bs rest p h g = let e = got-only h in rw (← e.0) g
+blocks-good o zero low ls bs rest p h g = let e = got_only h in rw (← e.0) g
 blocks-good o (suc n) low ls bs rest p h g =
-    let a = after-only h in
-    let b = after-only a.second in
-    let e = got-only b.second in
+    let a = after_only h in
+    let b = after_only a.second in
+    let e = got_only b.second in
     let w = block_within o low ls a.value a.left a.first in
     let q = put-good o.power o.xy p a.value g w.1 (block-good o low ls a.value a.left a.first) in
-    rw (← e.0) (go a.value.number a.left b.value b.left (put p a.value) (λ i js bs ks r k f. blocks-good o n i js bs ks r k f) (goesOn a.left) b.first q)
+    rw (← e.0) (go a.value.number a.left b.value b.left (put p a.value) (λ i js bs ks r k f. blocks-good o n i js bs ks r k f) (goes_on a.left) b.first q)
   where
     go : (k : ℕ) (js : List Line) (bs : List Block) (ks : List Line) (r : Places)
         → ((i : ℕ) (js : List Line) (bs : List Block) (ks : List Line) (r : Places) → blocks o n i js ≡ got bs ks → GoodPlaces o.power o.xy r.has r.modules
         → GoodPlaces o.power o.xy (puts r bs).has (puts r bs).modules)
         → (t : Bool) → cond t (blocks o n (suc k) js) (got [] js) ≡ got bs ks → GoodPlaces o.power o.xy r.has r.modules → GoodPlaces o.power o.xy (puts r bs).has (puts r bs).modules
     go k js bs ks r f true h g = f (suc k) js bs ks r h g
-    go k js bs ks r f false h g = let e = got-only h in rw (← e.0) g
+    go k js bs ks r f false h g = let e = got_only h in rw (← e.0) g
 
 -- places that have nothing
 none-at : (n m : ℕ) → get_or (replicate n false) m false ≡ true → ⊥
@@ -81,28 +81,28 @@ none-at zero m e = false≢true e
 none-at (suc n) zero e = false≢true e
 none-at (suc n) (suc m) e = none-at n m e
 
-none-good : (power xy : Bool) → GoodPlaces power xy (replicate modulesMax false) (replicate modulesMax noModule)
-none-good power xy = record { has-length = refl; modules-length = refl; each = λ m e. absurd (none-at modulesMax m e) }
+none-good : (power xy : Bool) → GoodPlaces power xy (replicate modules_max false) (replicate modules_max no_module)
+none-good power xy = record { has-length = refl; modules-length = refl; each = λ m e. absurd (none-at modules_max m e) }
 
 overlay-good : (ls : List Line) (v : Overlay) (rest : List Line) → overlay ls ≡ got v rest → GoodPlaces v.power v.xy v.has v.modules
-unfolding overlay behindName with_blocks places
+unfolding overlay behind_name with_blocks places
 overlay-good ls v rest h =
-    let a = after-only h in
-    let o = after-only a.second in
-    let p = after-only o.second in
-    let b = after-only p.first in
-    let e = got-only b.second in
-    let f = got-only p.second in
-    let g = blocks-good o.value blocksMax 0 o.left b.value b.left noPlaces b.first (none-good o.value.power o.value.xy) in
+    let a = after_only h in
+    let o = after_only a.second in
+    let p = after_only o.second in
+    let b = after_only p.first in
+    let e = got_only b.second in
+    let f = got_only p.second in
+    let g = blocks-good o.value blocks_max 0 o.left b.value b.left no_places b.first (none-good o.value.power o.value.xy) in
     rw (← f.0) (rw e.0 at g)
 
 -- whatever is read from a text, also where it is refused
-pub read-good : (t : List ℕ) → let v = (readOverlay t).overlay in GoodPlaces v.power v.xy v.has v.modules
-unfolding readOverlay unlessBad answer
-read-good t = go (leb (length t) textMax) (badByte 1 t) (overlay (lines_from 1 t 0)) refl
+pub read-good : (t : List ℕ) → let v = (read_overlay t).overlay in GoodPlaces v.power v.xy v.has v.modules
+unfolding read_overlay unless_bad answer
+read-good t = go (leb (length t) text_max) (bad_byte 1 t) (overlay (lines_from 1 t 0)) refl
   where
     go : (u : Bool) (b : BadByte) (g : LinesRead Overlay) → overlay (lines_from 1 t 0) ≡ g
-        → let v = (cond u (unlessBad b (answer g)) (refusedOverlay (refused 1 0))).overlay in GoodPlaces v.power v.xy v.has v.modules
+        → let v = (cond u (unless_bad b (answer g)) (refused_overlay (refused 1 0))).overlay in GoodPlaces v.power v.xy v.has v.modules
     go true Nowhere (got v ls) e = overlay-good (lines_from 1 t 0) v ls e
     go true Nowhere (no r) e = none-good false false
     go true (OnLine n) g e = none-good false false

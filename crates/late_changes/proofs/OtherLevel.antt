@@ -5,23 +5,23 @@ use mathlib.Core.Path.{◌≡◌, refl, ap₂, ◌∙◌}
 use mathlib.Core.Bool.{Bool, true, false, cond, ◌&&◌}
 use mathlib.Core.List.{List}
 use lib.Dec.{leb, eqb}
-use Rattle.units.proofs.TestLaws.{and_both, and-holds}
+use Rattle.units.proofs.TestLaws.{and_both, and_holds}
 use Rattle.fields.specs.Lines.{Line}
 use Rattle.fields.specs.Readers.{got}
 use Rattle.fields.proofs.ReaderLaws.{after-got}
-use Rattle.soc.specs.Limits.{levelMax}
-use Rattle.soc.specs.Rules.{levelRule, goodTerminals, goodChains, goodTests, goodModule}
+use Rattle.soc.specs.Limits.{level_max}
+use Rattle.soc.specs.Rules.{level_rule, good_terminals, good_chains, good_tests, good_module}
 use Rattle.soc.specs.Sized.{SizedModule}
 use Rattle.soc.specs.declared.record.Module.{Module}
-use Rattle.text_lines.specs.Kinds.{Options, Shape, terminals, chainsPart, lengthsPart, shapePart}
-use Rattle.text_reader.specs.Reading.{tests, moduleTests, moduleRest}
-use Rattle.text.proofs.PartOnly.{after-only}
-use Rattle.text.proofs.Accepted.{got-only}
-use Rattle.late_changes.specs.OverlayRules.{goodBlock}
+use Rattle.text_lines.specs.Kinds.{Options, Shape, terminals, chains_part, lengths_part, shape_part}
+use Rattle.text_reader.specs.Reading.{tests, module_tests, module_rest}
+use Rattle.text.proofs.PartOnly.{after_only}
+use Rattle.text.proofs.Accepted.{got_only}
+use Rattle.late_changes.specs.OverlayRules.{good_block}
 
 -- a module, and the first line of one, with another level
-abbrev pub withLevel : ℕ → Module → Module
-withLevel v d =
+abbrev pub with_level : ℕ → Module → Module
+with_level v d =
     record {
       level = v;
       inputs = d.inputs;
@@ -35,8 +35,8 @@ withLevel v d =
       tests = d.tests;
     }
 
-abbrev pub atLevel : ℕ → Shape → Shape
-atLevel v s = record { level = v; terminals = s.terminals; chains = s.chains }
+abbrev pub at_level : ℕ → Shape → Shape
+at_level v s = record { level = v; terminals = s.terminals; chains = s.chains }
 
 -- a level that module m may have behind any module
 abbrev chosen : Bool → ℕ
@@ -45,60 +45,60 @@ chosen first = cond first 0 1
 abbrev pub ruled : ℕ → ℕ
 ruled m = chosen (eqb m 0)
 
-pub ruled-rule : (m : ℕ) → levelRule m 0 (ruled m) ≡ true
-unfolding levelRule
+pub ruled-rule : (m : ℕ) → level_rule m 0 (ruled m) ≡ true
+unfolding level_rule
 ruled-rule m = go (eqb m 0)
   where
     go : (t : Bool) → cond t (eqb (chosen t) 0) (leb 1 (chosen t) && leb (chosen t) (0 + 1)) ≡ true
     go true = refl
     go false = refl
 
-pub ruled-most : (m : ℕ) → leb (ruled m) levelMax ≡ true
+pub ruled-most : (m : ℕ) → leb (ruled m) level_max ≡ true
 ruled-most m = go (eqb m 0)
   where
-    go : (t : Bool) → leb (chosen t) levelMax ≡ true
+    go : (t : Bool) → leb (chosen t) level_max ≡ true
     go true = refl
     go false = refl
 
 -- the rest of a first line does not rest on the level
-pub shape_at : (v w : ℕ) (fs : List (List ℕ)) (s : Shape) (gs : List (List ℕ)) → shapePart v fs ≡ got s gs
-    → shapePart w fs ≡ got (atLevel w s) gs
-unfolding chainsPart lengthsPart
+pub shape_at : (v w : ℕ) (fs : List (List ℕ)) (s : Shape) (gs : List (List ℕ)) → shape_part v fs ≡ got s gs
+    → shape_part w fs ≡ got (at_level w s) gs
+unfolding chains_part lengths_part
 shape_at v w fs s gs h =
-    let t = after-only h in
-    let c = after-only t.second in
-    let b = after-only c.second in
-    let l = after-only b.second in
-    let g = got-only l.second in
+    let t = after_only h in
+    let c = after_only t.second in
+    let b = after_only c.second in
+    let l = after_only b.second in
+    let g = got_only l.second in
     after-got _ _ _ _ t.first
     ∙ after-got _ _ _ _ c.first
     ∙ after-got _ _ _ _ b.first
     ∙ after-got _ _ _ _ l.first
-    ∙ ap₂ (λ x. got (atLevel w x)) g.0 g.1
+    ∙ ap₂ (λ x. got (at_level w x)) g.0 g.1
 
 -- nor do the lines behind it
-pub rest_at : (o : Options) (m w : ℕ) (s : Shape) (ls : List Line) (d : Module) (ms : List Line) → moduleRest o m s ls ≡ got d ms
-    → moduleRest o m (atLevel w s) ls ≡ got (withLevel w d) ms
-unfolding moduleRest moduleTests
+pub rest_at : (o : Options) (m w : ℕ) (s : Shape) (ls : List Line) (d : Module) (ms : List Line) → module_rest o m s ls ≡ got d ms
+    → module_rest o m (at_level w s) ls ≡ got (with_level w d) ms
+unfolding module_rest module_tests
 rest_at o m w s ls d ms h =
-    let b = after-only h in
-    let t = after-only b.second in
-    let g = got-only t.second in
-    after-got _ _ _ _ b.first ∙ after-got _ _ _ _ t.first ∙ ap₂ (λ x. got (withLevel w x)) g.0 g.1
+    let b = after_only h in
+    let t = after_only b.second in
+    let g = got_only t.second in
+    after-got _ _ _ _ b.first ∙ after-got _ _ _ _ t.first ∙ ap₂ (λ x. got (with_level w x)) g.0 g.1
 
 -- a block keeps its limits exactly where a module with a ruled level does
-pub good-back : (power xy : Bool) (m : ℕ) (d : Module) → goodBlock power xy m d ≡ true
-    → goodModule power xy m 0 (withLevel (ruled m) d) ≡ true
-unfolding goodBlock goodModule goodTerminals goodChains goodTests
-good-back power xy m d h = and-holds (ruled-most m) (and-holds (ruled-rule m) (and_both (leb d.level levelMax) _ h).1)
+pub good_back : (power xy : Bool) (m : ℕ) (d : Module) → good_block power xy m d ≡ true
+    → good_module power xy m 0 (with_level (ruled m) d) ≡ true
+unfolding good_block good_module good_terminals good_chains good_tests
+good_back power xy m d h = and_holds (ruled-most m) (and_holds (ruled-rule m) (and_both (leb d.level level_max) _ h).1)
 
-pub good-only : (power xy : Bool) (m : ℕ) (d : Module) → leb d.level levelMax ≡ true
-    → goodModule power xy m 0 (withLevel (ruled m) d) ≡ true → goodBlock power xy m d ≡ true
-unfolding goodBlock goodModule goodTerminals goodChains goodTests
-good-only power xy m d l h = and-holds l (and_both (levelRule m 0 (ruled m)) _ (and_both (leb (ruled m) levelMax) _ h).1).1
+pub good_only : (power xy : Bool) (m : ℕ) (d : Module) → leb d.level level_max ≡ true
+    → good_module power xy m 0 (with_level (ruled m) d) ≡ true → good_block power xy m d ≡ true
+unfolding good_block good_module good_terminals good_chains good_tests
+good_only power xy m d l h = and_holds l (and_both (level_rule m 0 (ruled m)) _ (and_both (leb (ruled m) level_max) _ h).1).1
 
-pub sized-back : (v : ℕ) (d : Module) → SizedModule d → SizedModule (withLevel v d)
-sized-back v d z = record { chains = z.chains; tests = z.tests }
+pub sized_back : (v : ℕ) (d : Module) → SizedModule d → SizedModule (with_level v d)
+sized_back v d z = record { chains = z.chains; tests = z.tests }
 
-pub sized-only : (v : ℕ) (d : Module) → SizedModule (withLevel v d) → SizedModule d
-sized-only v d z = record { chains = z.chains; tests = z.tests }
+pub sized_only : (v : ℕ) (d : Module) → SizedModule (with_level v d) → SizedModule d
+sized_only v d z = record { chains = z.chains; tests = z.tests }

@@ -12,87 +12,87 @@ use Rattle.units.proofs.PlaceLaws.{front-has}
 use Rattle.fields.specs.Fields.{part}
 use Rattle.fields.specs.Lines.{lines_from}
 use Rattle.fields.specs.Readers.{got}
-use Rattle.soc.specs.Limits.{modulesMax}
-use Rattle.soc.specs.Record.{noModule, modulesOf}
-use Rattle.soc.specs.Rules.{levelRule, goodModule}
+use Rattle.soc.specs.Limits.{modules_max}
+use Rattle.soc.specs.Record.{no_module, modules_of}
+use Rattle.soc.specs.Rules.{level_rule, good_module}
 use Rattle.soc.specs.declared.record.Module.{Module}
 use Rattle.soc.specs.declared.record.Soc.{Soc}
-use Rattle.text_reader.specs.Reading.{readSoc}
-use Rattle.text.specs.Describes.{ModuleLines, fieldLines}
+use Rattle.text_reader.specs.Reading.{read_soc}
+use Rattle.text.specs.Describes.{ModuleLines, field_lines}
 use Rattle.text.proofs.SparePlaces.{good-soc}
 use Rattle.text.proofs.Acceptance.{accepted-sized}
-use Rattle.overlay.specs.Overlay.{block, readOverlay}
+use Rattle.overlay.specs.Overlay.{block, read_overlay}
 use Rattle.overlay.specs.declared.read.Overlay.{Overlay}
-use Rattle.module_part.specs.ModulePart.{modulePart}
-use Rattle.pair.specs.Pair.{combined, readPair}
-use Rattle.pair.specs.Shown.{partShown, shownIn, linesShown, part_of, moduleLines}
+use Rattle.module_part.specs.ModulePart.{module_part}
+use Rattle.pair.specs.Pair.{combined, read_pair}
+use Rattle.pair.specs.Shown.{part_shown, shown_in, lines_shown, part_of, module_lines}
 use Rattle.pair.specs.declared.read.PairRead.{PairRead}
-use Rattle.pair.proofs.ShownLaws.{shown-there}
+use Rattle.pair.proofs.ShownLaws.{shown_there}
 use Rattle.late_changes.specs.Fit.{Fits}
 use Rattle.late_changes.specs.Together.{Lines, Ends}
 use Rattle.late_changes.proofs.GoodOverlay.{read-good}
-use Rattle.late_changes.proofs.PairAnswers.{fits-only}
-use Rattle.late_changes.proofs.Laid.{rule-of, laid-at}
+use Rattle.late_changes.proofs.PairAnswers.{fits_only}
+use Rattle.late_changes.proofs.Laid.{rule_of, laid-at}
 use Rattle.late_changes.proofs.SizedPair.{good-at}
-use Rattle.late_changes.proofs.PairOnly.{Accepted, pair-only, pair-sized, pair-good}
+use Rattle.late_changes.proofs.PairOnly.{Accepted, pair_only, pair-sized, pair-good}
 use Rattle.late_changes.proofs.BlockBack.{block_back}
 use Rattle.late_changes.proofs.PartLines.{part-lines, together-ends}
-use Rattle.late_changes.proofs.LinesTogether.{text-stands}
-use Rattle.late_changes.proofs.BlocksTogether.{blocks-stand}
+use Rattle.late_changes.proofs.LinesTogether.{text_stands}
+use Rattle.late_changes.proofs.BlocksTogether.{blocks_stand}
 
 -- the same lines and the same module
 moved : {p q x y : Bool} {m : ℕ} {c d : Module} {ls ms : Lines} → p ≡ q → x ≡ y → c ≡ d → ls ≡ ms → ModuleLines q y m d ms
     → ModuleLines p x m c ls
 moved e f g h r = rw (e, f, g, h) r
 
-module _ (base overlay : List ℕ) (m : ℕ) (accepted : (readPair base overlay).refusal.number ≡ 0)
-    (there : m < (readPair base overlay).soc.module_count) where
+module _ (base overlay : List ℕ) (m : ℕ) (accepted : (read_pair base overlay).refusal.number ≡ 0)
+    (there : m < (read_pair base overlay).soc.module_count) where
   abbrev pair : PairRead
-  pair = readPair base overlay
+  pair = read_pair base overlay
 
   abbrev under : Soc
-  under = (readSoc base).soc
+  under = (read_soc base).soc
 
   abbrev over : Overlay
-  over = (readOverlay overlay).overlay
+  over = (read_overlay overlay).overlay
 
   abbrev said : Module
-  said = get_or (readPair base overlay).soc.modules m noModule
+  said = get_or (read_pair base overlay).soc.modules m no_module
 
   is : Accepted base overlay
-  is = pair-only base overlay accepted
+  is = pair_only base overlay accepted
 
-  below : m < modulesMax
-  below = omega (arith, there, (good-soc pair.soc (pair-good base overlay accepted)).figures.module-count)
+  below : m < modules_max
+  below = omega (arith, there, (good-soc pair.soc (pair-good base overlay accepted)).figures.module_count)
 
   -- the module is good
-  good : (last : ℕ) × (goodModule pair.soc.power pair.soc.xy m last said ≡ true)
+  good : (last : ℕ) × (good_module pair.soc.power pair.soc.xy m last said ≡ true)
   good =
       let s = pair.soc in
       let f = (good-soc s (pair-good base overlay accepted)).figures in
-      let i : m < length (modulesOf s) =
+      let i : m < length (modules_of s) =
       front-has s.module_count s.modules m there (omega (arith, below, (pair-sized base overlay accepted).modules)) in
-      let r = good-at s.power s.xy 0 0 (modulesOf s) m f.modules i in
+      let r = good-at s.power s.xy 0 0 (modules_of s) m f.modules i in
       let z : m ≡ 0 + m = omega arith in
-      let u : get_or (modulesOf s) m noModule ≡ said = get_or-take s.module_count s.modules m noModule there in
-      (r.0, ap₂ (λ k d. goodModule s.power s.xy k r.0 d) z (sym u) ∙ r.1)
+      let u : get_or (modules_of s) m no_module ≡ said = get_or-take s.module_count s.modules m no_module there in
+      (r.0, ap₂ (λ k d. good_module s.power s.xy k r.0 d) z (sym u) ∙ r.1)
 
   -- the text that its lines stand in
-  shown-over : get_or pair.has m false ≡ true → linesShown base overlay m ≡ partShown true (modulePart m overlay)
-  unfolding linesShown shownIn
-  shown-over e = shown-there pair base overlay m accepted there ∙ ap (shownIn base overlay m) e
+  shown-over : get_or pair.has m false ≡ true → lines_shown base overlay m ≡ part_shown true (module_part m overlay)
+  unfolding lines_shown shown_in
+  shown-over e = shown_there pair base overlay m accepted there ∙ ap (shown_in base overlay m) e
 
-  shown-under : get_or pair.has m false ≡ false → linesShown base overlay m ≡ partShown false (modulePart m base)
-  unfolding linesShown shownIn
-  shown-under e = shown-there pair base overlay m accepted there ∙ ap (shownIn base overlay m) e
+  shown-under : get_or pair.has m false ≡ false → lines_shown base overlay m ≡ part_shown false (module_part m base)
+  unfolding lines_shown shown_in
+  shown-under e = shown_there pair base overlay m accepted there ∙ ap (shown_in base overlay m) e
 
   lines-over : get_or pair.has m false ≡ true
-      → moduleLines base overlay m ≡ part overlay (modulePart m overlay).from (modulePart m overlay).to
-  unfolding moduleLines
+      → module_lines base overlay m ≡ part overlay (module_part m overlay).from (module_part m overlay).to
+  unfolding module_lines
   lines-over e = ap (λ s. part_of s base overlay) (shown-over e)
 
-  lines-under : get_or pair.has m false ≡ false → moduleLines base overlay m ≡ part base (modulePart m base).from (modulePart m base).to
-  unfolding moduleLines
+  lines-under : get_or pair.has m false ≡ false → module_lines base overlay m ≡ part base (module_part m base).from (module_part m base).to
+  unfolding module_lines
   lines-under e = ap (λ s. part_of s base overlay) (shown-under e)
 
   -- "The lines of a module are the overlay's if it has that module, otherwise the base's"
@@ -100,7 +100,7 @@ module _ (base overlay : List ℕ) (m : ℕ) (accepted : (readPair base overlay)
   has-is = ap (λ (p : PairRead). get_or p.has m false) is.is
 
   abbrev chosen : Bool → Module
-  chosen b = cond b (get_or over.modules m noModule) (get_or under.modules m noModule)
+  chosen b = cond b (get_or over.modules m no_module) (get_or under.modules m no_module)
 
   said-is : said ≡ chosen (get_or pair.has m false)
   unfolding combined
@@ -108,9 +108,9 @@ module _ (base overlay : List ℕ) (m : ℕ) (accepted : (readPair base overlay)
       let g = read-good overlay in
       let h : m < length over.has = omega (arith, below, g.has-length) in
       let k : m < length over.modules = omega (arith, below, g.modules-length) in
-      let l : m < length under.modules = omega (arith, below, (accepted-sized base under is.base-is).modules) in
-      ap (λ (p : PairRead). get_or p.soc.modules m noModule) is.is
-      ∙ laid-at m over.has over.modules under.modules noModule h k l
+      let l : m < length under.modules = omega (arith, below, (accepted-sized base under is.base_is).modules) in
+      ap (λ (p : PairRead). get_or p.soc.modules m no_module) is.is
+      ∙ laid-at m over.has over.modules under.modules no_module h k l
       ∙ ap chosen (sym has-is)
 
   count-is : pair.soc.module_count ≡ under.module_count
@@ -128,46 +128,46 @@ module _ (base overlay : List ℕ) (m : ℕ) (accepted : (readPair base overlay)
   fit : Fits under over
   fit =
       let g = read-good overlay in
-      fits-only under over g.has-length g.modules-length (accepted-sized base under is.base-is).modules is.fit
+      fits_only under over g.has-length g.modules-length (accepted-sized base under is.base_is).modules is.fit
 
   -- the fields of the part are those of lines that say the module
-  pub part_says : let s = (readPair base overlay).soc in
-      ModuleLines s.power s.xy m (get_or s.modules m noModule) (fieldLines (moduleLines base overlay m))
+  pub part_says : let s = (read_pair base overlay).soc in
+      ModuleLines s.power s.xy m (get_or s.modules m no_module) (field_lines (module_lines base overlay m))
   part_says = go (get_or pair.has m false) refl
     where
       go : (t : Bool) → get_or pair.has m false ≡ t
-          → ModuleLines pair.soc.power pair.soc.xy m said (fieldLines (moduleLines base overlay m))
+          → ModuleLines pair.soc.power pair.soc.xy m said (field_lines (module_lines base overlay m))
       go true e =
-          let st = blocks-stand overlay m is.overlay-is (sym has-is ∙ e) in
-          let d : said ≡ get_or over.modules m noModule = said-is ∙ ap chosen e in
+          let st = blocks_stand overlay m is.overlay-is (sym has-is ∙ e) in
+          let d : said ≡ get_or over.modules m no_module = said-is ∙ ap chosen e in
           let g = good in
-          let r : levelRule m g.0 (get_or over.modules m noModule).level ≡ true =
-          ap (λ (x : Module). levelRule m g.0 x.level) (sym d) ∙ rule-of pair.soc.power pair.soc.xy m g.0 said g.1 in
-          let l = ap fieldLines (lines-over e) ∙ part-lines m overlay st.middle st.together in
+          let r : level_rule m g.0 (get_or over.modules m no_module).level ≡ true =
+          ap (λ (x : Module). level_rule m g.0 x.level) (sym d) ∙ rule_of pair.soc.power pair.soc.xy m g.0 said g.1 in
+          let l = ap field_lines (lines-over e) ∙ part-lines m overlay st.middle st.together in
           moved (power-is ∙ fit.power) (xy-is ∙ fit.xy) d l (st.are g.0 r)
       go false e =
-          let st = text-stands base under m is.base-is (omega (arith, there, count-is)) in
-          let d : said ≡ get_or under.modules m noModule = said-is ∙ ap chosen e in
-          let l = ap fieldLines (lines-under e) ∙ part-lines m base st.middle st.together in
+          let st = text_stands base under m is.base_is (omega (arith, there, count-is)) in
+          let d : said ≡ get_or under.modules m no_module = said-is ∙ ap chosen e in
+          let l = ap field_lines (lines-under e) ∙ part-lines m base st.middle st.together in
           moved power-is xy-is d l st.are
 
   -- read as a block, it is the module
-  pub part-read : let s = (readPair base overlay).soc in
-      block (record { power = s.power; xy = s.xy }) m (lines_from 1 (moduleLines base overlay m) 0)
-      ≡ got (record { number = m; says = get_or s.modules m noModule }) []
+  pub part-read : let s = (read_pair base overlay).soc in
+      block (record { power = s.power; xy = s.xy }) m (lines_from 1 (module_lines base overlay m) 0)
+      ≡ got (record { number = m; says = get_or s.modules m no_module }) []
   part-read =
       let g = good in
-      block_back pair.soc.power pair.soc.xy m g.0 said (lines_from 1 (moduleLines base overlay m) 0) (omega (arith, below))
+      block_back pair.soc.power pair.soc.xy m g.0 said (lines_from 1 (module_lines base overlay m) 0) (omega (arith, below))
       ((pair-sized base overlay accepted).each m below) g.1 part_says
 
   -- and begins and ends with a byte of a field of the text that it is of
-  pub shown-ends : let q = linesShown base overlay m in Ends (cond q.over overlay base) q.part
+  pub shown-ends : let q = lines_shown base overlay m in Ends (cond q.over overlay base) q.part
   shown-ends = go (get_or pair.has m false) refl
     where
-      go : (t : Bool) → get_or pair.has m false ≡ t → let q = linesShown base overlay m in Ends (cond q.over overlay base) q.part
+      go : (t : Bool) → get_or pair.has m false ≡ t → let q = lines_shown base overlay m in Ends (cond q.over overlay base) q.part
       go true e =
-          let st = blocks-stand overlay m is.overlay-is (sym has-is ∙ e) in
+          let st = blocks_stand overlay m is.overlay-is (sym has-is ∙ e) in
           rw (shown-over e) (together-ends m overlay st.middle st.together)
       go false e =
-          let st = text-stands base under m is.base-is (omega (arith, there, count-is)) in
+          let st = text_stands base under m is.base_is (omega (arith, there, count-is)) in
           rw (shown-under e) (together-ends m base st.middle st.together)

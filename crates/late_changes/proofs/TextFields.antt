@@ -9,11 +9,11 @@ use borrow.Author.Tests.{eqb-true}
 use lib.Dec.{eqb}
 use lib.ListN.{length, get_or, take, drop, length-append}
 use lib.Seq.{take-nil, take-append_seam}
-use Rattle.fields.specs.Bytes.{lf, cr, space, tab, lfNext}
-use Rattle.fields.specs.Fields.{gap, gaps, begins, onField, fields_of}
-use Rattle.fields.specs.Lines.{onLine, lines_of, withLine, numbered, untilLf}
+use Rattle.fields.specs.Bytes.{lf, cr, space, tab, lf_next}
+use Rattle.fields.specs.Fields.{gap, gaps, begins, on_field, fields_of}
+use Rattle.fields.specs.Lines.{on_line, lines_of, with_line, numbered, until_lf}
 use Rattle.module_part.specs.ModulePart.{last_end}
-use Rattle.text.specs.Describes.{fieldsIn, fieldLines}
+use Rattle.text.specs.Describes.{fields_in, field_lines}
 use Rattle.text.proofs.BlankLines.{lines-behind-lf}
 use Rattle.late_changes.specs.Together.{Lines}
 
@@ -34,54 +34,54 @@ abbrev pub kept : List (List ℕ) → Lines
 kept [] = []
 kept (f ∷ fs) = (f ∷ fs) ∷ []
 
-abbrev pub fieldsAll : List (List ℕ) → Lines
-fieldsAll [] = []
-fieldsAll (l ∷ ls) = kept (fields_of l) ++ fieldsAll ls
+abbrev pub fields_all : List (List ℕ) → Lines
+fields_all [] = []
+fields_all (l ∷ ls) = kept (fields_of l) ++ fields_all ls
 
-numbered-fields : (n : ℕ) (ls : List (List ℕ)) → map fieldsIn (numbered n ls) ≡ fieldsAll ls
-unfolding numbered withLine
+numbered-fields : (n : ℕ) (ls : List (List ℕ)) → map fields_in (numbered n ls) ≡ fields_all ls
+unfolding numbered with_line
 numbered-fields n [] = refl
 numbered-fields n (l ∷ ls) = go (fields_of l) (numbered-fields (suc n) ls)
   where
-    go : (fs : List (List ℕ)) → map fieldsIn (numbered (suc n) ls) ≡ fieldsAll ls
-        → map fieldsIn (withLine n fs (numbered (suc n) ls)) ≡ kept fs ++ fieldsAll ls
+    go : (fs : List (List ℕ)) → map fields_in (numbered (suc n) ls) ≡ fields_all ls
+        → map fields_in (with_line n fs (numbered (suc n) ls)) ≡ kept fs ++ fields_all ls
     go [] e = e
     go (f ∷ fs) e = ap (λ r. (f ∷ fs) ∷ r) e
 
-all_append : (ls ms : List (List ℕ)) → fieldsAll (ls ++ ms) ≡ fieldsAll ls ++ fieldsAll ms
+all_append : (ls ms : List (List ℕ)) → fields_all (ls ++ ms) ≡ fields_all ls ++ fields_all ms
 all_append [] ms = refl
 all_append (l ∷ ls) ms =
-    ap (λ r. kept (fields_of l) ++ r) (all_append ls ms) ∙ sym (append_assoc (kept (fields_of l)) (fieldsAll ls) (fieldsAll ms))
+    ap (λ r. kept (fields_of l) ++ r) (all_append ls ms) ∙ sym (append_assoc (kept (fields_of l)) (fields_all ls) (fields_all ms))
 
 -- of a text
-abbrev pub textFields : List ℕ → Lines
-textFields u = fieldsAll (lines_of u)
+abbrev pub text_fields : List ℕ → Lines
+text_fields u = fields_all (lines_of u)
 
-pub text-fields : (u : List ℕ) → fieldLines u ≡ textFields u
+pub text-fields : (u : List ℕ) → field_lines u ≡ text_fields u
 text-fields u = numbered-fields 1 (lines_of u)
 
-pub fields-lf : (x c : List ℕ) → textFields (x ++ lf ∷ c) ≡ textFields (x ++ lf ∷ []) ++ textFields c
-fields-lf x c = ap fieldsAll (lines-behind-lf x c) ∙ all_append (lines_of (x ++ lf ∷ [])) (lines_of c)
+pub fields-lf : (x c : List ℕ) → text_fields (x ++ lf ∷ c) ≡ text_fields (x ++ lf ∷ []) ++ text_fields c
+fields-lf x c = ap fields_all (lines-behind-lf x c) ∙ all_append (lines_of (x ++ lf ∷ [])) (lines_of c)
 
 -- bytes before the first LF are one line
 
-pub lf-at : (u : List ℕ) → untilLf u < length u → get_or u (untilLf u) 0 ≡ lf
-unfolding untilLf
+pub lf-at : (u : List ℕ) → until_lf u < length u → get_or u (until_lf u) 0 ≡ lf
+unfolding until_lf
 lf-at [] h = absurd (omega arith)
 lf-at (b ∷ u) h = go (λ k. lf-at u k) (eqb b lf) refl h
   where
-    go : (untilLf u < length u → get_or u (untilLf u) 0 ≡ lf) → (t : Bool) → eqb b lf ≡ t → cond t 0 (suc (untilLf u)) < suc (length u)
-        → get_or (b ∷ u) (cond t 0 (suc (untilLf u))) 0 ≡ lf
+    go : (until_lf u < length u → get_or u (until_lf u) 0 ≡ lf) → (t : Bool) → eqb b lf ≡ t → cond t 0 (suc (until_lf u)) < suc (length u)
+        → get_or (b ∷ u) (cond t 0 (suc (until_lf u))) 0 ≡ lf
     go f true e h = eqb-true b lf e
     go f false e h = f (omega arith)
 
-next-none : (k : ℕ) (u : List ℕ) → k ≤ untilLf u → lfNext (take k u) ≡ false
-unfolding untilLf lfNext
+next-none : (k : ℕ) (u : List ℕ) → k ≤ until_lf u → lf_next (take k u) ≡ false
+unfolding until_lf lf_next
 next-none zero u h = refl
 next-none (suc k) [] h = refl
 next-none (suc k) (b ∷ u) h = go (eqb b lf) refl h
   where
-    go : (t : Bool) → eqb b lf ≡ t → suc k ≤ cond t 0 (suc (untilLf u)) → eqb b lf ≡ false
+    go : (t : Bool) → eqb b lf ≡ t → suc k ≤ cond t 0 (suc (until_lf u)) → eqb b lf ≡ false
     go true e h = absurd (omega arith)
     go false e h = e
 
@@ -89,58 +89,58 @@ abbrev alone : List ℕ → List (List ℕ)
 alone [] = []
 alone (b ∷ l) = (b ∷ l) ∷ []
 
-on-alone : (b : ℕ) (l : List ℕ) → onLine b (alone l) ≡ (b ∷ l) ∷ []
-unfolding onLine
-on-alone b [] = refl
-on-alone b (x ∷ l) = refl
+on_alone : (b : ℕ) (l : List ℕ) → on_line b (alone l) ≡ (b ∷ l) ∷ []
+unfolding on_line
+on_alone b [] = refl
+on_alone b (x ∷ l) = refl
 
-lines-alone : (k : ℕ) (u : List ℕ) → k ≤ untilLf u → lines_of (take k u) ≡ alone (take k u)
-unfolding untilLf lines_of
+lines-alone : (k : ℕ) (u : List ℕ) → k ≤ until_lf u → lines_of (take k u) ≡ alone (take k u)
+unfolding until_lf lines_of
 lines-alone zero u h = refl
 lines-alone (suc k) [] h = refl
 lines-alone (suc k) (b ∷ u) h = go (λ e. lines-alone k u e) (λ e. next-none k u e) (eqb b lf) refl h
   where
-    go : (k ≤ untilLf u → lines_of (take k u) ≡ alone (take k u)) → (k ≤ untilLf u → lfNext (take k u) ≡ false) → (t : Bool) → eqb b lf ≡ t
-        → suc k ≤ cond t 0 (suc (untilLf u))
-        → cond t ([] ∷ lines_of (take k u)) (cond (eqb b cr && lfNext (take k u)) (lines_of (take k u)) (onLine b (lines_of (take k u))))
+    go : (k ≤ until_lf u → lines_of (take k u) ≡ alone (take k u)) → (k ≤ until_lf u → lf_next (take k u) ≡ false) → (t : Bool) → eqb b lf ≡ t
+        → suc k ≤ cond t 0 (suc (until_lf u))
+        → cond t ([] ∷ lines_of (take k u)) (cond (eqb b cr && lf_next (take k u)) (lines_of (take k u)) (on_line b (lines_of (take k u))))
         ≡ (b ∷ take k u) ∷ []
     go f g true e h = absurd (omega arith)
     go f g false e h =
-        let j : k ≤ untilLf u = omega arith in
-        rw (g j, and-false (eqb b cr), f j) (on-alone b (take k u))
+        let j : k ≤ until_lf u = omega arith in
+        rw (g j, and-false (eqb b cr), f j) (on_alone b (take k u))
 
-fields-alone : (l : List ℕ) → fieldsAll (alone l) ≡ kept (fields_of l)
+fields-alone : (l : List ℕ) → fields_all (alone l) ≡ kept (fields_of l)
 unfolding fields_of
 fields-alone [] = refl
 fields-alone (b ∷ l) = append-nil (kept (fields_of (b ∷ l)))
 
-pub one_line : (k : ℕ) (u : List ℕ) → k ≤ untilLf u → textFields (take k u) ≡ kept (fields_of (take k u))
-one_line k u h = ap fieldsAll (lines-alone k u h) ∙ fields-alone (take k u)
+pub one_line : (k : ℕ) (u : List ℕ) → k ≤ until_lf u → text_fields (take k u) ≡ kept (fields_of (take k u))
+one_line k u h = ap fields_all (lines-alone k u h) ∙ fields-alone (take k u)
 
 -- spaces and tabs at the front
 
-on-gap : (b : ℕ) (ls : List (List ℕ)) → gap b ≡ true → fieldsAll (onLine b ls) ≡ fieldsAll ls
-unfolding onLine fields_of
-on-gap b [] h = rw h
-on-gap b (l ∷ ls) h = rw h
+on_gap : (b : ℕ) (ls : List (List ℕ)) → gap b ≡ true → fields_all (on_line b ls) ≡ fields_all ls
+unfolding on_line fields_of
+on_gap b [] h = rw h
+on_gap b (l ∷ ls) h = rw h
 
-front-gap : (b : ℕ) (u : List ℕ) → gap b ≡ true → textFields (b ∷ u) ≡ textFields u
+front-gap : (b : ℕ) (u : List ℕ) → gap b ≡ true → text_fields (b ∷ u) ≡ text_fields u
 unfolding lines_of
 front-gap b u h = go (eqb b space) refl (eqb b tab) refl h
   where
-    go : (s : Bool) → eqb b space ≡ s → (t : Bool) → eqb b tab ≡ t → (s || t) ≡ true → fieldsAll (lines_of (b ∷ u)) ≡ fieldsAll (lines_of u)
-    go true e t f k = let i : b ≡ space = eqb-true b space e in rw i (on-gap space (lines_of u) refl)
-    go false e true f k = let i : b ≡ tab = eqb-true b tab f in rw i (on-gap tab (lines_of u) refl)
+    go : (s : Bool) → eqb b space ≡ s → (t : Bool) → eqb b tab ≡ t → (s || t) ≡ true → fields_all (lines_of (b ∷ u)) ≡ fields_all (lines_of u)
+    go true e t f k = let i : b ≡ space = eqb-true b space e in rw i (on_gap space (lines_of u) refl)
+    go false e true f k = let i : b ≡ tab = eqb-true b tab f in rw i (on_gap tab (lines_of u) refl)
     go false e false f k = absurd (false≢true k)
 
-pub gaps-off : (k : ℕ) (u : List ℕ) → k ≤ gaps u → textFields (drop k u) ≡ textFields u
+pub gaps_off : (k : ℕ) (u : List ℕ) → k ≤ gaps u → text_fields (drop k u) ≡ text_fields u
 unfolding gaps
-gaps-off zero u h = refl
-gaps-off (suc k) [] h = refl
-gaps-off (suc k) (b ∷ u) h = go (λ e. gaps-off k u e) (gap b) refl h
+gaps_off zero u h = refl
+gaps_off (suc k) [] h = refl
+gaps_off (suc k) (b ∷ u) h = go (λ e. gaps_off k u e) (gap b) refl h
   where
-    go : (k ≤ gaps u → textFields (drop k u) ≡ textFields u) → (t : Bool) → gap b ≡ t → suc k ≤ cond t (suc (gaps u)) 0
-        → textFields (drop k u) ≡ textFields (b ∷ u)
+    go : (k ≤ gaps u → text_fields (drop k u) ≡ text_fields u) → (t : Bool) → gap b ≡ t → suc k ≤ cond t (suc (gaps u)) 0
+        → text_fields (drop k u) ≡ text_fields (b ∷ u)
     go f true e h = f (omega arith) ∙ sym (front-gap b u e)
     go f false e h = absurd (omega arith)
 
@@ -174,7 +174,7 @@ last-same (b ∷ l) = go (last-same l) (gap b) refl (eqb (last_end l) 0) refl
   where
     go : (fields_of (take (last_end l) l) ≡ fields_of l) × (begins (take (last_end l) l) ≡ begins l) → (s : Bool) → gap b ≡ s → (t : Bool)
         → eqb (last_end l) 0 ≡ t
-        → (fields_of (take (cond (s && t) 0 (suc (last_end l))) (b ∷ l)) ≡ cond s (fields_of l) (onField b (begins l) (fields_of l)))
+        → (fields_of (take (cond (s && t) 0 (suc (last_end l))) (b ∷ l)) ≡ cond s (fields_of l) (on_field b (begins l) (fields_of l)))
         × (begins (take (cond (s && t) 0 (suc (last_end l))) (b ∷ l)) ≡ not s)
     go h true e true f =
         let z : last_end l ≡ 0 = eqb-true (last_end l) 0 f in

@@ -2,15 +2,15 @@
 -- the places of the overlay that no line speaks of. Spacing, blank lines and line ends count for nothing, as in a SOC text.
 use Rattle.std.specs.Prelude.{ℕ, suc, ◌≤◌, ◌≡◌, Bool, true, false, List, [], ◌∷◌, ◌++◌, drop, replicate}
 use Rattle.fields.specs.Bytes.{bytes}
-use Rattle.fields.specs.Names.{nameMax}
+use Rattle.fields.specs.Names.{name_max}
 use Rattle.units.specs.Places.{all_of}
-use Rattle.soc.specs.Limits.{modulesMax}
-use Rattle.soc.specs.Record.{noModule, name_of}
+use Rattle.soc.specs.Limits.{modules_max}
+use Rattle.soc.specs.Record.{no_module, name_of}
 use Rattle.soc.specs.Rules as rules
 use Rattle.soc.specs.declared.record.Module.{Module}
 use Rattle.soc.specs.declared.record.Soc.{Soc}
-use Rattle.text_lines.specs.LineFields.{optionsFields}
-use Rattle.text.specs.Describes.{ModuleLines, spareIn}
+use Rattle.text_lines.specs.LineFields.{options_fields}
+use Rattle.text.specs.Describes.{ModuleLines, spare_in}
 use Rattle.overlay.specs.declared.read.Overlay.{Overlay}
 
 -- name and options of an overlay, as a record with no module has them
@@ -22,12 +22,12 @@ head_of o =
       power = o.power;
       xy = o.xy;
       module_count = 0;
-      modules = replicate modulesMax noModule;
+      modules = replicate modules_max no_module;
     }
 
 -- "`Overlay` and the SOC's name"
-unfoldable pub overlayFields : Overlay → List (List ℕ)
-overlayFields o = bytes "Overlay" ∷ name_of (head_of o) ∷ []
+unfoldable pub overlay_fields : Overlay → List (List ℕ)
+overlay_fields o = bytes "Overlay" ∷ name_of (head_of o) ∷ []
 
 -- "module blocks in ascending number, written as in a SOC text": the blocks from m on, each at the place of its number, of which an overlay
 -- has 40; the other places are spare
@@ -36,7 +36,7 @@ pub data BlocksLines (power xy : Bool) : ℕ → List Bool → List Module → L
   block : {m : ℕ} {d : Module} {hs : List Bool} {ds : List Module} {ls ms : List (List (List ℕ))} → ModuleLines power xy m d ls
       → BlocksLines power xy (suc m) hs ds ms
       → BlocksLines power xy m (true ∷ hs) (d ∷ ds) (ls ++ ms)
-  spare : {m : ℕ} {d : Module} {hs : List Bool} {ds : List Module} {ls : List (List (List ℕ))} → d ≡ noModule
+  spare : {m : ℕ} {d : Module} {hs : List Bool} {ds : List Module} {ls : List (List (List ℕ))} → d ≡ no_module
       → BlocksLines power xy (suc m) hs ds ls
       → BlocksLines power xy m (false ∷ hs) (d ∷ ds) ls
 
@@ -46,7 +46,7 @@ pub record DescribesOverlay (o : Overlay) (ls : List (List (List ℕ))) : Type 0
   pub blocks : List (List (List ℕ))
   pub blocks-are : BlocksLines o.power o.xy 0 o.has o.modules blocks
   pub some : blocks ≡ [] → ⊥
-  pub lines_are : ls ≡ overlayFields o ∷ optionsFields (head_of o) ∷ blocks
-  pub room : o.name_len ≤ nameMax
+  pub lines_are : ls ≡ overlay_fields o ∷ options_fields (head_of o) ∷ blocks
+  pub room : o.name_len ≤ name_max
   pub name-spare : all_of rules.none (drop o.name_len o.name) ≡ true
-  pub within : all_of spareIn o.modules ≡ true
+  pub within : all_of spare_in o.modules ≡ true

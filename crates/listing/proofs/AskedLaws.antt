@@ -9,11 +9,11 @@ use borrow.Author.Tests.{le-leb, lt-leb}
 use lib.ListN.{length}
 use Rattle.units.proofs.TestLaws.{clash}
 use Rattle.fields.specs.Fields.{fields_of, blank}
-use Rattle.fields.specs.Lines.{untilLf, lineEnding, line_at}
+use Rattle.fields.specs.Lines.{until_lf, line_ending, line_at}
 use Rattle.fields.specs.Readers.{got, between}
 use Rattle.fields.proofs.LineLaws.{line-is}
 use Rattle.text_lines.specs.Parts.{refuses, whole}
-use Rattle.listing.specs.Asked.{planLineMax, askedMax, captureNumber, planLine, firstLine, asked}
+use Rattle.listing.specs.Asked.{plan_line_max, asked_max, capture_number, plan_line, first_line, asked}
 
 -- the first line and its end lie in the input; an empty input has an empty one
 pub record FirstLine (input : List ℕ) : Type 0 where
@@ -21,35 +21,35 @@ pub record FirstLine (input : List ℕ) : Type 0 where
   pub inside : (line_at input 0).next ≤ length input
 
 pub first-line : (input : List ℕ) → FirstLine input
-unfolding line_at lineEnding untilLf
+unfolding line_at line_ending until_lf
 first-line [] = record { end = omega arith; inside = omega arith }
 first-line (b ∷ input) =
     let l = line-is (b ∷ input) 0 (line_at (b ∷ input) 0) (omega arith) refl in
     record { end = l.end; inside = l.inside }
 
 module _ (input : List ℕ) where
-  pub asked-long : planLineMax < (line_at input 0).next → asked input ≡ refuses 3
+  pub asked-long : plan_line_max < (line_at input 0).next → asked input ≡ refuses 3
   unfolding asked
-  asked-long h = simp (lt-leb (line_at input 0).next planLineMax h)
+  asked-long h = simp (lt-leb (line_at input 0).next plan_line_max h)
 
-  pub asked-short : (line_at input 0).next ≤ planLineMax → asked input ≡ whole planLine (fields_of (firstLine input))
+  pub asked-short : (line_at input 0).next ≤ plan_line_max → asked input ≡ whole plan_line (fields_of (first_line input))
   unfolding asked
-  asked-short h = simp (le-leb (line_at input 0).next planLineMax h)
+  asked-short h = simp (le-leb (line_at input 0).next plan_line_max h)
 
 -- no third number is 1, and one that is there is read as the others are
 module _ (fs : List (List ℕ)) where
-  pub capture-none : blank fs ≡ true → captureNumber fs ≡ got 1 fs
-  unfolding captureNumber blank
+  pub capture-none : blank fs ≡ true → capture_number fs ≡ got 1 fs
+  unfolding capture_number blank
   capture-none h = go fs h
     where
-      go : (gs : List (List ℕ)) → blank gs ≡ true → captureNumber gs ≡ got 1 gs
+      go : (gs : List (List ℕ)) → blank gs ≡ true → capture_number gs ≡ got 1 gs
       go [] h = refl
       go (f ∷ gs) h = clash cc
 
-  pub capture-some : blank fs ≡ false → captureNumber fs ≡ between 0 askedMax fs
-  unfolding captureNumber blank
+  pub capture-some : blank fs ≡ false → capture_number fs ≡ between 0 asked_max fs
+  unfolding capture_number blank
   capture-some h = go fs h
     where
-      go : (gs : List (List ℕ)) → blank gs ≡ false → captureNumber gs ≡ between 0 askedMax gs
+      go : (gs : List (List ℕ)) → blank gs ≡ false → capture_number gs ≡ between 0 asked_max gs
       go [] h = clash cc
       go (f ∷ gs) h = refl

@@ -8,7 +8,7 @@ use borrow.Author.Tests.{eq-eqb, ne_eqb}
 use lib.ListN.{length, get_or, take, drop, set, length-set, take-append-drop, drop_of_length-le}
 use lib.Seq.{drop-cons, drop-drop, get_or-drop, length-take-le, set_at}
 use Rattle.fields.specs.WrittenLines.{decimal}
-use Rattle.buffer.specs.Puts.{putEnd, put_in, put_at, Put}
+use Rattle.buffer.specs.Puts.{put_end, put_in, put_at, Put}
 use Rattle.buffer.proofs.PutLaws.{Due, due_all, due-room, due-next, put_is, put-kept, put-none}
 use Rattle.listing.specs.Forms.{mark, marks, formed}
 
@@ -69,11 +69,11 @@ module _ {f vs : List ℕ} {at : ℕ} {start : List ℕ} where
     formed-end h = s.due.done buf e (rw (drop_of_length-le f h) (put-none e buf))
 
     module _ (h : i < length f) where
-      pub figure-there : get_or f i 0 ≡ mark → k < length vs
-      figure-there m = omega (arith, s.left, marks-mark f vs i k h m)
+      pub figure_there : get_or f i 0 ≡ mark → k < length vs
+      figure_there m = omega (arith, s.left, marks-mark f vs i k h m)
 
       pub formed-figure : {next : List ℕ} {r : ℕ} → get_or f i 0 ≡ mark
-          → (r ≡ putEnd (decimal (get_or vs k 0)) e buf) × (next ≡ put_in (decimal (get_or vs k 0)) e buf)
+          → (r ≡ put_end (decimal (get_or vs k 0)) e buf) × (next ≡ put_in (decimal (get_or vs k 0)) e buf)
           → Formed f vs at start next r (k + 1) (i + 1)
       formed-figure m p =
           let d = rw (formed-mark f vs i k h m) at s.due in

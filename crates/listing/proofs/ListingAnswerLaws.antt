@@ -2,15 +2,15 @@
 use Prim.Native.Nat.{ℕ}
 use mathlib.Core.List.{List}
 use native.Mathlib.Omega.{arith}
-use Rattle.buffer.proofs.WriterAnswerLaws.{Fits, written-fits, unless-fits}
-use Rattle.plan_record.specs.Good.{goodPlan}
+use Rattle.buffer.proofs.WriterAnswerLaws.{Fits, written-fits, unless_fits}
+use Rattle.plan_record.specs.Good.{good_plan}
 use Rattle.plan_record.specs.declared.record.BusPlan.{BusPlan}
-use Rattle.listing.specs.Listing.{listed, shown, listingAnswer, showAnswer}
+use Rattle.listing.specs.Listing.{listed, shown, listing_answer, show_answer}
 
-pub listing-fits : (input buf : List ℕ) → Fits buf (listingAnswer input buf)
-unfolding listingAnswer
-listing-fits input buf = written-fits (listed input) buf
+pub listing_fits : (input buf : List ℕ) → Fits buf (listing_answer input buf)
+unfolding listing_answer
+listing_fits input buf = written-fits (listed input) buf
 
-pub show-fits : (p : BusPlan) (buf : List ℕ) → Fits buf (showAnswer p buf)
-unfolding showAnswer
-show-fits p buf = unless-fits 12 (shown p) buf (omega arith) (goodPlan p)
+pub show_fits : (p : BusPlan) (buf : List ℕ) → Fits buf (show_answer p buf)
+unfolding show_answer
+show_fits p buf = unless_fits 12 (shown p) buf (omega arith) (good_plan p)

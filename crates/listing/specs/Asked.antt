@@ -9,12 +9,12 @@ use Rattle.listing.specs.declared.asked.Asked.{Asked}
 use Rattle.listing.specs.declared.asked.Asked.TheVariants.{No, For}
 
 -- "at most 32 bytes with its end"
-abbrev pub planLineMax : ℕ
-planLineMax = 32
+abbrev pub plan_line_max : ℕ
+plan_line_max = 32
 
 -- a number "over 4,294,967,295" is 4
-abbrev pub askedMax : ℕ
-askedMax = 4294967295
+abbrev pub asked_max : ℕ
+asked_max = 4294967295
 
 -- what the line asks for
 pub record Wanted : Type 0 where
@@ -23,35 +23,35 @@ pub record Wanted : Type 0 where
   pub capture : ℕ
 
 -- c is "chosen for the whole SOC by an optional third number on the `Plan` line, 1 if absent"
-unfoldable pub captureNumber : Reader ℕ
-captureNumber [] = got 1 []
-captureNumber (f ∷ fs) = between 0 askedMax (f ∷ fs)
+unfoldable pub capture_number : Reader ℕ
+capture_number [] = got 1 []
+capture_number (f ∷ fs) = between 0 asked_max (f ∷ fs)
 
 -- "Its fields are parted and read left to right as in the text."
-unfoldable pub planNumbers : Reader Wanted
-planNumbers = do
-  w ← between 0 askedMax
-  b ← between 0 askedMax
-  c ← captureNumber
+unfoldable pub plan_numbers : Reader Wanted
+plan_numbers = do
+  w ← between 0 asked_max
+  b ← between 0 asked_max
+  c ← capture_number
   give (record { wires = w; limit = b; capture = c })
 
-unfoldable pub planLine : Reader Wanted
-planLine = do
+unfoldable pub plan_line : Reader Wanted
+plan_line = do
   word "Plan"
-  planNumbers
+  plan_numbers
 
 -- the line without its end, and the text behind it
-abbrev pub firstLine : List ℕ → List ℕ
-firstLine input = take (line_at input 0).to input
+abbrev pub first_line : List ℕ → List ℕ
+first_line input = take (line_at input 0).to input
 
-abbrev pub textBehind : List ℕ → List ℕ
-textBehind input = drop (line_at input 0).next input
+abbrev pub text_behind : List ℕ → List ℕ
+text_behind input = drop (line_at input 0).next input
 
 -- "a longer one is 3 before any other"
 unfoldable pub asked : List ℕ → Whole Wanted
-asked input = cond (leb (line_at input 0).next planLineMax) (whole planLine (fields_of (firstLine input))) (refuses 3)
+asked input = cond (leb (line_at input 0).next plan_line_max) (whole plan_line (fields_of (first_line input))) (refuses 3)
 
 -- the same as an answer
-unfoldable pub askedAnswer : Whole Wanted → Asked
-askedAnswer (refuses c) = No c
-askedAnswer (says k) = For k.wires k.limit k.capture
+unfoldable pub asked_answer : Whole Wanted → Asked
+asked_answer (refuses c) = No c
+asked_answer (says k) = For k.wires k.limit k.capture

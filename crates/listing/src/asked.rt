@@ -3,8 +3,8 @@ ghost use Rattle.std.specs.Prelude.{◌≡◌, drop};
 ghost use Rattle.fields.specs.Fields.{fields_of};
 ghost use Rattle.fields.specs.Lines.{line_at};
 ghost use Rattle.text_lines.specs.Parts.{whole};
-ghost use Rattle.listing.specs.Asked.{planNumbers, planLine, asked, askedAnswer};
-ghost use Rattle.listing.specs.Rest.{captureRest};
+ghost use Rattle.listing.specs.Asked.{plan_numbers, plan_line, asked, asked_answer};
+ghost use Rattle.listing.specs.Rest.{capture_rest};
 
 use fields::{Figure, OneLine, Past};
 
@@ -21,7 +21,7 @@ pub enum Asked {
 
 // c, which is 1 where no field is left, to the line's end.
 fn capture_to_end(l: &[u8], at: usize, wires: u32, limit: u32) -> Asked
-    ensures { result ≡ askedAnswer (whole (captureRest wires limit) (fields_of (drop at l.now))) }
+    ensures { result ≡ asked_answer (whole (capture_rest wires limit) (fields_of (drop at l.now))) }
 {
     if fields::is_blank(l, at) {
         return Asked::For(wires, limit, 1);
@@ -40,7 +40,7 @@ fn capture_to_end(l: &[u8], at: usize, wires: u32, limit: u32) -> Asked
 
 // W and B from a place on, and c behind them.
 fn plan_numbers(l: &[u8], at: usize) -> Asked
-    ensures { result ≡ askedAnswer (whole planNumbers (fields_of (drop at l.now))) }
+    ensures { result ≡ asked_answer (whole plan_numbers (fields_of (drop at l.now))) }
 {
     match fields::figure_at(l, at, 0, ASKED_MAX) {
         Figure::No(c) => Asked::No(c),
@@ -52,7 +52,7 @@ fn plan_numbers(l: &[u8], at: usize) -> Asked
 }
 
 fn plan_line(l: &[u8]) -> Asked
-    ensures { result ≡ askedAnswer (whole planLine (fields_of l.now)) }
+    ensures { result ≡ asked_answer (whole plan_line (fields_of l.now)) }
 {
     match fields::past_word(l, 0, b"Plan") {
         Past::No(c) => Asked::No(c),
@@ -63,7 +63,7 @@ fn plan_line(l: &[u8]) -> Asked
 // What the input's first line asks for.
 pub(crate) fn asked_of(input: &[u8], line: OneLine) -> Asked
     requires { line ≡ line_at input.now 0 }
-    ensures { result ≡ askedAnswer (asked input.now) }
+    ensures { result ≡ asked_answer (asked input.now) }
 {
     let to = line.to;
     if line.next > PLAN_LINE_MAX {

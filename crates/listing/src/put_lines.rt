@@ -2,12 +2,12 @@
 // most 20 digits and a name at most 32 bytes, which bounds each line.
 ghost use Rattle.std.specs.Prelude.{◌+◌, ◌*◌, ◌≤◌, [], ◌∷◌, length, take};
 ghost use Rattle.buffer.specs.Puts.{Put};
-ghost use Rattle.fields.specs.Names.{nameMax};
-ghost use Rattle.fields.specs.WrittenLines.{writtenLines};
-ghost use Rattle.plan_record.specs.Record.{busPlaces, modulePlaces, busesOf, modulesOf};
-ghost use Rattle.listing.specs.Listing.{refusalFields, countFields, socFields, busFields, busLines, moduleFields, moduleLines, planLines};
-ghost use Rattle.listing.specs.Room.{refusalRoom, countRoom, nameRoom, busRoom, moduleRoom, restRoom, planRoom};
-ghost use Rattle.listing.specs.Rest.{restText};
+ghost use Rattle.fields.specs.Names.{name_max};
+ghost use Rattle.fields.specs.WrittenLines.{written_lines};
+ghost use Rattle.plan_record.specs.Record.{bus_places, module_places, buses_of, modules_of};
+ghost use Rattle.listing.specs.Listing.{refusal_fields, count_fields, soc_fields, bus_fields, bus_lines, module_fields, module_lines, plan_lines};
+ghost use Rattle.listing.specs.Room.{refusal_room, count_room, name_room, bus_room, module_room, rest_room, plan_room};
+ghost use Rattle.listing.specs.Rest.{rest_text};
 ghost use Rattle.listing.specs.Forms.{marks, formed};
 
 use plan_record::{Bus, BusPlan, PlacedModule};
@@ -38,8 +38,8 @@ fn put_form(buf: &mut [u8], at: usize, form: &[u8], figures: &[u64]) -> usize
 
 // `refused N line L`.
 pub(crate) fn put_refusal(buf: &mut [u8], at: usize, r: Refusal) -> usize
-    requires { at + refusalRoom ≤ length buf.old }
-    ensures { Put (writtenLines (refusalFields r ∷ [])) at buf.old buf.new result × (length (writtenLines (refusalFields r ∷ [])) ≤ refusalRoom) }
+    requires { at + refusal_room ≤ length buf.old }
+    ensures { Put (written_lines (refusal_fields r ∷ [])) at buf.old buf.new result × (length (written_lines (refusal_fields r ∷ [])) ≤ refusal_room) }
 {
     let figures = [r.number as u64, r.line as u64];
     put_form(&mut *buf, at, b"refused # line #\n", &figures)
@@ -47,8 +47,8 @@ pub(crate) fn put_refusal(buf: &mut [u8], at: usize, r: Refusal) -> usize
 
 // `wires` W `limit` B `time` T.
 pub fn put_counts(buf: &mut [u8], at: usize, p: BusPlan) -> usize
-    requires { at + countRoom ≤ length buf.old }
-    ensures { Put (writtenLines (countFields p ∷ [])) at buf.old buf.new result × (length (writtenLines (countFields p ∷ [])) ≤ countRoom) }
+    requires { at + count_room ≤ length buf.old }
+    ensures { Put (written_lines (count_fields p ∷ [])) at buf.old buf.new result × (length (written_lines (count_fields p ∷ [])) ≤ count_room) }
 {
     let figures = [p.wires.0 as u64, p.limit as u64, p.time.0];
     put_form(&mut *buf, at, b"wires # limit # time #\n", &figures)
@@ -56,8 +56,8 @@ pub fn put_counts(buf: &mut [u8], at: usize, p: BusPlan) -> usize
 
 // `soc` name, and the same behind it.
 fn put_soc_line(buf: &mut [u8], at: usize, s: Soc, p: BusPlan) -> usize
-    requires { (s.name_len ≤ nameMax) × (at + nameRoom + countRoom ≤ length buf.old) }
-    ensures { Put (writtenLines (socFields s p ∷ [])) at buf.old buf.new result × (length (writtenLines (socFields s p ∷ [])) ≤ nameRoom + countRoom) }
+    requires { (s.name_len ≤ name_max) × (at + name_room + count_room ≤ length buf.old) }
+    ensures { Put (written_lines (soc_fields s p ∷ [])) at buf.old buf.new result × (length (written_lines (soc_fields s p ∷ [])) ≤ name_room + count_room) }
 {
     let n = s.name_len;
     let name = s.name;
@@ -69,8 +69,8 @@ fn put_soc_line(buf: &mut [u8], at: usize, s: Soc, p: BusPlan) -> usize
 
 // `bus` i `width` w `busy` b.
 fn put_bus_line(buf: &mut [u8], at: usize, i: u64, b: Bus) -> usize
-    requires { at + busRoom ≤ length buf.old }
-    ensures { Put (writtenLines (busFields i b ∷ [])) at buf.old buf.new result × (length (writtenLines (busFields i b ∷ [])) ≤ busRoom) }
+    requires { at + bus_room ≤ length buf.old }
+    ensures { Put (written_lines (bus_fields i b ∷ [])) at buf.old buf.new result × (length (written_lines (bus_fields i b ∷ [])) ≤ bus_room) }
 {
     let figures = [i, b.width.0 as u64, b.busy.0];
     put_form(&mut *buf, at, b"bus # width # busy #\n", &figures)
@@ -78,8 +78,8 @@ fn put_bus_line(buf: &mut [u8], at: usize, i: u64, b: Bus) -> usize
 
 // `module` m `bus` i `wires` k `cycles` x `start` s.
 fn put_module_line(buf: &mut [u8], at: usize, m: PlacedModule) -> usize
-    requires { at + moduleRoom ≤ length buf.old }
-    ensures { Put (writtenLines (moduleFields m ∷ [])) at buf.old buf.new result × (length (writtenLines (moduleFields m ∷ [])) ≤ moduleRoom) }
+    requires { at + module_room ≤ length buf.old }
+    ensures { Put (written_lines (module_fields m ∷ [])) at buf.old buf.new result × (length (written_lines (module_fields m ∷ [])) ≤ module_room) }
 {
     let figures = [
         m.number as u64,
@@ -97,8 +97,8 @@ fn put_module_line(buf: &mut [u8], at: usize, m: PlacedModule) -> usize
 }
 
 fn put_buses(buf: &mut [u8], at: usize, p: BusPlan) -> usize
-    requires { (p.bus_count ≤ busPlaces) × (at + busPlaces * busRoom ≤ length buf.old) }
-    ensures { Put (writtenLines (busLines 1 (busesOf p))) at buf.old buf.new result × (length (writtenLines (busLines 1 (busesOf p))) ≤ busPlaces * busRoom) }
+    requires { (p.bus_count ≤ bus_places) × (at + bus_places * bus_room ≤ length buf.old) }
+    ensures { Put (written_lines (bus_lines 1 (buses_of p))) at buf.old buf.new result × (length (written_lines (bus_lines 1 (buses_of p))) ≤ bus_places * bus_room) }
 {
     let n = p.bus_count;
     let mut e = at;
@@ -112,8 +112,8 @@ fn put_buses(buf: &mut [u8], at: usize, p: BusPlan) -> usize
 }
 
 fn put_modules(buf: &mut [u8], at: usize, p: BusPlan) -> usize
-    requires { (p.module_count ≤ modulePlaces) × (at + modulePlaces * moduleRoom ≤ length buf.old) }
-    ensures { Put (writtenLines (moduleLines (modulesOf p))) at buf.old buf.new result × (length (writtenLines (moduleLines (modulesOf p))) ≤ modulePlaces * moduleRoom) }
+    requires { (p.module_count ≤ module_places) × (at + module_places * module_room ≤ length buf.old) }
+    ensures { Put (written_lines (module_lines (modules_of p))) at buf.old buf.new result × (length (written_lines (module_lines (modules_of p))) ≤ module_places * module_room) }
 {
     let n = p.module_count;
     let mut e = at;
@@ -128,8 +128,8 @@ fn put_modules(buf: &mut [u8], at: usize, p: BusPlan) -> usize
 
 // The lines behind the first.
 pub fn put_rest(buf: &mut [u8], at: usize, p: BusPlan) -> usize
-    requires { (p.bus_count ≤ busPlaces) × (p.module_count ≤ modulePlaces) × (at + restRoom ≤ length buf.old) }
-    ensures { Put (restText p) at buf.old buf.new result × (length (restText p) ≤ restRoom) }
+    requires { (p.bus_count ≤ bus_places) × (p.module_count ≤ module_places) × (at + rest_room ≤ length buf.old) }
+    ensures { Put (rest_text p) at buf.old buf.new result × (length (rest_text p) ≤ rest_room) }
 {
     let a = put_buses(&mut *buf, at, p);
     put_modules(&mut *buf, a, p)
@@ -137,8 +137,8 @@ pub fn put_rest(buf: &mut [u8], at: usize, p: BusPlan) -> usize
 
 // The lines of a plan.
 pub(crate) fn put_plan(buf: &mut [u8], at: usize, s: Soc, p: BusPlan) -> usize
-    requires { (s.name_len ≤ nameMax) × (p.bus_count ≤ busPlaces) × (p.module_count ≤ modulePlaces) × (at + planRoom ≤ length buf.old) }
-    ensures { Put (writtenLines (planLines s p)) at buf.old buf.new result × (length (writtenLines (planLines s p)) ≤ planRoom) }
+    requires { (s.name_len ≤ name_max) × (p.bus_count ≤ bus_places) × (p.module_count ≤ module_places) × (at + plan_room ≤ length buf.old) }
+    ensures { Put (written_lines (plan_lines s p)) at buf.old buf.new result × (length (written_lines (plan_lines s p)) ≤ plan_room) }
 {
     let a = put_soc_line(&mut *buf, at, s, p);
     put_rest(&mut *buf, a, p)

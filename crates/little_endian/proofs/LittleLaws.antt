@@ -42,8 +42,8 @@ pub number-none : (f : List ℕ) (at : ℕ) → number_at 0 f at ≡ 0
 unfolding number
 number-none f at = refl
 
-pub number-two : (f : List ℕ) (at : ℕ) → number_at 2 f at ≡ byte f at + 256 * byte f (at + 1)
-number-two f at = let e : at + 1 ≡ suc at = add-one at in rw (number_step 1 f at, number_step 0 f (suc at), number-none, e) (omega arith)
+pub number_two : (f : List ℕ) (at : ℕ) → number_at 2 f at ≡ byte f at + 256 * byte f (at + 1)
+number_two f at = let e : at + 1 ≡ suc at = add-one at in rw (number_step 1 f at, number_step 0 f (suc at), number-none, e) (omega arith)
 
 -- the number in four bytes from a place on, as the code puts it together
 abbrev pub four : List ℕ → ℕ → ℕ
@@ -69,8 +69,8 @@ number_more n f at =
 pub number-four : (f : List ℕ) (at : ℕ) → number_at 4 f at ≡ four f at
 number-four f at = number_more 0 f at ∙ rw number-none (omega arith)
 
-pub number-eight : (f : List ℕ) (at : ℕ) → number_at 8 f at ≡ number_at 4 f at + 4294967296 * number_at 4 f (at + 4)
-number-eight f at = rw (number_more 4 f at, number-four f at)
+pub number_eight : (f : List ℕ) (at : ℕ) → number_at 8 f at ≡ number_at 4 f at + 4294967296 * number_at 4 f (at + 4)
+number_eight f at = rw (number_more 4 f at, number-four f at)
 
 pub little-length : (n v : ℕ) → length (little n v) ≡ n
 unfolding little
@@ -89,17 +89,17 @@ number-little (suc n) v h =
     let k : v < 256 * 256 ^ n = rw pow-succ' at h in
     rw (number-little n (v / 256) (omega arith)) (omega arith)
 
-pub number-of-length : (bs : List ℕ) → AreBytes bs → little (length bs) (number bs) ≡ bs
+pub number_of_length : (bs : List ℕ) → AreBytes bs → little (length bs) (number bs) ≡ bs
 unfolding number little
-number-of-length [] b = refl
-number-of-length (x ∷ bs) b =
+number_of_length [] b = refl
+number_of_length (x ∷ bs) b =
     let k : x < 256 = b 0 (omega arith) in
     let r : (x + 256 * number bs) % 256 ≡ x = omega arith in
     let q : (x + 256 * number bs) / 256 ≡ number bs = omega arith in
-    rw (r, q, number-of-length bs (λ i h. b (suc i) (omega arith)))
+    rw (r, q, number_of_length bs (λ i h. b (suc i) (omega arith)))
 
 pub little-number : (n : ℕ) (bs : List ℕ) → length bs ≡ n → AreBytes bs → little n (number bs) ≡ bs
-little-number n bs e b = rw (sym e) (number-of-length bs b)
+little-number n bs e b = rw (sym e) (number_of_length bs b)
 
 -- n bytes of a file from a place on
 pub part_length : (f : List ℕ) (n at : ℕ) → at + n ≤ length f → length (take n (drop at f)) ≡ n
@@ -135,8 +135,8 @@ pub little-four : (v : ℕ) → little 4 v ≡ bytes4 v []
 unfolding little
 little-four v = bytes-more 0 v
 
-pub little-eight : (v : ℕ) → little 8 v ≡ bytes4 v (v / 4294967296 % 256 ∷ v / 1099511627776 % 256 ∷ v / 281474976710656 % 256 ∷ v / 72057594037927936 % 256 ∷ [])
-little-eight v =
+pub little_eight : (v : ℕ) → little 8 v ≡ bytes4 v (v / 4294967296 % 256 ∷ v / 1099511627776 % 256 ∷ v / 281474976710656 % 256 ∷ v / 72057594037927936 % 256 ∷ [])
+little_eight v =
     let a : v / 4294967296 / 256 ≡ v / 1099511627776 = omega arith in
     let b : v / 4294967296 / 65536 ≡ v / 281474976710656 = omega arith in
     let d : v / 4294967296 / 16777216 ≡ v / 72057594037927936 = omega arith in

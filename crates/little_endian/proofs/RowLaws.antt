@@ -11,7 +11,7 @@ use lib.ListN.{length, get_or, take, drop, set, replicate, length-append}
 use lib.Seq.{drop-cons, take_all}
 use Rattle.units.specs.Places.{all_of, padded}
 use Rattle.units.proofs.PlaceLaws.{padded-none, padded-set}
-use Rattle.units.proofs.TestLaws.{and-stops, and-goes}
+use Rattle.units.proofs.TestLaws.{and_stops, and_goes}
 use Rattle.buffer.specs.Puts.{Put}
 use Rattle.little_endian.specs.Rows.{each, rows}
 use Rattle.buffer.proofs.PutLaws.{put-none, put_then}
@@ -34,8 +34,8 @@ pub filled_none : {A : Type 0} (n : ℕ) (z : A) (read : ℕ → A) (step from :
 unfolding rows
 filled_none n z read step from = sym (padded-none n z)
 
-pub filled-step : {A : Type 0} (n : ℕ) (z v : A) (read : ℕ → A) (step i from : ℕ) → i < n → v ≡ read (from + step * i) → set (padded n z (rows read step i from)) i v ≡ padded n z (rows read step (i + 1) from)
-filled-step n z v read step i from h e =
+pub filled_step : {A : Type 0} (n : ℕ) (z v : A) (read : ℕ → A) (step i from : ℕ) → i < n → v ≡ read (from + step * i) → set (padded n z (rows read step i from)) i v ≡ padded n z (rows read step (i + 1) from)
+filled_step n z v read step i from h e =
     let l : length (rows read step i from) < n = rw (rows-length read step i from) h in
     ap (λ k. set (padded n z (rows read step i from)) k v) (sym (rows-length read step i from))
     ∙ padded-set n z v (rows read step i from) l
@@ -57,16 +57,16 @@ rows-bytes b (suc n) at h =
     rw (drop-cons b at 0 l) (ap (λ t. get_or b at 0 ∷ t) (rows-bytes b n (at + 1) k ∙ rw add-one))
 
 -- every place from the i-th on: where the i-th passes, where it fails, and where none is left
-pub all-rows-step : (p : ℕ → Bool) (step n i from : ℕ) → i < n → p (from + step * i) ≡ true → all_of p (rows (λ a. a) step (n - i) (from + step * i)) ≡ all_of p (rows (λ a. a) step (n - (i + 1)) (from + step * (i + 1)))
+pub all-rows_step : (p : ℕ → Bool) (step n i from : ℕ) → i < n → p (from + step * i) ≡ true → all_of p (rows (λ a. a) step (n - i) (from + step * i)) ≡ all_of p (rows (λ a. a) step (n - (i + 1)) (from + step * (i + 1)))
 unfolding rows all_of
-all-rows-step p step n i from h t =
+all-rows_step p step n i from h t =
     let e : n - i ≡ suc (n - (i + 1)) = omega arith in
     let a : from + step * (i + 1) ≡ from + step * i + step = omega (arith, mul-suc step i) in
-    rw (e, a) (and-goes _ _ t)
+    rw (e, a) (and_goes _ _ t)
 
-pub all-rows-fails : (p : ℕ → Bool) (step n i from : ℕ) → i < n → p (from + step * i) ≡ false → all_of p (rows (λ a. a) step (n - i) (from + step * i)) ≡ false
+pub all-rows_fails : (p : ℕ → Bool) (step n i from : ℕ) → i < n → p (from + step * i) ≡ false → all_of p (rows (λ a. a) step (n - i) (from + step * i)) ≡ false
 unfolding rows all_of
-all-rows-fails p step n i from h t = let e : n - i ≡ suc (n - (i + 1)) = omega arith in rw e (and-stops _ _ t)
+all-rows_fails p step n i from h t = let e : n - i ≡ suc (n - (i + 1)) = omega arith in rw e (and_stops _ _ t)
 
 pub all-rows-end : (p : ℕ → Bool) (step n i from : ℕ) → n ≤ i → all_of p (rows (λ a. a) step (n - i) from) ≡ true
 unfolding rows all_of

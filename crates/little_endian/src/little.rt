@@ -1,7 +1,7 @@
 // Numbers in little-endian bytes: read from a place on, where a byte behind the end counts as 0, and put at a place.
 ghost use Rattle.std.specs.Prelude.{◌≡◌, ◌<◌};
 ghost use Rattle.little_endian.specs.Little.{little, byte, number_at};
-ghost use Rattle.buffer.specs.Puts.{putEnd, put_in};
+ghost use Rattle.buffer.specs.Puts.{put_end, put_in};
 
 use buffer::put_bytes;
 
@@ -41,7 +41,7 @@ pub fn u64_at(b: &[u8], at: usize) -> u64
 
 // The lowest 4 bytes of v.
 pub fn put_u32(buf: &mut [u8], at: usize, v: u64) -> usize
-    ensures { (result ≡ putEnd (little 4 v) at buf.old) × (buf.new ≡ put_in (little 4 v) at buf.old) }
+    ensures { (result ≡ put_end (little 4 v) at buf.old) × (buf.new ≡ put_in (little 4 v) at buf.old) }
 {
     let w = [
         (v % 256) as u8,
@@ -53,7 +53,7 @@ pub fn put_u32(buf: &mut [u8], at: usize, v: u64) -> usize
 }
 
 pub fn put_u64(buf: &mut [u8], at: usize, v: u64) -> usize
-    ensures { (result ≡ putEnd (little 8 v) at buf.old) × (buf.new ≡ put_in (little 8 v) at buf.old) }
+    ensures { (result ≡ put_end (little 8 v) at buf.old) × (buf.new ≡ put_in (little 8 v) at buf.old) }
 {
     let w = [
         (v % 256) as u8,

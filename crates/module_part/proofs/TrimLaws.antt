@@ -10,42 +10,42 @@ use lib.ListN.{length, get_or, drop, length-drop, drop_of_length-le}
 use lib.Seq.{drop-drop, drop-cons}
 use lib.Dec.{ltb, eqb}
 use Rattle.units.proofs.TestLaws.{clash}
-use Rattle.fields.specs.Bytes.{lf, cr, lfNext}
-use Rattle.fields.specs.Fields.{gap, gaps, begins, onField, fields_of}
-use Rattle.fields.specs.Lines.{onLine, lines_of, Line, withLine, numbered, lines_from, untilLf, lineTo, lineEnding, line_at}
+use Rattle.fields.specs.Bytes.{lf, cr, lf_next}
+use Rattle.fields.specs.Fields.{gap, gaps, begins, on_field, fields_of}
+use Rattle.fields.specs.Lines.{on_line, lines_of, Line, with_line, numbered, lines_from, until_lf, line_to, line_ending, line_at}
 use Rattle.fields.specs.declared.line.OneLine.{OneLine}
 use Rattle.module_part.specs.ModulePart.{last_end}
-use Rattle.module_part.specs.Trimmed.{inField, untilField, lastField}
+use Rattle.module_part.specs.Trimmed.{in_field, until_field, last_field}
 
 -- how many bytes of fields there are
 unfoldable ink : List ℕ → ℕ
 ink [] = 0
-ink (b ∷ bs) = cond (inField (b ∷ bs)) (suc (ink bs)) (ink bs)
+ink (b ∷ bs) = cond (in_field (b ∷ bs)) (suc (ink bs)) (ink bs)
 
-ink-first : (b : ℕ) (bs : List ℕ) → ink bs ≤ ink (b ∷ bs)
+ink_first : (b : ℕ) (bs : List ℕ) → ink bs ≤ ink (b ∷ bs)
 unfolding ink
-ink-first b bs = go (inField (b ∷ bs))
+ink_first b bs = go (in_field (b ∷ bs))
   where
     go : (u : Bool) → ink bs ≤ cond u (suc (ink bs)) (ink bs)
     go true = omega arith
     go false = omega arith
 
-ink-drop : (k : ℕ) (u : List ℕ) → ink (drop k u) ≤ ink u
-ink-drop zero u = omega arith
-ink-drop (suc k) [] = omega arith
-ink-drop (suc k) (b ∷ bs) = omega (arith, ink-drop k bs, ink-first b bs)
+ink_drop : (k : ℕ) (u : List ℕ) → ink (drop k u) ≤ ink u
+ink_drop zero u = omega arith
+ink_drop (suc k) [] = omega arith
+ink_drop (suc k) (b ∷ bs) = omega (arith, ink_drop k bs, ink_first b bs)
 
 -- where as many are left, none was passed
-none_passed : (k b : ℕ) (bs : List ℕ) → ink (drop k bs) ≡ ink (b ∷ bs) → (inField (b ∷ bs) ≡ false) × (ink (drop k bs) ≡ ink bs)
+none_passed : (k b : ℕ) (bs : List ℕ) → ink (drop k bs) ≡ ink (b ∷ bs) → (in_field (b ∷ bs) ≡ false) × (ink (drop k bs) ≡ ink bs)
 unfolding ink
-none_passed k b bs e = go (inField (b ∷ bs)) e
+none_passed k b bs e = go (in_field (b ∷ bs)) e
   where
     go : (u : Bool) → ink (drop k bs) ≡ cond u (suc (ink bs)) (ink bs) → (u ≡ false) × (ink (drop k bs) ≡ ink bs)
-    go true e = absurd (omega (arith, e, ink-drop k bs))
+    go true e = absurd (omega (arith, e, ink_drop k bs))
     go false e = (refl, e)
 
-front_same : (k : ℕ) (u : List ℕ) → k ≤ length u → ink (drop k u) ≡ ink u → untilField u ≡ k + untilField (drop k u)
-unfolding untilField
+front_same : (k : ℕ) (u : List ℕ) → k ≤ length u → ink (drop k u) ≡ ink u → until_field u ≡ k + until_field (drop k u)
+unfolding until_field
 front_same zero u h e = omega arith
 front_same (suc k) [] h e = absurd (omega (arith, h))
 front_same (suc k) (b ∷ bs) h e =
@@ -53,66 +53,66 @@ front_same (suc k) (b ∷ bs) h e =
     let i = front_same k bs (omega (arith, h)) p.1 in
     rw p.0 (omega (arith, i))
 
-last_none : (k : ℕ) (u : List ℕ) → ink (drop k u) ≡ ink u → lastField k u ≡ 0
-unfolding lastField
+last_none : (k : ℕ) (u : List ℕ) → ink (drop k u) ≡ ink u → last_field k u ≡ 0
+unfolding last_field
 last_none zero u e = refl
 last_none (suc k) [] e = refl
 last_none (suc k) (b ∷ bs) e =
     let p = none_passed k b bs e in
     rw (p.0, last_none k bs p.1)
 
-last-nil : (k : ℕ) → lastField k [] ≡ 0
-unfolding lastField
+last-nil : (k : ℕ) → last_field k [] ≡ 0
+unfolding last_field
 last-nil zero = refl
 last-nil (suc k) = refl
 
 -- the last byte of a field before a place stands behind another place, or before it
-pub last-before : (at k : ℕ) (t : List ℕ) → lastField k (drop at t) ≡ 0 → lastField (at + k) t ≡ lastField at t
-unfolding lastField
+pub last-before : (at k : ℕ) (t : List ℕ) → last_field k (drop at t) ≡ 0 → last_field (at + k) t ≡ last_field at t
+unfolding last_field
 last-before zero k t e = let z : 0 + k ≡ k = omega arith in rw z e
 last-before (suc at) k [] e = last-nil (suc at + k)
 last-before (suc at) k (b ∷ t) e =
     let z : suc at + k ≡ suc (at + k) = omega arith in
     rw (z, last-before at k t e)
 
-pub last_within : (at k x : ℕ) (t : List ℕ) → lastField k (drop at t) ≡ suc x → lastField (at + k) t ≡ at + suc x
-unfolding lastField
+pub last_within : (at k x : ℕ) (t : List ℕ) → last_field k (drop at t) ≡ suc x → last_field (at + k) t ≡ at + suc x
+unfolding last_field
 last_within zero k x t e = let z : 0 + k ≡ k = omega arith in rw z (omega (arith, e))
 last_within (suc at) k x [] e = absurd (omega (arith, e, last-nil k))
 last_within (suc at) k x (b ∷ t) e =
     let z : suc at + k ≡ suc (at + k) = omega arith in
     let n : eqb (at + suc x) 0 ≡ false = ne_eqb (at + suc x) 0 (λ q. omega (arith, q)) in
-    rw (z, last_within at k x t e, n, and-false (not (inField (b ∷ t)))) (omega arith)
+    rw (z, last_within at k x t e, n, and-false (not (in_field (b ∷ t)))) (omega arith)
 
 -- two places with as many behind them
 module _ (t : List ℕ) where
-  front-on : (p k : ℕ) → p + k ≤ length t → ink (drop p t) ≡ ink (drop (p + k) t)
-      → p + untilField (drop p t) ≡ p + k + untilField (drop (p + k) t)
-  front-on p k h e =
+  front_on : (p k : ℕ) → p + k ≤ length t → ink (drop p t) ≡ ink (drop (p + k) t)
+      → p + until_field (drop p t) ≡ p + k + until_field (drop (p + k) t)
+  front_on p k h e =
       let d : drop k (drop p t) ≡ drop (p + k) t = drop-drop k p t in
       let i = front_same k (drop p t) (omega (arith, h, length-drop p t)) (ap ink d ∙ sym e) in
-      let j : untilField (drop k (drop p t)) ≡ untilField (drop (p + k) t) = ap untilField d in
+      let j : until_field (drop k (drop p t)) ≡ until_field (drop (p + k) t) = ap until_field d in
       omega (arith, i, j)
 
-  last_on : (p k : ℕ) → ink (drop p t) ≡ ink (drop (p + k) t) → lastField (p + k) t ≡ lastField p t
+  last_on : (p k : ℕ) → ink (drop p t) ≡ ink (drop (p + k) t) → last_field (p + k) t ≡ last_field p t
   last_on p k e = last-before p k t (last_none k (drop p t) (ap ink (drop-drop k p t) ∙ sym e))
 
-  front-two : (p q : ℕ) → p ≤ length t → q ≤ length t → ink (drop p t) ≡ ink (drop q t)
-      → p + untilField (drop p t) ≡ q + untilField (drop q t)
-  front-two p q h i e = go (ltb p q) refl
+  front_two : (p q : ℕ) → p ≤ length t → q ≤ length t → ink (drop p t) ≡ ink (drop q t)
+      → p + until_field (drop p t) ≡ q + until_field (drop q t)
+  front_two p q h i e = go (ltb p q) refl
     where
-      go : (u : Bool) → ltb p q ≡ u → p + untilField (drop p t) ≡ q + untilField (drop q t)
+      go : (u : Bool) → ltb p q ≡ u → p + until_field (drop p t) ≡ q + until_field (drop q t)
       go true l =
           let k : p + (q - p) ≡ q = omega (arith, ltb-true p q l) in
-          rw k at (front-on p (q - p) (omega (arith, k, i)) (e ∙ ap (λ j. ink (drop j t)) (sym k)))
+          rw k at (front_on p (q - p) (omega (arith, k, i)) (e ∙ ap (λ j. ink (drop j t)) (sym k)))
       go false l =
           let k : q + (p - q) ≡ p = omega (arith, ltb-false p q l) in
-          sym (rw k at (front-on q (p - q) (omega (arith, k, h)) (sym e ∙ ap (λ j. ink (drop j t)) (sym k))))
+          sym (rw k at (front_on q (p - q) (omega (arith, k, h)) (sym e ∙ ap (λ j. ink (drop j t)) (sym k))))
 
-  last-two : (p q : ℕ) → ink (drop p t) ≡ ink (drop q t) → lastField p t ≡ lastField q t
-  last-two p q e = go (ltb p q) refl
+  last_two : (p q : ℕ) → ink (drop p t) ≡ ink (drop q t) → last_field p t ≡ last_field q t
+  last_two p q e = go (ltb p q) refl
     where
-      go : (u : Bool) → ltb p q ≡ u → lastField p t ≡ lastField q t
+      go : (u : Bool) → ltb p q ≡ u → last_field p t ≡ last_field q t
       go true l =
           let k : p + (q - p) ≡ q = omega (arith, ltb-true p q l) in
           sym (rw k at (last_on p (q - p) (e ∙ ap (λ j. ink (drop j t)) (sym k))))
@@ -122,53 +122,53 @@ module _ (t : List ℕ) where
 
 -- how many bytes lines have in their fields
 
-unfoldable fieldsSize : List (List ℕ) → ℕ
-fieldsSize [] = 0
-fieldsSize (f ∷ fs) = length f + fieldsSize fs
+unfoldable fields_size : List (List ℕ) → ℕ
+fields_size [] = 0
+fields_size (f ∷ fs) = length f + fields_size fs
 
-unfoldable linesSize : List Line → ℕ
-linesSize [] = 0
-linesSize (l ∷ ls) = fieldsSize l.fields + linesSize ls
+unfoldable lines_size : List Line → ℕ
+lines_size [] = 0
+lines_size (l ∷ ls) = fields_size l.fields + lines_size ls
 
-with_size : (n : ℕ) (fs : List (List ℕ)) (ls : List Line) → linesSize (withLine n fs ls) ≡ fieldsSize fs + linesSize ls
-unfolding withLine linesSize fieldsSize
+with_size : (n : ℕ) (fs : List (List ℕ)) (ls : List Line) → lines_size (with_line n fs ls) ≡ fields_size fs + lines_size ls
+unfolding with_line lines_size fields_size
 with_size n [] ls = omega arith
 with_size n (f ∷ fs) ls = refl
 
-on-size : (b : ℕ) (t : Bool) (fs : List (List ℕ)) → fieldsSize (onField b t fs) ≡ suc (fieldsSize fs)
-unfolding onField fieldsSize
-on-size b false fs = omega arith
-on-size b true [] = omega arith
-on-size b true (f ∷ fs) = omega arith
+on_size : (b : ℕ) (t : Bool) (fs : List (List ℕ)) → fields_size (on_field b t fs) ≡ suc (fields_size fs)
+unfolding on_field fields_size
+on_size b false fs = omega arith
+on_size b true [] = omega arith
+on_size b true (f ∷ fs) = omega arith
 
 -- a byte at the front of the first line
-line-on-size : (n b : ℕ) (ls : List (List ℕ))
-    → linesSize (numbered n (onLine b ls)) ≡ cond (gap b) (linesSize (numbered n ls)) (suc (linesSize (numbered n ls)))
-unfolding numbered onLine fields_of linesSize withLine onField fieldsSize begins
-line-on-size n b [] = go (gap b)
+line_on_size : (n b : ℕ) (ls : List (List ℕ))
+    → lines_size (numbered n (on_line b ls)) ≡ cond (gap b) (lines_size (numbered n ls)) (suc (lines_size (numbered n ls)))
+unfolding numbered on_line fields_of lines_size with_line on_field fields_size begins
+line_on_size n b [] = go (gap b)
   where
-    go : (u : Bool) → linesSize (withLine n (cond u [] (onField b false [])) []) ≡ cond u (linesSize []) (suc (linesSize []))
+    go : (u : Bool) → lines_size (with_line n (cond u [] (on_field b false [])) []) ≡ cond u (lines_size []) (suc (lines_size []))
     go true = refl
     go false = refl
-line-on-size n b (l ∷ ls) = with_size n (fields_of (b ∷ l)) (numbered (suc n) ls) ∙ go (gap b)
+line_on_size n b (l ∷ ls) = with_size n (fields_of (b ∷ l)) (numbered (suc n) ls) ∙ go (gap b)
   where
-    go : (u : Bool) → fieldsSize (cond u (fields_of l) (onField b (begins l) (fields_of l))) + linesSize (numbered (suc n) ls)
-        ≡ cond u (linesSize (withLine n (fields_of l) (numbered (suc n) ls)))
-        (suc (linesSize (withLine n (fields_of l) (numbered (suc n) ls))))
+    go : (u : Bool) → fields_size (cond u (fields_of l) (on_field b (begins l) (fields_of l))) + lines_size (numbered (suc n) ls)
+        ≡ cond u (lines_size (with_line n (fields_of l) (numbered (suc n) ls)))
+        (suc (lines_size (with_line n (fields_of l) (numbered (suc n) ls))))
     go true = sym (with_size n (fields_of l) (numbered (suc n) ls))
-    go false = omega (arith, on-size b (begins l) (fields_of l), with_size n (fields_of l) (numbered (suc n) ls))
+    go false = omega (arith, on_size b (begins l) (fields_of l), with_size n (fields_of l) (numbered (suc n) ls))
 
 -- a text has as many bytes of fields as its lines have in theirs
-text-size : (n : ℕ) (u : List ℕ) → ink u ≡ linesSize (numbered n (lines_of u))
-unfolding ink lines_of inField linesSize numbered withLine fields_of
-text-size n [] = refl
-text-size n (b ∷ bs) = go (eqb b lf) (eqb b cr && lfNext bs) (gap b) (text-size (suc n) bs) (text-size n bs) (line-on-size n b (lines_of bs))
+text_size : (n : ℕ) (u : List ℕ) → ink u ≡ lines_size (numbered n (lines_of u))
+unfolding ink lines_of in_field lines_size numbered with_line fields_of
+text_size n [] = refl
+text_size n (b ∷ bs) = go (eqb b lf) (eqb b cr && lf_next bs) (gap b) (text_size (suc n) bs) (text_size n bs) (line_on_size n b (lines_of bs))
   where
-    go : (u v g : Bool) → ink bs ≡ linesSize (numbered (suc n) (lines_of bs)) → ink bs ≡ linesSize (numbered n (lines_of bs))
-        → linesSize (numbered n (onLine b (lines_of bs)))
-        ≡ cond g (linesSize (numbered n (lines_of bs))) (suc (linesSize (numbered n (lines_of bs))))
+    go : (u v g : Bool) → ink bs ≡ lines_size (numbered (suc n) (lines_of bs)) → ink bs ≡ lines_size (numbered n (lines_of bs))
+        → lines_size (numbered n (on_line b (lines_of bs)))
+        ≡ cond g (lines_size (numbered n (lines_of bs))) (suc (lines_size (numbered n (lines_of bs))))
         → cond (not (g || (u || v))) (suc (ink bs)) (ink bs)
-        ≡ linesSize (numbered n (cond u ([] ∷ lines_of bs) (cond v (lines_of bs) (onLine b (lines_of bs)))))
+        ≡ lines_size (numbered n (cond u ([] ∷ lines_of bs) (cond v (lines_of bs) (on_line b (lines_of bs)))))
     go true v true i j k = i
     go true v false i j k = i
     go false true true i j k = j
@@ -179,13 +179,13 @@ text-size n (b ∷ bs) = go (eqb b lf) (eqb b cr && lfNext bs) (gap b) (text-siz
 -- two places with the same lines behind them
 module _ (t : List ℕ) (n p k q : ℕ) (e : lines_from n t p ≡ lines_from k t q) where
   same : ink (drop p t) ≡ ink (drop q t)
-  same = text-size n (drop p t) ∙ ap linesSize e ∙ sym (text-size k (drop q t))
+  same = text_size n (drop p t) ∙ ap lines_size e ∙ sym (text_size k (drop q t))
 
-  pub front-lines : p ≤ length t → q ≤ length t → p + untilField (drop p t) ≡ q + untilField (drop q t)
-  front-lines h i = front-two t p q h i same
+  pub front-lines : p ≤ length t → q ≤ length t → p + until_field (drop p t) ≡ q + until_field (drop q t)
+  front-lines h i = front_two t p q h i same
 
-  pub last-lines : lastField p t ≡ lastField q t
-  last-lines = last-two t p q same
+  pub last-lines : last_field p t ≡ last_field q t
+  last-lines = last_two t p q same
 
 -- the first line of a text
 
@@ -195,18 +195,18 @@ module _ (b : ℕ) (bs l : List ℕ) (ls : List (List ℕ)) where
   first-lf e h = let k : [] ∷ lines_of bs ≡ l ∷ ls = rw e at h in cc
 
   -- one more byte, which is no line's end
-  on-first : onLine b (lines_of bs) ≡ l ∷ ls → (C : Type 0) → (lines_of bs ≡ [] → l ≡ b ∷ [] → C)
+  on_first : on_line b (lines_of bs) ≡ l ∷ ls → (C : Type 0) → (lines_of bs ≡ [] → l ≡ b ∷ [] → C)
       → ((m : List ℕ) (ms : List (List ℕ)) → lines_of bs ≡ m ∷ ms → l ≡ b ∷ m → C) → C
-  unfolding onLine
-  on-first h C f g = go (lines_of bs) refl h
+  unfolding on_line
+  on_first h C f g = go (lines_of bs) refl h
     where
-      go : (ks : List (List ℕ)) → lines_of bs ≡ ks → onLine b ks ≡ l ∷ ls → C
+      go : (ks : List (List ℕ)) → lines_of bs ≡ ks → on_line b ks ≡ l ∷ ls → C
       go [] e k = f e cc
       go (m ∷ ms) e k = g m ms e cc
 
 -- where an LF is next, the line ends
-ends-lf : (c : Bool) (bs l : List ℕ) (ls : List (List ℕ)) → (c && lfNext bs) ≡ true → lines_of bs ≡ l ∷ ls → l ≡ []
-unfolding lfNext
+ends-lf : (c : Bool) (bs l : List ℕ) (ls : List (List ℕ)) → (c && lf_next bs) ≡ true → lines_of bs ≡ l ∷ ls → l ≡ []
+unfolding lf_next
 ends-lf c [] l ls e h = absurd (false≢true (sym (and-false c) ∙ e))
 ends-lf c (x ∷ xs) l ls e h = first-lf x xs l ls (go c e) h
   where
@@ -215,131 +215,131 @@ ends-lf c (x ∷ xs) l ls e h = first-lf x xs l ls (go c e) h
     go false e = absurd (false≢true e)
 
 line-none : (u : List ℕ) → lines_of u ≡ [] → u ≡ []
-unfolding lines_of onLine lfNext
+unfolding lines_of on_line lf_next
 line-none [] e = refl
-line-none (b ∷ bs) e = go (eqb b lf) (eqb b cr && lfNext bs) refl (λ k. line-none bs k) e
+line-none (b ∷ bs) e = go (eqb b lf) (eqb b cr && lf_next bs) refl (λ k. line-none bs k) e
   where
-    some : (ls : List (List ℕ)) → onLine b ls ≡ [] → b ∷ bs ≡ []
+    some : (ls : List (List ℕ)) → on_line b ls ≡ [] → b ∷ bs ≡ []
     some [] k = clash cc
     some (l ∷ ls) k = clash cc
 
-    next : (xs : List ℕ) → (eqb b cr && lfNext xs) ≡ true → xs ≡ [] → ⊥
+    next : (xs : List ℕ) → (eqb b cr && lf_next xs) ≡ true → xs ≡ [] → ⊥
     next [] h k = false≢true (sym (and-false (eqb b cr)) ∙ h)
     next (x ∷ xs) h k = clash cc
 
-    go : (u v : Bool) → (eqb b cr && lfNext bs) ≡ v → (lines_of bs ≡ [] → bs ≡ [])
-        → cond u ([] ∷ lines_of bs) (cond v (lines_of bs) (onLine b (lines_of bs))) ≡ [] → b ∷ bs ≡ []
+    go : (u v : Bool) → (eqb b cr && lf_next bs) ≡ v → (lines_of bs ≡ [] → bs ≡ [])
+        → cond u ([] ∷ lines_of bs) (cond v (lines_of bs) (on_line b (lines_of bs))) ≡ [] → b ∷ bs ≡ []
     go true v h f k = clash cc
     go false true h f k = absurd (next bs h (f k))
     go false false h f k = some (lines_of bs) k
 
 -- its last field ends where the last one before the line's end does
-pub first-last : (u l : List ℕ) (ls : List (List ℕ)) → lines_of u ≡ l ∷ ls → lastField (suc (untilLf u)) u ≡ last_end l
-unfolding lines_of untilLf lastField inField last_end
+pub first-last : (u l : List ℕ) (ls : List (List ℕ)) → lines_of u ≡ l ∷ ls → last_field (suc (until_lf u)) u ≡ last_end l
+unfolding lines_of until_lf last_field in_field last_end
 first-last [] l ls h = clash cc
-first-last (b ∷ bs) l ls h = go (eqb b lf) (eqb b cr && lfNext bs) refl (gap b) refl (λ l ls k. first-last bs l ls k) h
+first-last (b ∷ bs) l ls h = go (eqb b lf) (eqb b cr && lf_next bs) refl (gap b) refl (λ l ls k. first-last bs l ls k) h
   where
-    go : (u v : Bool) → (eqb b cr && lfNext bs) ≡ v → (g : Bool) → gap b ≡ g
-        → ((l : List ℕ) (ls : List (List ℕ)) → lines_of bs ≡ l ∷ ls → lastField (suc (untilLf bs)) bs ≡ last_end l)
-        → cond u ([] ∷ lines_of bs) (cond v (lines_of bs) (onLine b (lines_of bs))) ≡ l ∷ ls
-        → cond (not (not (g || (u || v))) && eqb (lastField (cond u 0 (suc (untilLf bs))) bs) 0) 0
-        (suc (lastField (cond u 0 (suc (untilLf bs))) bs))
+    go : (u v : Bool) → (eqb b cr && lf_next bs) ≡ v → (g : Bool) → gap b ≡ g
+        → ((l : List ℕ) (ls : List (List ℕ)) → lines_of bs ≡ l ∷ ls → last_field (suc (until_lf bs)) bs ≡ last_end l)
+        → cond u ([] ∷ lines_of bs) (cond v (lines_of bs) (on_line b (lines_of bs))) ≡ l ∷ ls
+        → cond (not (not (g || (u || v))) && eqb (last_field (cond u 0 (suc (until_lf bs))) bs) 0) 0
+        (suc (last_field (cond u 0 (suc (until_lf bs))) bs))
         ≡ last_end l
     go true v e true i f k = let q : l ≡ [] = cc in rw q
     go true v e false i f k = let q : l ≡ [] = cc in rw q
     go false true e g i f k = within g (f l ls k) (ends-lf (eqb b cr) bs l ls e k)
       where
-        within : (g : Bool) → lastField (suc (untilLf bs)) bs ≡ last_end l → l ≡ []
-            → cond (not (not (g || true)) && eqb (lastField (suc (untilLf bs)) bs) 0) 0 (suc (lastField (suc (untilLf bs)) bs)) ≡ last_end l
+        within : (g : Bool) → last_field (suc (until_lf bs)) bs ≡ last_end l → l ≡ []
+            → cond (not (not (g || true)) && eqb (last_field (suc (until_lf bs)) bs) 0) 0 (suc (last_field (suc (until_lf bs)) bs)) ≡ last_end l
         within true j q = rw (j, q)
         within false j q = rw (j, q)
-    go false false e g i f k = on-first b bs l ls k _ alone more
+    go false false e g i f k = on_first b bs l ls k _ alone more
       where
         tested : (g : Bool) (x y : ℕ) → x ≡ y → cond (not (not (g || false)) && eqb x 0) 0 (suc x) ≡ cond (g && eqb y 0) 0 (suc y)
         tested true x y j = rw j
         tested false x y j = rw j
 
         alone : lines_of bs ≡ [] → l ≡ b ∷ []
-            → cond (not (not (g || false)) && eqb (lastField (suc (untilLf bs)) bs) 0) 0 (suc (lastField (suc (untilLf bs)) bs)) ≡ last_end l
+            → cond (not (not (g || false)) && eqb (last_field (suc (until_lf bs)) bs) 0) 0 (suc (last_field (suc (until_lf bs)) bs)) ≡ last_end l
         alone z q =
             let n : bs ≡ [] = line-none bs z in
-            rw (q, i) (tested g _ 0 (ap (λ u. lastField (suc (untilLf u)) u) n))
+            rw (q, i) (tested g _ 0 (ap (λ u. last_field (suc (until_lf u)) u) n))
 
         more : (m : List ℕ) (ms : List (List ℕ)) → lines_of bs ≡ m ∷ ms → l ≡ b ∷ m
-            → cond (not (not (g || false)) && eqb (lastField (suc (untilLf bs)) bs) 0) 0 (suc (lastField (suc (untilLf bs)) bs)) ≡ last_end l
+            → cond (not (not (g || false)) && eqb (last_field (suc (until_lf bs)) bs) 0) 0 (suc (last_field (suc (until_lf bs)) bs)) ≡ last_end l
         more m ms z q = rw (q, i) (tested g _ (last_end m) (f m ms z))
 
 -- and its first one begins where the text's first one does
-pub first-until : (u l : List ℕ) (ls : List (List ℕ)) → lines_of u ≡ l ∷ ls → (fields_of l ≡ [] → ⊥) → untilField u ≡ gaps l
-unfolding lines_of untilField inField gaps fields_of
-first-until [] l ls h n = clash cc
-first-until (b ∷ bs) l ls h n = go (eqb b lf) (eqb b cr && lfNext bs) refl (gap b) refl (λ l ls k i. first-until bs l ls k i) h
+pub first_until : (u l : List ℕ) (ls : List (List ℕ)) → lines_of u ≡ l ∷ ls → (fields_of l ≡ [] → ⊥) → until_field u ≡ gaps l
+unfolding lines_of until_field in_field gaps fields_of
+first_until [] l ls h n = clash cc
+first_until (b ∷ bs) l ls h n = go (eqb b lf) (eqb b cr && lf_next bs) refl (gap b) refl (λ l ls k i. first_until bs l ls k i) h
   where
-    go : (u v : Bool) → (eqb b cr && lfNext bs) ≡ v → (g : Bool) → gap b ≡ g
-        → ((l : List ℕ) (ls : List (List ℕ)) → lines_of bs ≡ l ∷ ls → (fields_of l ≡ [] → ⊥) → untilField bs ≡ gaps l)
-        → cond u ([] ∷ lines_of bs) (cond v (lines_of bs) (onLine b (lines_of bs))) ≡ l ∷ ls
-        → cond (not (g || (u || v))) 0 (suc (untilField bs)) ≡ gaps l
+    go : (u v : Bool) → (eqb b cr && lf_next bs) ≡ v → (g : Bool) → gap b ≡ g
+        → ((l : List ℕ) (ls : List (List ℕ)) → lines_of bs ≡ l ∷ ls → (fields_of l ≡ [] → ⊥) → until_field bs ≡ gaps l)
+        → cond u ([] ∷ lines_of bs) (cond v (lines_of bs) (on_line b (lines_of bs))) ≡ l ∷ ls
+        → cond (not (g || (u || v))) 0 (suc (until_field bs)) ≡ gaps l
     go true v e g i f k = let q : l ≡ [] = cc in absurd (n (ap fields_of q))
     go false true e g i f k = absurd (n (ap fields_of (ends-lf (eqb b cr) bs l ls e k)))
-    go false false e true i f k = on-first b bs l ls k _ (λ z q. absurd (n (rw (q, i)))) more
+    go false false e true i f k = on_first b bs l ls k _ (λ z q. absurd (n (rw (q, i)))) more
       where
-        more : (m : List ℕ) (ms : List (List ℕ)) → lines_of bs ≡ m ∷ ms → l ≡ b ∷ m → suc (untilField bs) ≡ gaps l
+        more : (m : List ℕ) (ms : List (List ℕ)) → lines_of bs ≡ m ∷ ms → l ≡ b ∷ m → suc (until_field bs) ≡ gaps l
         more m ms z q = rw (q, i) (ap suc (f m ms z (λ j. n (rw (q, i) j))))
-    go false false e false i f k = on-first b bs l ls k _ (λ z q. rw (q, i)) (λ m ms z q. rw (q, i))
+    go false false e false i f k = on_first b bs l ls k _ (λ z q. rw (q, i)) (λ m ms z q. rw (q, i))
 
 -- behind the text's end stands nothing
-last-over : (k : ℕ) (u : List ℕ) → length u ≤ k → lastField (suc k) u ≡ lastField k u
-unfolding lastField
+last-over : (k : ℕ) (u : List ℕ) → length u ≤ k → last_field (suc k) u ≡ last_field k u
+unfolding last_field
 last-over zero [] h = refl
 last-over zero (b ∷ u) h = absurd (omega (arith, h))
 last-over (suc k) [] h = refl
-last-over (suc k) (b ∷ u) h = let i = last-over k u (omega (arith, h)) in ap (λ x. cond (not (inField (b ∷ u)) && eqb x 0) 0 (suc x)) i
+last-over (suc k) (b ∷ u) h = let i = last-over k u (omega (arith, h)) in ap (λ x. cond (not (in_field (b ∷ u)) && eqb x 0) 0 (suc x)) i
 
 -- up to the next line
-pub next_last : (t : List ℕ) (at : ℕ) → lastField (line_at t at).next t ≡ lastField (at + suc (untilLf (drop at t))) t
-unfolding line_at lineEnding
-next_last t at = go (ltb (at + untilLf (drop at t)) (length t)) refl
+pub next_last : (t : List ℕ) (at : ℕ) → last_field (line_at t at).next t ≡ last_field (at + suc (until_lf (drop at t))) t
+unfolding line_at line_ending
+next_last t at = go (ltb (at + until_lf (drop at t)) (length t)) refl
   where
-    go : (u : Bool) → ltb (at + untilLf (drop at t)) (length t) ≡ u
-        → lastField (cond {A = OneLine} u (record { to = lineTo t at (at + untilLf (drop at t)); next = at + untilLf (drop at t) + 1 })
-        (record { to = at + untilLf (drop at t); next = at + untilLf (drop at t) })).next t
-        ≡ lastField (at + suc (untilLf (drop at t))) t
-    go true e = let q : at + untilLf (drop at t) + 1 ≡ at + suc (untilLf (drop at t)) = omega arith in ap (λ k. lastField k t) q
+    go : (u : Bool) → ltb (at + until_lf (drop at t)) (length t) ≡ u
+        → last_field (cond {A = OneLine} u (record { to = line_to t at (at + until_lf (drop at t)); next = at + until_lf (drop at t) + 1 })
+        (record { to = at + until_lf (drop at t); next = at + until_lf (drop at t) })).next t
+        ≡ last_field (at + suc (until_lf (drop at t))) t
+    go true e = let q : at + until_lf (drop at t) + 1 ≡ at + suc (until_lf (drop at t)) = omega arith in ap (λ k. last_field k t) q
     go false e =
-        let q : suc (at + untilLf (drop at t)) ≡ at + suc (untilLf (drop at t)) = omega arith in
-        sym (last-over (at + untilLf (drop at t)) t (ltb-false (at + untilLf (drop at t)) (length t) e)) ∙ ap (λ k. lastField k t) q
+        let q : suc (at + until_lf (drop at t)) ≡ at + suc (until_lf (drop at t)) = omega arith in
+        sym (last-over (at + until_lf (drop at t)) t (ltb-false (at + until_lf (drop at t)) (length t) e)) ∙ ap (λ k. last_field k t) q
 
 -- whether the byte at a place is one of a field
 
-pub byte-over : (t : List ℕ) (i : ℕ) → length t ≤ i → inField (drop i t) ≡ false
-unfolding inField
-byte-over t i h = ap inField (drop_of_length-le t h)
+pub byte-over : (t : List ℕ) (i : ℕ) → length t ≤ i → in_field (drop i t) ≡ false
+unfolding in_field
+byte-over t i h = ap in_field (drop_of_length-le t h)
 
 module _ (t : List ℕ) (i : ℕ) (inside : i < length t) where
-  byte-here : inField (drop i t) ≡ not (gap (get_or t i 0) || (eqb (get_or t i 0) lf || (eqb (get_or t i 0) cr && lfNext (drop (suc i) t))))
-  unfolding inField
-  byte-here = ap inField (drop-cons t i 0 inside)
+  byte-here : in_field (drop i t) ≡ not (gap (get_or t i 0) || (eqb (get_or t i 0) lf || (eqb (get_or t i 0) cr && lf_next (drop (suc i) t))))
+  unfolding in_field
+  byte-here = ap in_field (drop-cons t i 0 inside)
 
-  pub byte-gap : gap (get_or t i 0) ≡ true → inField (drop i t) ≡ false
+  pub byte-gap : gap (get_or t i 0) ≡ true → in_field (drop i t) ≡ false
   byte-gap g = byte-here ∙ rw g
 
   module _ (field : gap (get_or t i 0) ≡ false) where
-    pub byte-lf : eqb (get_or t i 0) lf ≡ true → inField (drop i t) ≡ false
+    pub byte-lf : eqb (get_or t i 0) lf ≡ true → in_field (drop i t) ≡ false
     byte-lf e = byte-here ∙ rw (field, e)
 
     module _ (line : eqb (get_or t i 0) lf ≡ false) where
-      pub byte-some : eqb (get_or t i 0) cr ≡ false → inField (drop i t) ≡ true
+      pub byte-some : eqb (get_or t i 0) cr ≡ false → in_field (drop i t) ≡ true
       byte-some e = byte-here ∙ rw (field, line, e)
 
-      pub byte_last : length t ≤ i + 1 → inField (drop i t) ≡ true
-      unfolding lfNext
+      pub byte_last : length t ≤ i + 1 → in_field (drop i t) ≡ true
+      unfolding lf_next
       byte_last h =
           let k : length t ≤ suc i = omega (arith, h) in
           let n : drop (suc i) t ≡ [] = drop_of_length-le t k in
           byte-here ∙ rw (field, line, n, and-false (eqb (get_or t i 0) cr))
 
-      pub byte-cr : eqb (get_or t i 0) cr ≡ true → i + 1 < length t → inField (drop i t) ≡ not (eqb (get_or t (i + 1) 0) lf)
-      unfolding lfNext
+      pub byte-cr : eqb (get_or t i 0) cr ≡ true → i + 1 < length t → in_field (drop i t) ≡ not (eqb (get_or t (i + 1) 0) lf)
+      unfolding lf_next
       byte-cr e h =
           let k : suc i ≡ i + 1 = omega arith in
           let n : drop (suc i) t ≡ get_or t (suc i) 0 ∷ drop (suc (suc i)) t = drop-cons t (suc i) 0 (omega (arith, h)) in
@@ -347,43 +347,43 @@ module _ (t : List ℕ) (i : ℕ) (inside : i < length t) where
 
 -- a loop that goes on to the first byte of a field
 module _ (t : List ℕ) (i : ℕ) where
-  pub until_stop : inField (drop i t) ≡ true → untilField (drop i t) ≡ 0
-  unfolding untilField
+  pub until_stop : in_field (drop i t) ≡ true → until_field (drop i t) ≡ 0
+  unfolding until_field
   until_stop e = go (drop i t) e
     where
-      go : (u : List ℕ) → inField u ≡ true → untilField u ≡ 0
+      go : (u : List ℕ) → in_field u ≡ true → until_field u ≡ 0
       go [] e = refl
       go (b ∷ u) e = rw e
 
-  pub until-on : i < length t → inField (drop i t) ≡ false → untilField (drop i t) ≡ suc (untilField (drop (i + 1) t))
-  unfolding untilField
-  until-on h e =
+  pub until_on : i < length t → in_field (drop i t) ≡ false → until_field (drop i t) ≡ suc (until_field (drop (i + 1) t))
+  unfolding until_field
+  until_on h e =
       let k : suc i ≡ i + 1 = omega arith in
       let n : drop i t ≡ get_or t i 0 ∷ drop (suc i) t = drop-cons t i 0 h in
-      let f : inField (get_or t i 0 ∷ drop (suc i) t) ≡ false = ap inField (sym n) ∙ e in
-      ap untilField n ∙ rw f (ap (λ j. suc (untilField (drop j t))) k)
+      let f : in_field (get_or t i 0 ∷ drop (suc i) t) ≡ false = ap in_field (sym n) ∙ e in
+      ap until_field n ∙ rw f (ap (λ j. suc (until_field (drop j t))) k)
 
-  pub until_end : length t ≤ i → untilField (drop i t) ≡ 0
-  unfolding untilField
-  until_end h = ap untilField (drop_of_length-le t h)
+  pub until_end : length t ≤ i → until_field (drop i t) ≡ 0
+  unfolding until_field
+  until_end h = ap until_field (drop_of_length-le t h)
 
 -- one that goes back to the last
 module _ (t : List ℕ) (e : ℕ) (some : 0 < e) where
   back : e - 1 + 1 ≡ e
   back = omega arith
 
-  pub end-stop : inField (drop (e - 1) t) ≡ true → lastField e t ≡ e
-  unfolding lastField inField
-  end-stop h = ap (λ n. lastField n t) (sym back) ∙ last_within (e - 1) 1 0 t (go (drop (e - 1) t) h) ∙ omega (arith, back)
+  pub end_stop : in_field (drop (e - 1) t) ≡ true → last_field e t ≡ e
+  unfolding last_field in_field
+  end_stop h = ap (λ n. last_field n t) (sym back) ∙ last_within (e - 1) 1 0 t (go (drop (e - 1) t) h) ∙ omega (arith, back)
     where
-      go : (u : List ℕ) → inField u ≡ true → lastField 1 u ≡ 1
+      go : (u : List ℕ) → in_field u ≡ true → last_field 1 u ≡ 1
       go [] h = absurd (false≢true h)
       go (b ∷ u) h = rw h
 
-  pub end_on : inField (drop (e - 1) t) ≡ false → lastField e t ≡ lastField (e - 1) t
-  unfolding lastField
-  end_on h = ap (λ n. lastField n t) (sym back) ∙ last-before (e - 1) 1 t (go (drop (e - 1) t) h)
+  pub end_on : in_field (drop (e - 1) t) ≡ false → last_field e t ≡ last_field (e - 1) t
+  unfolding last_field
+  end_on h = ap (λ n. last_field n t) (sym back) ∙ last-before (e - 1) 1 t (go (drop (e - 1) t) h)
     where
-      go : (u : List ℕ) → inField u ≡ false → lastField 1 u ≡ 0
+      go : (u : List ℕ) → in_field u ≡ false → last_field 1 u ≡ 0
       go [] h = refl
       go (b ∷ u) h = rw h

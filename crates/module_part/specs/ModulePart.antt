@@ -4,7 +4,7 @@ use Rattle.std.specs.Prelude.{ℕ, zero, suc, ◌+◌, Bool, true, false, cond, 
 use Rattle.fields.specs.Fields.{gap, gaps, fields_of, part}
 use Rattle.fields.specs.Lines.{line_at}
 use Rattle.fields.specs.Readers.{FieldsGot, no, got}
-use Rattle.text_lines.specs.Kinds.{moduleDue}
+use Rattle.text_lines.specs.Kinds.{module_due}
 use Rattle.module_part.specs.declared.Part.{Part}
 
 -- how many bytes of a line stand before the end of its last field
@@ -18,7 +18,7 @@ begun (no c) = false
 begun (got a fs) = true
 
 abbrev pub is_of : ℕ → List ℕ → Bool
-is_of m l = begun (moduleDue m (fields_of l))
+is_of m l = begun (module_due m (fields_of l))
 
 abbrev pub no_part : Part
 no_part = record { from = 0; to = 0 }
@@ -28,14 +28,14 @@ abbrev pub widened : Part → ℕ → ℕ → Part
 widened s from to = record { from = cond (eqb s.to 0) from s.from; to = to }
 
 -- the part s, and behind it the line l that begins at a place, where it is of module m: "first field to last"
-unfoldable pub withLine : ℕ → Part → ℕ → List ℕ → Part
-withLine m s at l = cond (is_of m l) (widened s (at + gaps l) (at + last_end l)) s
+unfoldable pub with_line : ℕ → Part → ℕ → List ℕ → Part
+with_line m s at l = cond (is_of m l) (widened s (at + gaps l) (at + last_end l)) s
 
 -- the same with the lines of a text from a place on, n of them at most
-unfoldable pub partFrom : ℕ → ℕ → List ℕ → ℕ → Part → Part
-partFrom zero m t at s = s
-partFrom (suc n) m t at s = cond (ltb at (length t)) (partFrom n m t (line_at t at).next (withLine m s at (part t at (line_at t at).to))) s
+unfoldable pub part_from : ℕ → ℕ → List ℕ → ℕ → Part → Part
+part_from zero m t at s = s
+part_from (suc n) m t at s = cond (ltb at (length t)) (part_from n m t (line_at t at).next (with_line m s at (part t at (line_at t at).to))) s
 
 -- the part of a text from the first field of module m's lines to the last one; each line has a byte at least, its end
-unfoldable pub modulePart : ℕ → List ℕ → Part
-modulePart m t = partFrom (length t) m t 0 no_part
+unfoldable pub module_part : ℕ → List ℕ → Part
+module_part m t = part_from (length t) m t 0 no_part

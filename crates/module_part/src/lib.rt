@@ -2,7 +2,7 @@
 // text has marked a place before them and a place behind them.
 ghost use Rattle.std.specs.Prelude.{◌≡◌, drop, ◌+◌};
 ghost use Rattle.fields.specs.Fields.{gap};
-ghost use Rattle.module_part.specs.Trimmed.{inField, untilField, lastField, trimmed};
+ghost use Rattle.module_part.specs.Trimmed.{in_field, until_field, last_field, trimmed};
 
 use text_reader::Marks;
 
@@ -21,7 +21,7 @@ fn is_gap(b: u8) -> bool
 
 // Whether the byte at a place is one of a field: neither a space nor a tab, nor of a line's end.
 fn is_field_byte(text: &[u8], i: usize) -> bool
-    ensures { result ≡ inField (drop i text.now) }
+    ensures { result ≡ in_field (drop i text.now) }
 {
     if i >= text.len() {
         return false;
@@ -44,7 +44,7 @@ fn is_field_byte(text: &[u8], i: usize) -> bool
 
 // Where the first field at or behind a place begins.
 fn field_from(text: &[u8], at: usize) -> usize
-    ensures { result ≡ at + untilField (drop at text.now) }
+    ensures { result ≡ at + until_field (drop at text.now) }
 {
     let mut i = at;
     while i < text.len() {
@@ -58,7 +58,7 @@ fn field_from(text: &[u8], at: usize) -> usize
 
 // Where the last field before a place ends.
 fn field_end(text: &[u8], to: usize) -> usize
-    ensures { result ≡ lastField to text.now }
+    ensures { result ≡ last_field to text.now }
 {
     let mut e = to;
     while e > 0 {

@@ -10,27 +10,27 @@ use lib.Dec.{leb}
 use lib.ListN.{get_or, replicate}
 use Rattle.units.proofs.TestLaws.{clash}
 use Rattle.units.specs.declared.Refusal.{Refusal}
-use Rattle.fields.specs.Bytes.{bytes, sameBytes}
+use Rattle.fields.specs.Bytes.{bytes, same_bytes}
 use Rattle.fields.specs.Lines.{Line}
-use Rattle.fields.specs.Numbers.{decimalOf}
-use Rattle.fields.specs.Readers.{no, got, FieldsGot, Reader, after, give, bytesDue, between, within}
+use Rattle.fields.specs.Numbers.{decimal_of}
+use Rattle.fields.specs.Readers.{no, got, FieldsGot, Reader, after, give, bytes_due, between, within}
 use Rattle.fields.proofs.ReaderLaws.{after-got}
-use Rattle.soc.specs.Limits.{modulesMax}
+use Rattle.soc.specs.Limits.{modules_max}
 use Rattle.soc.specs.declared.record.Module.{Module}
-use Rattle.text_lines.specs.Parts.{due, dueIs, keyed, rule, says, whole}
-use Rattle.text_lines.specs.Kinds.{Name, Options, Shape, BlockStart, moduleDue, overlayLine, blockNumber, blockShape, block_line}
+use Rattle.text_lines.specs.Parts.{due, due_is, keyed, rule, says, whole}
+use Rattle.text_lines.specs.Kinds.{Name, Options, Shape, BlockStart, module_due, overlay_line, block_number, block_shape, block_line}
 use Rattle.text_lines.proofs.BoundLaws.{closed-got}
 use Rattle.text_reader.specs.Lines.{LinesRead, line}
-use Rattle.text_reader.specs.Reading.{moduleRest}
+use Rattle.text_reader.specs.Reading.{module_rest}
 use Rattle.text_reader.specs.Marks.{Other, LinesOf, Marked}
 use Rattle.text_reader.specs.declared.marks.Marks.{Marks}
 use Rattle.text_reader.specs.declared.step.Step.TheVariants as step
-use Rattle.text_reader.proofs.CountLaws.{after-gives}
-use Rattle.text_reader.proofs.LinesOfLaws.{line_first, rest-passes, word-other}
-use Rattle.text_reader.proofs.MarkLaws.{marked-line}
+use Rattle.text_reader.proofs.CountLaws.{after_gives}
+use Rattle.text_reader.proofs.LinesOfLaws.{line_first, rest-passes, word_other}
+use Rattle.text_reader.proofs.MarkLaws.{marked_line}
 use Rattle.text_line_reader.specs.declared.place.Place.{Place}
-use Rattle.overlay.specs.Overlay.{Block, block, goesOn, refusedOverlay, acceptedOverlay}
-use Rattle.overlay.specs.OverlayMarks.{EndMarked, BlocksMarked, refusedMarked, acceptedMarked, OverlayReadMarked}
+use Rattle.overlay.specs.Overlay.{Block, block, goes_on, refused_overlay, accepted_overlay}
+use Rattle.overlay.specs.OverlayMarks.{EndMarked, BlocksMarked, refused_marked, accepted_marked, OverlayReadMarked}
 use Rattle.overlay.specs.declared.block.BlocksStep.{BlocksStep}
 use Rattle.overlay.specs.declared.read.Overlay.{Overlay}
 use Rattle.overlay.specs.declared.read.OverlayMarked.{OverlayMarked}
@@ -38,77 +38,77 @@ use Rattle.overlay.specs.declared.read.OverlayRead.{OverlayRead}
 
 -- the number of a block is the one due there
 
-decimal-due : (m : ℕ) (d : Option ℕ) (fs gs : List (List ℕ)) → within 0 (modulesMax - 1) d fs ≡ got m gs → dueIs m d fs ≡ got tt gs
-unfolding within dueIs
+decimal-due : (m : ℕ) (d : Option ℕ) (fs gs : List (List ℕ)) → within 0 (modules_max - 1) d fs ≡ got m gs → due_is m d fs ≡ got tt gs
+unfolding within due_is
 decimal-due m none fs gs h = clash cc
-decimal-due m (some v) fs gs h = go (leb 0 v && leb v (modulesMax - 1)) h
+decimal-due m (some v) fs gs h = go (leb 0 v && leb v (modules_max - 1)) h
   where
-    go : (t : Bool) → cond {A = FieldsGot ℕ} t (got v fs) (no 4) ≡ got m gs → dueIs m (some v) fs ≡ got tt gs
+    go : (t : Bool) → cond {A = FieldsGot ℕ} t (got v fs) (no 4) ≡ got m gs → due_is m (some v) fs ≡ got tt gs
     go true h =
         let q : v ≡ m = cc in
         let k : fs ≡ gs = cc in
         rw (eq-eqb v m q) (ap (got tt) k)
     go false h = clash cc
 
-between-due : (m : ℕ) (fs gs : List (List ℕ)) → between 0 (modulesMax - 1) fs ≡ got m gs → due m fs ≡ got tt gs
+between-due : (m : ℕ) (fs gs : List (List ℕ)) → between 0 (modules_max - 1) fs ≡ got m gs → due m fs ≡ got tt gs
 unfolding between due
 between-due m [] gs h = clash cc
-between-due m (f ∷ fs) gs h = decimal-due m (decimalOf f) fs gs h
+between-due m (f ∷ fs) gs h = decimal-due m (decimal_of f) fs gs h
 
-key-due : (m : ℕ) (fs gs : List (List ℕ)) → keyed "Module" 0 (modulesMax - 1) fs ≡ got m gs → moduleDue m fs ≡ got tt gs
+key-due : (m : ℕ) (fs gs : List (List ℕ)) → keyed "Module" 0 (modules_max - 1) fs ≡ got m gs → module_due m fs ≡ got tt gs
 key-due m fs gs h =
-    after-gives _ m gs (bytesDue (bytes "Module") fs)
-    (λ u ks e k. after-got (bytesDue (bytes "Module") fs) (λ _. due m) u ks e ∙ between-due m ks gs k) h
+    after_gives _ m gs (bytes_due (bytes "Module") fs)
+    (λ u ks e k. after-got (bytes_due (bytes "Module") fs) (λ _. due m) u ks e ∙ between-due m ks gs k) h
 
 rule-left : (t : Bool) (fs gs : List (List ℕ)) (u : Unit {0}) → rule t fs ≡ got u gs → fs ≡ gs
 unfolding rule
 rule-left true fs gs u h = cc
 rule-left false fs gs u h = clash cc
 
-pub number-due : (low m : ℕ) (fs gs : List (List ℕ)) → blockNumber low fs ≡ got m gs → moduleDue m fs ≡ got tt gs
-unfolding blockNumber
-number-due low m fs gs h = after-gives _ m gs (keyed "Module" 0 (modulesMax - 1) fs) key h
+pub number-due : (low m : ℕ) (fs gs : List (List ℕ)) → block_number low fs ≡ got m gs → module_due m fs ≡ got tt gs
+unfolding block_number
+number-due low m fs gs h = after_gives _ m gs (keyed "Module" 0 (modules_max - 1) fs) key h
   where
-    ended : (v : ℕ) (ks js : List (List ℕ)) → keyed "Module" 0 (modulesMax - 1) fs ≡ got v ks → ks ≡ js
+    ended : (v : ℕ) (ks js : List (List ℕ)) → keyed "Module" 0 (modules_max - 1) fs ≡ got v ks → ks ≡ js
         → ◌≡◌ {A = FieldsGot ℕ} (got v js) (got m gs)
-        → moduleDue m fs ≡ got tt gs
+        → module_due m fs ≡ got tt gs
     ended v ks js e i j =
         let q : v ≡ m = cc in
         let k : ks ≡ gs = cc in
         rw (q, k) at (key-due v fs ks e)
 
-    key : (v : ℕ) (ks : List (List ℕ)) → keyed "Module" 0 (modulesMax - 1) fs ≡ got v ks
+    key : (v : ℕ) (ks : List (List ℕ)) → keyed "Module" 0 (modules_max - 1) fs ≡ got v ks
         → after (rule (leb low v) ks) (λ _. give v) ≡ got m gs
-        → moduleDue m fs ≡ got tt gs
-    key v ks e k = after-gives _ m gs (rule (leb low v) ks) (λ u js i j. ended v ks js e (rule-left (leb low v) ks js u i) j) k
+        → module_due m fs ≡ got tt gs
+    key v ks e k = after_gives _ m gs (rule (leb low v) ks) (λ u js i j. ended v ks js e (rule-left (leb low v) ks js u i) j) k
 
 -- a block's first line begins with its number
 pub start-begins : (low : ℕ) (fs : List (List ℕ)) (s : BlockStart) → whole (block_line low) fs ≡ says s
-    → (gs : List (List ℕ)) × (moduleDue s.number fs ≡ got tt gs)
+    → (gs : List (List ℕ)) × (module_due s.number fs ≡ got tt gs)
 unfolding block_line
-start-begins low fs s h = after-gives _ s [] (blockNumber low fs) number (closed-got (block_line low fs) s h)
+start-begins low fs s h = after_gives _ s [] (block_number low fs) number (closed-got (block_line low fs) s h)
   where
-    shape : (m : ℕ) (gs : List (List ℕ)) → blockNumber low fs ≡ got m gs → (d : Shape) (hs : List (List ℕ))
+    shape : (m : ℕ) (gs : List (List ℕ)) → block_number low fs ≡ got m gs → (d : Shape) (hs : List (List ℕ))
         → ◌≡◌ {A = FieldsGot BlockStart} (got (record { number = m; shape = d }) hs) (got s [])
-        → (gs : List (List ℕ)) × (moduleDue s.number fs ≡ got tt gs)
+        → (gs : List (List ℕ)) × (module_due s.number fs ≡ got tt gs)
     shape m gs e d hs j =
         let q : record { number = m; shape = d } ≡ s = cc in
         let n : m ≡ s.number = ap (λ (x : BlockStart). x.number) q in
         (gs, rw n at (number-due low m fs gs e))
 
-    number : (m : ℕ) (gs : List (List ℕ)) → blockNumber low fs ≡ got m gs
-        → after (blockShape gs) (λ d. give (record { number = m; shape = d })) ≡ got s []
-        → (gs : List (List ℕ)) × (moduleDue s.number fs ≡ got tt gs)
-    number m gs e k = after-gives _ s [] (blockShape gs) (λ d hs _ j. shape m gs e d hs j) k
+    number : (m : ℕ) (gs : List (List ℕ)) → block_number low fs ≡ got m gs
+        → after (block_shape gs) (λ d. give (record { number = m; shape = d })) ≡ got s []
+        → (gs : List (List ℕ)) × (module_due s.number fs ≡ got tt gs)
+    number m gs e k = after_gives _ s [] (block_shape gs) (λ d hs _ j. shape m gs e d hs j) k
 
 -- the lines of a block are those of its module
 pub block-lines : (o : Options) (low : ℕ) (ls : List Line) (b : Block) (ms : List Line) → block o low ls ≡ got b ms
     → LinesOf b.number ls ms
 unfolding block
-block-lines o low ls b ms h = after-gives _ b ms (line (block_line low) ls) started h
+block-lines o low ls b ms h = after_gives _ b ms (line (block_line low) ls) started h
   where
     lines : (s : BlockStart) (ks : List Line) → line (block_line low) ls ≡ got s ks → (d : Module) (js : List Line)
-        → moduleRest o s.number s.shape ks ≡ got d js → LinesOf s.number ls js
+        → module_rest o s.number s.shape ks ≡ got d js → LinesOf s.number ls js
     lines s ks e d js i =
         line_first (block_line low) s ls ks
         (λ l q w.
@@ -118,7 +118,7 @@ block-lines o low ls b ms h = after-gives _ b ms (line (block_line low) ls) star
           rest = ks;
           lines = q;
           begins = record { left = g.0; begins = g.1 };
-          goes_on = rest-passes o s.number s.shape d ks js i;
+          goes_on_lem = rest-passes o s.number s.shape d ks js i;
         })
         e
 
@@ -131,45 +131,45 @@ block-lines o low ls b ms h = after-gives _ b ms (line (block_line low) ls) star
         rw (n, k) at l
 
     started : (s : BlockStart) (ks : List Line) → line (block_line low) ls ≡ got s ks
-        → after (moduleRest o s.number s.shape ks) (λ d. give (record { number = s.number; says = d })) ≡ got b ms
+        → after (module_rest o s.number s.shape ks) (λ d. give (record { number = s.number; says = d })) ≡ got b ms
         → LinesOf b.number ls ms
     started s ks e k =
-        after-gives _ b ms (moduleRest o s.number s.shape ks) (λ d js i j. ended s d js (lines s ks e d js i) j) k
+        after_gives _ b ms (module_rest o s.number s.shape ks) (λ d js i j. ended s d js (lines s ks e d js i) j) k
 
 -- an overlay's first line is of no module
-pub overlay-other : (m : ℕ) (l : Line) (a : Name) → whole overlayLine l.fields ≡ says a → Other m l
-unfolding overlayLine sameBytes
-overlay-other m l a h gs e = word-other m (bytes "Overlay") _ a l.fields gs refl h e
+pub overlay_other : (m : ℕ) (l : Line) (a : Name) → whole overlay_line l.fields ≡ says a → Other m l
+unfolding overlay_line same_bytes
+overlay_other m l a h gs e = word_other m (bytes "Overlay") _ a l.fields gs refl h e
 
 -- before the first block there is none
-pub none-there : (n m : ℕ) → get_or (replicate n false) m false ≡ false
-none-there zero m = refl
-none-there (suc n) zero = refl
-none-there (suc n) (suc m) = none-there n m
+pub none_there : (n m : ℕ) → get_or (replicate n false) m false ≡ false
+none_there zero m = refl
+none_there (suc n) zero = refl
+none_there (suc n) (suc m) = none_there n m
 
-pub goes_end : (ls : List Line) → goesOn ls ≡ false → ls ≡ []
-unfolding goesOn
+pub goes_end : (ls : List Line) → goes_on ls ≡ false → ls ≡ []
+unfolding goes_on
 goes_end [] h = refl
 goes_end (l ∷ ls) h = absurd (true≢false h)
 
 -- what the blocks say of the marks
-pub blocks-marked : (m : ℕ) (t : List ℕ) (ls : List Line) (r : BlocksStep) (q : Place) → BlocksMarked m t ls r → r.step ≡ step.Next q
+pub blocks_marked : (m : ℕ) (t : List ℕ) (ls : List Line) (r : BlocksStep) (q : Place) → BlocksMarked m t ls r → r.step ≡ step.Next q
     → get_or r.has m false ≡ true → Marked m t ls [] r.marks.from r.marks.to
-blocks-marked m t ls r q is e h = let k : EndMarked m t ls (step.Next q) r = rw e at is in k h
+blocks_marked m t ls r q is e h = let k : EndMarked m t ls (step.Next q) r = rw e at is in k h
 
 -- an overlay that is refused, or accepted
 module _ (m : ℕ) (t : List ℕ) (ls : List Line) (a : OverlayRead) (r : OverlayMarked) where
-  pub refused-marked : (f : Refusal) → r ≡ refusedMarked f → refusedOverlay f ≡ a → OverlayReadMarked m t ls a r
-  refused-marked f e h = rw e (record { read = h; marks = λ k. absurd (false≢true (sym (none-there modulesMax m) ∙ k)) })
+  pub refused_marked_lem : (f : Refusal) → r ≡ refused_marked f → refused_overlay f ≡ a → OverlayReadMarked m t ls a r
+  refused_marked_lem f e h = rw e (record { read = h; marks = λ k. absurd (false≢true (sym (none_there modules_max m) ∙ k)) })
 
-  pub accepted-marked : (o : Overlay) (marks : Marks) → r ≡ acceptedMarked o marks → acceptedOverlay o ≡ a
+  pub accepted_marked_lem : (o : Overlay) (marks : Marks) → r ≡ accepted_marked o marks → accepted_overlay o ≡ a
       → (get_or o.has m false ≡ true → Marked m t ls [] marks.from marks.to)
       → OverlayReadMarked m t ls a r
-  accepted-marked o marks e h f = rw e (record { read = h; marks = f })
+  accepted_marked_lem o marks e h f = rw e (record { read = h; marks = f })
 
 -- a line of no module before the others
-pub marked-behind : {A : Type 0} (m : ℕ) (t : List ℕ) (r : Reader A) (v : A) (ls ms : List Line) → line r ls ≡ got v ms
+pub marked_behind : {A : Type 0} (m : ℕ) (t : List ℕ) (r : Reader A) (v : A) (ls ms : List Line) → line r ls ≡ got v ms
     → ((l : Line) → whole r l.fields ≡ says v → Other m l) → (a b : OverlayRead) (s : OverlayMarked) → a ≡ b
     → OverlayReadMarked m t ms a s
     → OverlayReadMarked m t ls b s
-marked-behind m t r v ls ms is o a b s e k = record { read = k.read ∙ e; marks = λ h. marked-line m t r v ls ms is o (k.marks h) }
+marked_behind m t r v ls ms is o a b s e k = record { read = k.read ∙ e; marks = λ h. marked_line m t r v ls ms is o (k.marks h) }

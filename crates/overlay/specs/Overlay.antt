@@ -2,18 +2,18 @@
 use Rattle.std.specs.Prelude.{ℕ, zero, suc, ◌+◌, Bool, true, false, cond, List, [], ◌∷◌, length, set, replicate, leb}
 use Rattle.units.specs.Refusals.{accepted, refused}
 use Rattle.units.specs.declared.Refusal.{Refusal}
-use Rattle.fields.specs.Bytes.{badByte}
-use Rattle.fields.specs.Names.{nameMax}
+use Rattle.fields.specs.Bytes.{bad_byte}
+use Rattle.fields.specs.Names.{name_max}
 use Rattle.fields.specs.declared.byte.BadByte.{BadByte}
 use Rattle.fields.specs.declared.byte.BadByte.TheVariants.{OnLine, Nowhere}
 use Rattle.fields.specs.Lines.{Line, lines_from}
 use Rattle.fields.specs.Readers.{no, got, ◌>>=◌, give}
-use Rattle.soc.specs.Limits.{textMax, modulesMax}
-use Rattle.soc.specs.Record.{noModule}
+use Rattle.soc.specs.Limits.{text_max, modules_max}
+use Rattle.soc.specs.Record.{no_module}
 use Rattle.soc.specs.declared.record.Module.{Module}
-use Rattle.text_lines.specs.Kinds.{Name, Options, overlayLine, optionsLine, block_line}
+use Rattle.text_lines.specs.Kinds.{Name, Options, overlay_line, options_line, block_line}
 use Rattle.text_reader.specs.Lines.{LinesRead, LinesReader, line}
-use Rattle.text_reader.specs.Reading.{moduleRest}
+use Rattle.text_reader.specs.Reading.{module_rest}
 use Rattle.overlay.specs.declared.read.Overlay.{Overlay}
 use Rattle.overlay.specs.declared.read.OverlayRead.{OverlayRead}
 
@@ -26,37 +26,37 @@ pub record Block : Type 0 where
 unfoldable pub block : Options → ℕ → LinesReader Block
 block o low = do
   b ← line (block_line low)
-  d ← moduleRest o b.number b.shape
+  d ← module_rest o b.number b.shape
   give (record { number = b.number; says = d })
 
 -- does the text go on?
-unfoldable pub goesOn : List Line → Bool
-goesOn [] = false
-goesOn (l ∷ ls) = true
+unfoldable pub goes_on : List Line → Bool
+goes_on [] = false
+goes_on (l ∷ ls) = true
 
 -- blocks to the text's end, which may be here
-abbrev pub toEnd : LinesReader (List Block) → LinesReader (List Block)
-toEnd p ls = cond (goesOn ls) (p ls) (got [] ls)
+abbrev pub to_end : LinesReader (List Block) → LinesReader (List Block)
+to_end p ls = cond (goes_on ls) (p ls) (got [] ls)
 
 -- "one or more module blocks in ascending number": at most n blocks, with numbers from low on, to the text's end
 unfoldable pub blocks : Options → ℕ → ℕ → LinesReader (List Block)
 blocks o zero low = give []
 blocks o (suc n) low = do
   b ← block o low
-  bs ← toEnd (blocks o n (suc b.number))
+  bs ← to_end (blocks o n (suc b.number))
   give (b ∷ bs)
 
 -- numbers ascend and are below 40: the 41st block is refused, and so no more are read
-abbrev pub blocksMax : ℕ
-blocksMax = modulesMax + 1
+abbrev pub blocks_max : ℕ
+blocks_max = modules_max + 1
 
 -- which modules an overlay has, and what it says of them: module m at place m
 pub record Places : Type 0 where
   pub has : List Bool
   pub modules : List Module
 
-abbrev pub noPlaces : Places
-noPlaces = record { has = replicate modulesMax false; modules = replicate modulesMax noModule }
+abbrev pub no_places : Places
+no_places = record { has = replicate modules_max false; modules = replicate modules_max no_module }
 
 abbrev pub put : Places → Block → Places
 put p b = record { has = set p.has b.number true; modules = set p.modules b.number b.says }
@@ -67,11 +67,11 @@ puts p (b ∷ bs) = puts (put p b) bs
 
 unfoldable pub places : Options → LinesReader Places
 places o = do
-  bs ← blocks o blocksMax 0
-  give (puts noPlaces bs)
+  bs ← blocks o blocks_max 0
+  give (puts no_places bs)
 
-abbrev pub overlayOf : Name → Options → Places → Overlay
-overlayOf name o p =
+abbrev pub overlay_of : Name → Options → Places → Overlay
+overlay_of name o p =
     record {
       name_len = name.len;
       name = name.bytes;
@@ -84,47 +84,47 @@ overlayOf name o p =
 unfoldable pub with_blocks : Name → Options → LinesReader Overlay
 with_blocks name o = do
   p ← places o
-  give (overlayOf name o p)
+  give (overlay_of name o p)
 
 -- an overlay is read as its own `Options` line says
-unfoldable pub behindName : Name → LinesReader Overlay
-behindName name = do
-  o ← line optionsLine
+unfoldable pub behind_name : Name → LinesReader Overlay
+behind_name name = do
+  o ← line options_line
   with_blocks name o
 
 -- "An overlay is a text: `Overlay` and the SOC's name, an `Options` line, then one or more module blocks"
 unfoldable pub overlay : LinesReader Overlay
 overlay = do
-  name ← line overlayLine
-  behindName name
+  name ← line overlay_line
+  behind_name name
 
 -- an overlay that says nothing
-abbrev pub noOverlay : Overlay
-noOverlay =
+abbrev pub no_overlay : Overlay
+no_overlay =
     record {
       name_len = 0;
-      name = replicate nameMax 0;
+      name = replicate name_max 0;
       power = false;
       xy = false;
-      has = replicate modulesMax false;
-      modules = replicate modulesMax noModule;
+      has = replicate modules_max false;
+      modules = replicate modules_max no_module;
     }
 
 -- "A refusal returns its number and line and no other figure"
-abbrev pub refusedOverlay : Refusal → OverlayRead
-refusedOverlay r = record { refusal = r; overlay = noOverlay }
+abbrev pub refused_overlay : Refusal → OverlayRead
+refused_overlay r = record { refusal = r; overlay = no_overlay }
 
-abbrev pub acceptedOverlay : Overlay → OverlayRead
-acceptedOverlay o = record { refusal = accepted; overlay = o }
+abbrev pub accepted_overlay : Overlay → OverlayRead
+accepted_overlay o = record { refusal = accepted; overlay = o }
 
 unfoldable pub answer : LinesRead Overlay → OverlayRead
-answer (no r) = refusedOverlay r
-answer (got o ls) = acceptedOverlay o
+answer (no r) = refused_overlay r
+answer (got o ls) = accepted_overlay o
 
-unfoldable pub unlessBad : BadByte → OverlayRead → OverlayRead
-unlessBad (OnLine n) a = refusedOverlay (refused 2 n)
-unlessBad Nowhere a = a
+unfoldable pub unless_bad : BadByte → OverlayRead → OverlayRead
+unless_bad (OnLine n) a = refused_overlay (refused 2 n)
+unless_bad Nowhere a = a
 
 -- "overlay faults as 1 to 6 with the overlay's line", and 17 "in overlays too"
-unfoldable pub readOverlay : List ℕ → OverlayRead
-readOverlay t = cond (leb (length t) textMax) (unlessBad (badByte 1 t) (answer (overlay (lines_from 1 t 0)))) (refusedOverlay (refused 1 0))
+unfoldable pub read_overlay : List ℕ → OverlayRead
+read_overlay t = cond (leb (length t) text_max) (unless_bad (bad_byte 1 t) (answer (overlay (lines_from 1 t 0)))) (refused_overlay (refused 1 0))

@@ -3,11 +3,11 @@ ghost use Rattle.std.specs.Prelude.{◌≡◌};
 ghost use Rattle.fields.specs.Fields.{fields_of};
 ghost use Rattle.text_lines.specs.Parts.{whole};
 ghost use Rattle.text_lines.specs.Kinds.{block_line};
-ghost use Rattle.text_line_reader.specs.Due.{Inside, linesAt};
+ghost use Rattle.text_line_reader.specs.Due.{Inside, lines_at};
 ghost use Rattle.text_reader.specs.Lines.{line};
 ghost use Rattle.text_reader.specs.Steps.{StepMeans};
-ghost use Rattle.overlay.specs.Overlay.{block, goesOn};
-ghost use Rattle.overlay.specs.Steps.{wholeAs, start_in, start_at, blockIn};
+ghost use Rattle.overlay.specs.Overlay.{block, goes_on};
+ghost use Rattle.overlay.specs.Steps.{whole_as, start_in, start_at, block_in};
 ghost use Rattle.overlay.specs.OverlayMarks.{BlocksMean};
 
 use fields::Figure;
@@ -48,7 +48,7 @@ pub struct BlocksStep {
 }
 
 fn block_line(l: &[u8], low: u32) -> BlockLine
-    ensures { wholeAs result.verdict (start_in result) ≡ whole (block_line low) (fields_of l.now) }
+    ensures { whole_as result.verdict (start_in result) ≡ whole (block_line low) (fields_of l.now) }
 {
     match super::line::block_number(l, low) {
         Figure::No(c) => BlockLine {
@@ -70,7 +70,7 @@ fn block_line(l: &[u8], low: u32) -> BlockLine
 
 fn block_step(text: &[u8], p: Place, low: u32) -> BlockStep
     requires { Inside text.now p }
-    ensures { StepMeans text.now (start_at result) result.step (line (block_line low) (linesAt text.now p)) }
+    ensures { StepMeans text.now (start_at result) result.step (line (block_line low) (lines_at text.now p)) }
 {
     match due_line(text, p) {
         Due::Missing => BlockStep {
@@ -101,7 +101,7 @@ fn block_step(text: &[u8], p: Place, low: u32) -> BlockStep
 // The lines of a block with a number from low on.
 fn one_block(text: &[u8], p: Place, low: u32, power: bool, xy: bool) -> OneBlock
     requires { Inside text.now p }
-    ensures { StepMeans text.now (blockIn result) result.step (block (record { power = power; xy = xy }) low (linesAt text.now p)) }
+    ensures { StepMeans text.now (block_in result) result.step (block (record { power = power; xy = xy }) low (lines_at text.now p)) }
 {
     let read = block_step(text, p, low);
     let step = read.step;
@@ -129,7 +129,7 @@ fn one_block(text: &[u8], p: Place, low: u32, power: bool, xy: bool) -> OneBlock
 // Whether a line stands at a place or behind it.
 fn goes_on(text: &[u8], p: Place) -> bool
     requires { Inside text.now p }
-    ensures { result ≡ goesOn (linesAt text.now p) }
+    ensures { result ≡ goes_on (lines_at text.now p) }
 {
     match due_line(text, p) {
         Due::Missing => false,

@@ -1,11 +1,11 @@
 // An overlay text read to what it says, or to its first refusal: 1, then 2 anywhere, then the lines from the top.
 ghost use Rattle.std.specs.Prelude.{◌≡◌};
-ghost use Rattle.text_lines.specs.Kinds.{overlayLine};
-ghost use Rattle.text_line_reader.specs.Due.{Inside, linesAt, placeAt};
+ghost use Rattle.text_lines.specs.Kinds.{overlay_line};
+ghost use Rattle.text_line_reader.specs.Due.{Inside, lines_at, place_at};
 ghost use Rattle.text_reader.specs.Lines.{line};
-ghost use Rattle.text_reader.specs.Steps.{StepMeans, nameIn};
-ghost use Rattle.overlay.specs.Overlay.{with_blocks, behindName, overlay, readOverlay};
-ghost use Rattle.overlay.specs.OverlayMarks.{overlayIn, refusedMarked, acceptedMarked, ReadsMarked, TextMarked};
+ghost use Rattle.text_reader.specs.Steps.{StepMeans, name_in};
+ghost use Rattle.overlay.specs.Overlay.{with_blocks, behind_name, overlay, read_overlay};
+ghost use Rattle.overlay.specs.OverlayMarks.{overlay_in, refused_marked, accepted_marked, ReadsMarked, TextMarked};
 
 use super::block::blocks_step;
 use fields::{BadByte, NAME_MAX};
@@ -47,7 +47,7 @@ pub struct HeadStep {
 }
 
 fn refused_overlay(f: Refusal) -> OverlayMarked
-    ensures { result ≡ refusedMarked f }
+    ensures { result ≡ refused_marked f }
 {
     let module = soc::no_module();
     OverlayMarked {
@@ -68,7 +68,7 @@ fn refused_overlay(f: Refusal) -> OverlayMarked
 
 fn head_step(text: &[u8], p: Place) -> HeadStep
     requires { Inside text.now p }
-    ensures { StepMeans text.now (nameIn result.line) result.step (line overlayLine (linesAt text.now p)) }
+    ensures { StepMeans text.now (name_in result.line) result.step (line overlay_line (lines_at text.now p)) }
 {
     match due_line(text, p) {
         Due::Missing => HeadStep {
@@ -101,7 +101,7 @@ fn accepted_overlay(
     modules: [Module; MODULES_MAX],
     marks: Marks,
 ) -> OverlayMarked
-    ensures { result ≡ acceptedMarked (overlayIn name power xy has modules) marks }
+    ensures { result ≡ accepted_marked (overlay_in name power xy has modules) marks }
 {
     let bytes = name.name;
     OverlayMarked {
@@ -130,7 +130,7 @@ fn blocks_to_end(
     m: u32,
 ) -> OverlayMarked
     requires { Inside text.now p }
-    ensures { ReadsMarked m text.now p (with_blocks (nameIn name) (record { power = power; xy = xy })) result }
+    ensures { ReadsMarked m text.now p (with_blocks (name_in name) (record { power = power; xy = xy })) result }
 {
     let read = blocks_step(text, p, power, xy, m);
     let step = read.step;
@@ -147,7 +147,7 @@ fn blocks_to_end(
 
 fn read_behind_name(text: &[u8], p: Place, name: NameLine, m: u32) -> OverlayMarked
     requires { Inside text.now p }
-    ensures { ReadsMarked m text.now p (behindName (nameIn name)) result }
+    ensures { ReadsMarked m text.now p (behind_name (name_in name)) result }
 {
     match options_step(text, p) {
         OptionsStep::No(f) => refused_overlay(f),
@@ -156,7 +156,7 @@ fn read_behind_name(text: &[u8], p: Place, name: NameLine, m: u32) -> OverlayMar
 }
 
 fn read_lines(text: &[u8], m: u32) -> OverlayMarked
-    ensures { ReadsMarked m text.now (placeAt 0 1) overlay result }
+    ensures { ReadsMarked m text.now (place_at 0 1) overlay result }
 {
     let read = head_step(text, Place { at: 0, line: 1 });
     let step = read.step;
@@ -183,7 +183,7 @@ pub fn read_overlay_marked(text: &[u8], m: u32) -> OverlayMarked
 }
 
 pub fn read_overlay(text: &[u8]) -> OverlayRead
-    ensures { result ≡ readOverlay text.now }
+    ensures { result ≡ read_overlay text.now }
 {
     read_overlay_marked(text, 0).read
 }

@@ -8,31 +8,31 @@ use mathlib.Core.List.{List, [], ◌∷◌, ◌++◌}
 use lib.ListN.{length, get_or, take, drop, set, drop_of_length-le}
 use lib.Seq.{drop-cons, take-suc-set, append_snoc, drop-set-lt}
 use borrow.Author.Tests.{eq-eqb, ne_eqb}
-use Rattle.units.proofs.TestLaws.{and-stops, and-goes}
+use Rattle.units.proofs.TestLaws.{and_stops, and_goes}
 use Rattle.soc.specs.declared.record.Module.{Module}
-use Rattle.pair.specs.Pair.{placeFits, placesFit, laid, refusedPair, joined, pair_of}
+use Rattle.pair.specs.Pair.{place_fits, places_fit, laid, refused_pair, joined, pair_of}
 use Rattle.pair.specs.declared.read.Meant.TheVariants as meant
 use Rattle.overlay.specs.declared.read.OverlayRead.{OverlayRead}
 use Rattle.text_reader.specs.declared.read.SocRead.{SocRead}
 
 -- at place m of the three lists
 module _ (m : ℕ) (hs : List Bool) (os bs : List Module) (h : Bool) (o b : Module) (lh : m < length hs) (lo : m < length os) (lb : m < length bs) where
-  pub fit-stops : (n : ℕ) → placeFits n m (get_or hs m h) (get_or os m o) (get_or bs m b) ≡ false → placesFit n m (drop m hs) (drop m os) (drop m bs) ≡ false
-  unfolding placesFit
-  fit-stops n e = rw (drop-cons hs m h, drop-cons os m o, drop-cons bs m b) (and-stops _ _ e)
+  pub fit_stops : (n : ℕ) → place_fits n m (get_or hs m h) (get_or os m o) (get_or bs m b) ≡ false → places_fit n m (drop m hs) (drop m os) (drop m bs) ≡ false
+  unfolding places_fit
+  fit_stops n e = rw (drop-cons hs m h, drop-cons os m o, drop-cons bs m b) (and_stops _ _ e)
 
-  pub fit-goes : (n : ℕ) → placeFits n m (get_or hs m h) (get_or os m o) (get_or bs m b) ≡ true
-      → placesFit n m (drop m hs) (drop m os) (drop m bs) ≡ placesFit n (m + 1) (drop (m + 1) hs) (drop (m + 1) os) (drop (m + 1) bs)
-  unfolding placesFit
-  fit-goes n e = rw (add-one, drop-cons hs m h, drop-cons os m o, drop-cons bs m b) (and-goes _ _ e)
+  pub fit_goes : (n : ℕ) → place_fits n m (get_or hs m h) (get_or os m o) (get_or bs m b) ≡ true
+      → places_fit n m (drop m hs) (drop m os) (drop m bs) ≡ places_fit n (m + 1) (drop (m + 1) hs) (drop (m + 1) os) (drop (m + 1) bs)
+  unfolding places_fit
+  fit_goes n e = rw (add-one, drop-cons hs m h, drop-cons os m o, drop-cons bs m b) (and_goes _ _ e)
 
   pub laid_next : laid (drop m hs) (drop m os) (drop m bs) ≡ cond (get_or hs m h) (get_or os m o) (get_or bs m b) ∷ laid (drop (m + 1) hs) (drop (m + 1) os) (drop (m + 1) bs)
   unfolding laid
   laid_next = rw (add-one, drop-cons hs m h, drop-cons os m o, drop-cons bs m b)
 
-pub fit-end : (n m : ℕ) (hs : List Bool) (os bs : List Module) → length hs ≤ m → placesFit n m (drop m hs) os bs ≡ true
-unfolding placesFit
-fit-end n m hs os bs e = rw (drop_of_length-le hs e)
+pub fit_end : (n m : ℕ) (hs : List Bool) (os bs : List Module) → length hs ≤ m → places_fit n m (drop m hs) os bs ≡ true
+unfolding places_fit
+fit_end n m hs os bs e = rw (drop_of_length-le hs e)
 
 pub laid_end : (m : ℕ) (hs : List Bool) (os bs : List Module) → length hs ≤ m → laid (drop m hs) os bs ≡ bs
 unfolding laid
@@ -48,12 +48,12 @@ laid-set m l w hs os {v} e h =
 
 -- "base faults first, overlay faults .. then 15"
 module _ (b : SocRead) (o : OverlayRead) where
-  pub pair-base : (b.refusal.number ≡ 0 → ⊥) → pair_of b o ≡ refusedPair b.refusal meant.Base
+  pub pair_base : (b.refusal.number ≡ 0 → ⊥) → pair_of b o ≡ refused_pair b.refusal meant.Base
   unfolding pair_of
-  pair-base h = rw (ne_eqb b.refusal.number 0 h)
+  pair_base h = rw (ne_eqb b.refusal.number 0 h)
 
   module _ (read : b.refusal.number ≡ 0) where
-    pub pair-overlay : (o.refusal.number ≡ 0 → ⊥) → pair_of b o ≡ refusedPair o.refusal meant.Overlay
+    pub pair-overlay : (o.refusal.number ≡ 0 → ⊥) → pair_of b o ≡ refused_pair o.refusal meant.Overlay
     unfolding pair_of
     pair-overlay h = rw (eq-eqb b.refusal.number 0 read, ne_eqb o.refusal.number 0 h)
 

@@ -1,7 +1,7 @@
 // The pair of a SOC text, the base, and an overlay: the combined description, or the first refusal and the text that is meant.
 ghost use Rattle.std.specs.Prelude.{◌≡◌, cond};
-ghost use Rattle.pair.specs.Pair.{sameFlag, sameHead, placeFits, placesFit, fits, laid, combined, refusedPair, joined, readPair};
-ghost use Rattle.pair.specs.PairMarks.{refusedMarked, PairReadMarked};
+ghost use Rattle.pair.specs.Pair.{same_flag, same_head, place_fits, places_fit, fits, laid, combined, refused_pair, joined, read_pair};
+ghost use Rattle.pair.specs.PairMarks.{refused_marked, PairReadMarked};
 
 use overlay::{Overlay, read_overlay_marked};
 use soc::{MODULES_MAX, Module, Soc};
@@ -35,7 +35,7 @@ pub struct PairMarked {
 }
 
 fn refused_pair(f: Refusal, meant: Meant) -> PairRead
-    ensures { result ≡ refusedPair f meant }
+    ensures { result ≡ refused_pair f meant }
 {
     PairRead {
         refusal: f,
@@ -46,14 +46,14 @@ fn refused_pair(f: Refusal, meant: Meant) -> PairRead
 }
 
 fn same_flag(a: bool, b: bool) -> bool
-    ensures { result ≡ sameFlag a b }
+    ensures { result ≡ same_flag a b }
 {
     if a { b } else { !b }
 }
 
 // Whether name and options are those of the base.
 fn has_same_head(s: Soc, o: Overlay) -> bool
-    ensures { result ≡ sameHead s o }
+    ensures { result ≡ same_head s o }
 {
     if s.name_len != o.name_len {
         return false;
@@ -71,7 +71,7 @@ fn has_same_head(s: Soc, o: Overlay) -> bool
 
 // Whether module m, where the overlay has it, is in a base of n modules, and has its level there.
 fn place_fits(n: usize, m: usize, has: bool, over: Module, base: Module) -> bool
-    ensures { result ≡ placeFits n m has over base }
+    ensures { result ≡ place_fits n m has over base }
 {
     if !has {
         return true;
@@ -88,7 +88,7 @@ fn places_fit(
     over: [Module; MODULES_MAX],
     base: [Module; MODULES_MAX],
 ) -> bool
-    ensures { result ≡ placesFit n 0 has over base }
+    ensures { result ≡ places_fit n 0 has over base }
 {
     let mut m: usize = 0;
     while m < MODULES_MAX {
@@ -178,7 +178,7 @@ fn joined_pair(s: Soc, o: Overlay) -> PairRead
 }
 
 fn refused_marked(f: Refusal, meant: Meant) -> PairMarked
-    ensures { result ≡ refusedMarked f meant }
+    ensures { result ≡ refused_marked f meant }
 {
     PairMarked {
         pair: refused_pair(f, meant),
@@ -211,7 +211,7 @@ pub(crate) fn read_pair_marked(base: &[u8], overlay: &[u8], m: u32) -> PairMarke
 }
 
 pub fn read_pair(base: &[u8], overlay: &[u8]) -> PairRead
-    ensures { result ≡ readPair base.now overlay.now }
+    ensures { result ≡ read_pair base.now overlay.now }
 {
     read_pair_marked(base, overlay, 0).pair
 }

@@ -1,7 +1,7 @@
 // The lines of a module of a pair, as they stand in the one text or the other.
 ghost use Rattle.std.specs.Prelude.{◌≡◌, false, get_or};
-ghost use Rattle.pair.specs.Shown.{noneShown, linesShown, moduleLines};
-ghost use Rattle.pair.specs.PairMarks.{shownBetween};
+ghost use Rattle.pair.specs.Shown.{none_shown, lines_shown, module_lines};
+ghost use Rattle.pair.specs.PairMarks.{shown_between};
 
 use super::read::{Meant, read_pair_marked};
 use module_part::{Part, trimmed_part};
@@ -20,7 +20,7 @@ pub struct Shown {
 }
 
 fn none_shown(f: Refusal, meant: Meant) -> Shown
-    ensures { result ≡ noneShown f meant }
+    ensures { result ≡ none_shown f meant }
 {
     Shown {
         refusal: f,
@@ -42,7 +42,7 @@ fn is_over(has: [bool; MODULES_MAX], m: usize) -> bool
 
 // The part between the marks of a module, of the overlay or of the base.
 fn shown_between(base: &[u8], b: Marks, overlay: &[u8], o: Marks, over: bool) -> Shown
-    ensures { result ≡ shownBetween base.now b overlay.now o over }
+    ensures { result ≡ shown_between base.now b overlay.now o over }
 {
     if over {
         return Shown {
@@ -61,7 +61,7 @@ fn shown_between(base: &[u8], b: Marks, overlay: &[u8], o: Marks, over: bool) ->
 }
 
 pub fn lines_shown(base: &[u8], overlay: &[u8], m: u32) -> Shown
-    ensures { result ≡ linesShown base.now overlay.now m }
+    ensures { result ≡ lines_shown base.now overlay.now m }
 {
     let read = read_pair_marked(base, overlay, m);
     let pair = read.pair;
@@ -79,7 +79,7 @@ pub fn lines_shown(base: &[u8], overlay: &[u8], m: u32) -> Shown
 
 // The lines of module m: a part of the overlay or of the base.
 pub fn module_lines<'a>(base: &'a [u8], overlay: &'a [u8], m: u32) -> &'a [u8]
-    ensures { result.now ≡ moduleLines base.now overlay.now m }
+    ensures { result.now ≡ module_lines base.now overlay.now m }
 {
     let shown = lines_shown(base, overlay, m);
     let from = shown.part.from;

@@ -7,22 +7,22 @@ use Rattle.units.specs.declared.Refusal.{Refusal}
 use Rattle.soc.specs.declared.record.Soc.{Soc}
 use Rattle.pair.specs.declared.read.Meant.{Meant}
 use Rattle.pair.specs.declared.read.PairRead.{PairRead}
-use Rattle.pair_entries.specs.OfPair.{ofPair}
+use Rattle.pair_entries.specs.OfPair.{of_pair}
 
 module _ {A : Type 0} (p : PairRead) (refuses : Refusal → Meant → A) (answers : Soc → A) where
-  pub of-refused : (p.refusal.number ≡ 0 → ⊥) → ofPair p refuses answers ≡ refuses p.refusal p.meant
-  unfolding ofPair
-  of-refused h = rw (ne_eqb p.refusal.number 0 h)
+  pub of_refused : (p.refusal.number ≡ 0 → ⊥) → of_pair p refuses answers ≡ refuses p.refusal p.meant
+  unfolding of_pair
+  of_refused h = rw (ne_eqb p.refusal.number 0 h)
 
-  pub of-accepted : p.refusal.number ≡ 0 → ofPair p refuses answers ≡ answers p.soc
-  unfolding ofPair
-  of-accepted h = rw (eq-eqb p.refusal.number 0 h)
+  pub of_accepted : p.refusal.number ≡ 0 → of_pair p refuses answers ≡ answers p.soc
+  unfolding of_pair
+  of_accepted h = rw (eq-eqb p.refusal.number 0 h)
 
   -- what holds of both holds of the answer
   pub of_either : (P : A → Type 0) → ((p.refusal.number ≡ 0 → ⊥) → P (refuses p.refusal p.meant))
       → (p.refusal.number ≡ 0 → P (answers p.soc))
-      → P (ofPair p refuses answers)
-  unfolding ofPair
+      → P (of_pair p refuses answers)
+  unfolding of_pair
   of_either P f g = go (eqb p.refusal.number 0) refl
     where
       go : (t : Bool) → eqb p.refusal.number 0 ≡ t → P (cond t (answers p.soc) (refuses p.refusal p.meant))

@@ -7,5 +7,5 @@ use Rattle.pair.specs.Pair.{passes}
 use Rattle.pair.specs.declared.read.Meant.{Meant}
 use Rattle.pair.specs.declared.read.PairRead.{PairRead}
 
-unfoldable pub ofPair : {A : Type 0} → PairRead → (Refusal → Meant → A) → (Soc → A) → A
-ofPair p refuses answers = cond (passes p.refusal) (answers p.soc) (refuses p.refusal p.meant)
+unfoldable pub of_pair : {A : Type 0} → PairRead → (Refusal → Meant → A) → (Soc → A) → A
+of_pair p refuses answers = cond (passes p.refusal) (answers p.soc) (refuses p.refusal p.meant)

@@ -1,6 +1,6 @@
 // The layout of a test of a module of a pair.
 ghost use Rattle.std.specs.Prelude.{◌≡◌};
-ghost use Rattle.pair_entries.specs.LaidPair.{refusedLayout, layoutPair};
+ghost use Rattle.pair_entries.specs.LaidPair.{refused_layout, layout_pair};
 
 use pair::{Meant, read_pair};
 use soc::CHAINS_MAX;
@@ -15,7 +15,7 @@ pub struct PairLayout {
 }
 
 fn refused_layout(f: Refusal, meant: Meant) -> PairLayout
-    ensures { result ≡ refusedLayout f meant }
+    ensures { result ≡ refused_layout f meant }
 {
     PairLayout {
         meant,
@@ -41,7 +41,7 @@ pub fn layout_pair(
     width: Wires,
     capture: CaptureCycles,
 ) -> PairLayout
-    ensures { result ≡ layoutPair base.now overlay.now «module» test width.0 capture.0 }
+    ensures { result ≡ layout_pair base.now overlay.now «module» test width.0 capture.0 }
 {
     let pair = read_pair(base, overlay);
     if pair.refusal.number != 0 {

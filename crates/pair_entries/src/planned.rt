@@ -1,6 +1,6 @@
 // The first plan of least time of a pair.
 ghost use Rattle.std.specs.Prelude.{◌≡◌};
-ghost use Rattle.pair_entries.specs.PlannedPair.{refusedPlan, planPair};
+ghost use Rattle.pair_entries.specs.PlannedPair.{refused_plan, plan_pair};
 
 use pair::{Meant, read_pair};
 use plan::PlanAnswer;
@@ -15,7 +15,7 @@ pub struct PairPlan {
 }
 
 fn refused_plan(f: Refusal, meant: Meant) -> PairPlan
-    ensures { result ≡ refusedPlan f meant }
+    ensures { result ≡ refused_plan f meant }
 {
     PairPlan {
         meant,
@@ -33,7 +33,7 @@ pub fn plan_pair(
     limit: u32,
     capture: CaptureCycles,
 ) -> PairPlan
-    ensures { result ≡ planPair base.now overlay.now wires.0 limit capture.0 }
+    ensures { result ≡ plan_pair base.now overlay.now wires.0 limit capture.0 }
 {
     let pair = read_pair(base, overlay);
     if pair.refusal.number != 0 {

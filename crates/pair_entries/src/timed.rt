@@ -1,6 +1,6 @@
 // The time of a module of a pair.
 ghost use Rattle.std.specs.Prelude.{◌≡◌};
-ghost use Rattle.pair_entries.specs.TimedPair.{refusedModuleTime, moduleTimePair};
+ghost use Rattle.pair_entries.specs.TimedPair.{refused_module_time, module_time_pair};
 
 use pair::{Meant, read_pair};
 use units::{CaptureCycles, Cycles, Refusal, Wires};
@@ -14,7 +14,7 @@ pub struct PairModuleTime {
 }
 
 fn refused_module_time(f: Refusal, meant: Meant) -> PairModuleTime
-    ensures { result ≡ refusedModuleTime f meant }
+    ensures { result ≡ refused_module_time f meant }
 {
     PairModuleTime {
         meant,
@@ -34,7 +34,7 @@ pub fn module_time_pair(
     width: Wires,
     capture: CaptureCycles,
 ) -> PairModuleTime
-    ensures { result ≡ moduleTimePair base.now overlay.now «module» width.0 capture.0 }
+    ensures { result ≡ module_time_pair base.now overlay.now «module» width.0 capture.0 }
 {
     let pair = read_pair(base, overlay);
     if pair.refusal.number != 0 {

@@ -1,6 +1,6 @@
 // The written form of a pair's combined description.
 ghost use Rattle.std.specs.Prelude.{◌≡◌};
-ghost use Rattle.pair_entries.specs.WrittenPair.{refusedWrite, writePair, writePairLeaves};
+ghost use Rattle.pair_entries.specs.WrittenPair.{refused_write, write_pair, write_pair_leaves};
 
 use buffer::Written;
 use pair::{Meant, read_pair};
@@ -14,7 +14,7 @@ pub struct PairWritten {
 }
 
 fn refused_write(f: Refusal, meant: Meant) -> PairWritten
-    ensures { result ≡ refusedWrite f meant }
+    ensures { result ≡ refused_write f meant }
 {
     PairWritten {
         meant,
@@ -23,8 +23,8 @@ fn refused_write(f: Refusal, meant: Meant) -> PairWritten
 }
 
 pub fn write_pair(base: &[u8], overlay: &[u8], into: &mut [u8]) -> PairWritten
-    ensures { (result ≡ writePair base.now overlay.now into.old)
-        × (into.new ≡ writePairLeaves base.now overlay.now into.old) }
+    ensures { (result ≡ write_pair base.now overlay.now into.old)
+        × (into.new ≡ write_pair_leaves base.now overlay.now into.old) }
 {
     let pair = read_pair(base, overlay);
     if pair.refusal.number != 0 {

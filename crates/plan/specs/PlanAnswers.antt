@@ -2,61 +2,61 @@
 -- outside 1 to 4 is 16, after 8 for plans". "Every time, plan and bound reads with c", the capture cycles.
 use Rattle.std.specs.Prelude.{ℕ, cond, ◌&&◌, length, get_or, leb}
 use Rattle.units.specs.Refusals.{accepted, refused}
-use Rattle.soc.specs.Record.{noModule}
-use Rattle.soc.specs.Rules.{goodSoc}
-use Rattle.soc.specs.Planned.{plannedOf}
+use Rattle.soc.specs.Record.{no_module}
+use Rattle.soc.specs.Rules.{good_soc}
+use Rattle.soc.specs.Planned.{planned_of}
 use Rattle.soc.specs.declared.record.Module.{Module}
 use Rattle.soc.specs.declared.record.Soc.{Soc}
-use Rattle.wrapper_fit.specs.Maxima.{widthMax, captureMax}
-use Rattle.wrapper_times.specs.Times.{moduleBest}
+use Rattle.wrapper_fit.specs.Maxima.{width_max, capture_max}
+use Rattle.wrapper_times.specs.Times.{module_best}
 use Rattle.plan_rules.specs.Plans.{Plan}
-use Rattle.plan_rules.specs.Listed.{bestPlan}
-use Rattle.plan_record.specs.Record.{noPlan, planRecord}
+use Rattle.plan_rules.specs.Listed.{best_plan}
+use Rattle.plan_record.specs.Record.{no_plan, plan_record}
 use Rattle.plan_record.specs.declared.record.BusPlan.{BusPlan}
 use Rattle.plan.specs.declared.answer.PlanAnswer.{PlanAnswer}
 
 -- "B outside 1 to 3" is 8
-abbrev pub limitMax : ℕ
-limitMax = 3
+abbrev pub limit_max : ℕ
+limit_max = 3
 
 -- "more than 12 planned" is 10
-abbrev pub plannedMax : ℕ
-plannedMax = 12
+abbrev pub planned_max : ℕ
+planned_max = 12
 
 -- the planned module i, counted from 0 in ascending number
-abbrev pub plannedModule : Soc → ℕ → Module
-plannedModule s i = get_or s.modules (get_or (plannedOf s) i 0) noModule
+abbrev pub planned_module : Soc → ℕ → Module
+planned_module s i = get_or s.modules (get_or (planned_of s) i 0) no_module
 
 -- its time and its wires on a bus of width w, as the wrapper layer has them
-unfoldable pub timeIn : ℕ → Soc → ℕ → ℕ → ℕ
-timeIn c s i w = (moduleBest c (plannedModule s i) w).cycles
+unfoldable pub time_in : ℕ → Soc → ℕ → ℕ → ℕ
+time_in c s i w = (module_best c (planned_module s i) w).cycles
 
-unfoldable pub wiresIn : ℕ → Soc → ℕ → ℕ → ℕ
-wiresIn c s i w = (moduleBest c (plannedModule s i) w).wires
+unfoldable pub wires_in : ℕ → Soc → ℕ → ℕ → ℕ
+wires_in c s i w = (module_best c (planned_module s i) w).wires
 
 -- "The answer is the first plan of least time."
-unfoldable pub bestFor : ℕ → Soc → ℕ → ℕ → Plan
-bestFor c s W B = bestPlan (timeIn c s) W B (length (plannedOf s))
+unfoldable pub best_for : ℕ → Soc → ℕ → ℕ → Plan
+best_for c s W B = best_plan (time_in c s) W B (length (planned_of s))
 
 -- its record: the numbers of the planned modules, their times and their wires
-abbrev pub recordOf : ℕ → Soc → ℕ → ℕ → Plan → BusPlan
-recordOf c s W B p = planRecord (plannedOf s) (timeIn c s) (wiresIn c s) W B p
+abbrev pub record_of : ℕ → Soc → ℕ → ℕ → Plan → BusPlan
+record_of c s W B p = plan_record (planned_of s) (time_in c s) (wires_in c s) W B p
 
-abbrev pub refusedPlan : ℕ → PlanAnswer
-refusedPlan n = record { refusal = refused n 0; plan = noPlan }
+abbrev pub refused_plan : ℕ → PlanAnswer
+refused_plan n = record { refusal = refused n 0; plan = no_plan }
 
-unfoldable pub planAnswer : Soc → ℕ → ℕ → ℕ → PlanAnswer
-planAnswer s W B c =
-    cond (goodSoc s)
-    (cond (leb 1 W && leb W widthMax)
-    (cond (leb 1 B && leb B limitMax)
-    (cond (leb 1 c && leb c captureMax)
-    (cond (leb 1 (length (plannedOf s)))
-    (cond (leb (length (plannedOf s)) plannedMax)
-    (record { refusal = accepted; plan = recordOf c s W B (bestFor c s W B) })
-    (refusedPlan 10))
-    (refusedPlan 9))
-    (refusedPlan 16))
-    (refusedPlan 8))
-    (refusedPlan 7))
-    (refusedPlan 14)
+unfoldable pub plan_answer : Soc → ℕ → ℕ → ℕ → PlanAnswer
+plan_answer s W B c =
+    cond (good_soc s)
+    (cond (leb 1 W && leb W width_max)
+    (cond (leb 1 B && leb B limit_max)
+    (cond (leb 1 c && leb c capture_max)
+    (cond (leb 1 (length (planned_of s)))
+    (cond (leb (length (planned_of s)) planned_max)
+    (record { refusal = accepted; plan = record_of c s W B (best_for c s W B) })
+    (refused_plan 10))
+    (refused_plan 9))
+    (refused_plan 16))
+    (refused_plan 8))
+    (refused_plan 7))
+    (refused_plan 14)

@@ -1,10 +1,10 @@
 // The first planner (document 01, "The plan" and "Refusal numbers"; document 02, item 5): refusals 14, 7, 8, 16, 9, 10 in that order; then
 // the tables of times, the search over them, and the record of what it finds.
 ghost use Rattle.std.specs.Prelude.{◌≡◌, ◌≤◌, ◌&&◌, leb};
-ghost use Rattle.plan_search.specs.Search.{tableTime, AreTimes};
-ghost use Rattle.plan.specs.PlanAnswers.{limitMax, plannedMax, refusedPlan, bestFor, recordOf, planAnswer};
-ghost use Rattle.plan.specs.Refused.{numberRefused};
-ghost use Rattle.plan.specs.Records.{IsFound, busesIs, modulesIs, recordFrom};
+ghost use Rattle.plan_search.specs.Search.{table_time, AreTimes};
+ghost use Rattle.plan.specs.PlanAnswers.{limit_max, planned_max, refused_plan, best_for, record_of, plan_answer};
+ghost use Rattle.plan.specs.Refused.{number_refused};
+ghost use Rattle.plan.specs.Records.{IsFound, buses_is, modules_is, record_from};
 ghost use Rattle.plan.specs.Tables.{Plannable};
 
 use super::answer::PlanAnswer;
@@ -19,7 +19,7 @@ use units::{CaptureCycles, Cycles, Refusal, Wires};
 use wrapper_fit::{CAPTURE_MAX, WIDTH_MAX};
 
 fn refused_plan(n: u8) -> PlanAnswer
-    ensures { result ≡ refusedPlan n }
+    ensures { result ≡ refused_plan n }
 {
     PlanAnswer {
         refusal: Refusal::at(n, 0),
@@ -30,7 +30,7 @@ fn refused_plan(n: u8) -> PlanAnswer
 // The buses of the plan that was found.
 fn buses_of(table: &[u64], f: Found, n: usize) -> [Bus; BUS_PLACES]
     requires { AreTimes table.now n × IsFound f n }
-    ensures { result ≡ busesIs (tableTime table.now) f n }
+    ensures { result ≡ buses_is (table_time table.now) f n }
 {
     let mut list = [no_bus(); BUS_PLACES];
     let mut b: usize = 0;
@@ -49,7 +49,7 @@ fn buses_of(table: &[u64], f: Found, n: usize) -> [Bus; BUS_PLACES]
 // The planned modules of the plan that was found.
 fn modules_of(p: Planned, t: Tables, f: Found) -> [PlacedModule; MODULE_PLACES]
     requires { AreTimes t.cycles p.count × IsFound f p.count }
-    ensures { result ≡ modulesIs p t f }
+    ensures { result ≡ modules_is p t f }
 {
     let mut list = [no_placed(); MODULE_PLACES];
     let n = p.count;
@@ -76,7 +76,7 @@ fn modules_of(p: Planned, t: Tables, f: Found) -> [PlacedModule; MODULE_PLACES]
 // The record of what was found over the tables of the planned modules, whichever search found it.
 pub fn record_of(p: Planned, t: Tables, wires: Wires, limit: u32, f: Found) -> BusPlan
     requires { AreTimes t.cycles p.count × IsFound f p.count }
-    ensures { result ≡ recordFrom p t wires.0 limit f }
+    ensures { result ≡ record_from p t wires.0 limit f }
 {
     let cycles = t.cycles;
     let n = p.count;
@@ -94,8 +94,8 @@ pub fn record_of(p: Planned, t: Tables, wires: Wires, limit: u32, f: Found) -> B
 
 // The plan for W wires and limit B, where nothing is refused.
 fn found_plan(s: Soc, p: Planned, wires: Wires, limit: u32, capture: CaptureCycles) -> BusPlan
-    requires { Plannable capture.0 s p wires.0 × (p.count ≤ plannedMax) × (1 ≤ limit) × (limit ≤ limitMax) }
-    ensures { result ≡ recordOf capture.0 s wires.0 limit (bestFor capture.0 s wires.0 limit) }
+    requires { Plannable capture.0 s p wires.0 × (p.count ≤ planned_max) × (1 ≤ limit) × (limit ≤ limit_max) }
+    ensures { result ≡ record_of capture.0 s wires.0 limit (best_for capture.0 s wires.0 limit) }
 {
     let t = tables_of(s, p, wires, capture);
     let cycles = t.cycles;
@@ -117,7 +117,7 @@ fn is_within(n: u32, most: u32) -> bool
 
 // The refusal's number of a good SOC with n planned modules, or 0: 7, 8, 16, 9, 10. All is tested first, so that the order stands alone.
 fn refused_number(wires: Wires, limit: u32, capture: CaptureCycles, n: usize) -> u8
-    ensures { result ≡ numberRefused wires.0 limit capture.0 n }
+    ensures { result ≡ number_refused wires.0 limit capture.0 n }
 {
     let wide = is_within(wires.0, WIDTH_MAX);
     let limited = is_within(limit, LIMIT_MAX);
@@ -144,7 +144,7 @@ fn refused_number(wires: Wires, limit: u32, capture: CaptureCycles, n: usize) ->
 
 // The first plan of least time.
 pub fn plan(s: Soc, wires: Wires, limit: u32, capture: CaptureCycles) -> PlanAnswer
-    ensures { result ≡ planAnswer s wires.0 limit capture.0 }
+    ensures { result ≡ plan_answer s wires.0 limit capture.0 }
 {
     if !soc::is_good(s) {
         return refused_plan(14);

@@ -1,7 +1,7 @@
 // The times and wires of all planned modules at all widths up to W, each computed once (document 01, "The plan" over "The wrapper rule").
 ghost use Rattle.std.specs.Prelude.{◌<◌, length};
-ghost use Rattle.soc.specs.Planned.{plannedOf};
-ghost use Rattle.plan_record.specs.Record.{modulePlaces};
+ghost use Rattle.soc.specs.Planned.{planned_of};
+ghost use Rattle.plan_record.specs.Record.{module_places};
 ghost use Rattle.plan.specs.Tables.{Plannable, TablesAre, TimesStand};
 
 use super::limits::TABLE_PLACES;
@@ -19,7 +19,7 @@ pub struct Tables {
 
 // The tables with the times of the planned module k.
 fn with_times(t: Tables, k: usize, times: Times) -> Tables
-    requires { k < modulePlaces }
+    requires { k < module_places }
     ensures { TimesStand t k times result }
 {
     let mut cycles = t.cycles;
@@ -37,7 +37,7 @@ fn with_times(t: Tables, k: usize, times: Times) -> Tables
 
 pub fn tables_of(s: Soc, p: Planned, w: Wires, capture: CaptureCycles) -> Tables
     requires { Plannable capture.0 s p w.0 }
-    ensures { TablesAre capture.0 s w.0 (length (plannedOf s)) result }
+    ensures { TablesAre capture.0 s w.0 (length (planned_of s)) result }
 {
     let mut t = Tables {
         cycles: [0u64; TABLE_PLACES],

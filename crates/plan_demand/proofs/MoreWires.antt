@@ -6,84 +6,84 @@ use native.Mathlib.Omega.{arith}
 use borrow.Author.Tests.{le-leb}
 use lib.ListN.{length, get_or}
 use Rattle.units.specs.Refusals.{accepted}
-use Rattle.soc.specs.Planned.{plannedOf}
+use Rattle.soc.specs.Planned.{planned_of}
 use Rattle.soc.specs.declared.record.Soc.{Soc}
-use Rattle.wrapper_fit.specs.Maxima.{widthMax, captureMax}
-use Rattle.wrapper_times.specs.TimeAnswers.{moduleTimeAnswer}
+use Rattle.wrapper_fit.specs.Maxima.{width_max, capture_max}
+use Rattle.wrapper_times.specs.TimeAnswers.{module_time_answer}
 use Rattle.wrapper_times.proofs.PromisedTimes.{times-at, times-same}
-use Rattle.plan_rules.specs.Bounds.{total, areaOf}
-use Rattle.plan_rules.proofs.BoundLaws.{plan-single, plan-shared, plan-area}
+use Rattle.plan_rules.specs.Bounds.{total, area_of}
+use Rattle.plan_rules.proofs.BoundLaws.{plan_single, plan_shared, plan_area}
 use Rattle.plan_rules.proofs.MoreLaws.{more-buses, more-wires}
-use Rattle.plan.specs.PlanAnswers.{limitMax, plannedMax, timeIn, planAnswer}
-use Rattle.plan.proofs.TableLaws.{planned-number, time-fall}
+use Rattle.plan.specs.PlanAnswers.{limit_max, planned_max, time_in, plan_answer}
+use Rattle.plan.proofs.TableLaws.{planned-number, time_fall}
 use Rattle.plan.proofs.PlannerLaws.{answered}
-use Rattle.plan_demand.proofs.PlanDemand.{answer-first, answer-time-of}
+use Rattle.plan_demand.proofs.PlanDemand.{answer-first, answer-time_of}
 
 -- times do not rise with the width
-falls : (c : ℕ) (s : Soc) (top i v w : ℕ) → i < length (plannedOf s) → 1 ≤ v → v ≤ w → w ≤ top → timeIn c s i w ≤ timeIn c s i v
-falls c s top i v w h k l m = time-fall c s i v w k l
+falls : (c : ℕ) (s : Soc) (top i v w : ℕ) → i < length (planned_of s) → 1 ≤ v → v ≤ w → w ≤ top → time_in c s i w ≤ time_in c s i v
+falls c s top i v w h k l m = time_fall c s i v w k l
 
 -- an answer that is not refused
-module _ (s : Soc) (W B c : ℕ) (h : (planAnswer s W B c).refusal.number ≡ 0) where
+module _ (s : Soc) (W B c : ℕ) (h : (plan_answer s W B c).refusal.number ≡ 0) where
   -- more wires never give a larger least time,
-  pub answer-more-wires : (U : ℕ) → W ≤ U → (planAnswer s U B c).refusal.number ≡ 0
-      → (planAnswer s U B c).plan.time.0 ≤ (planAnswer s W B c).plan.time.0
+  pub answer-more-wires : (U : ℕ) → W ≤ U → (plan_answer s U B c).refusal.number ≡ 0
+      → (plan_answer s U B c).plan.time.0 ≤ (plan_answer s W B c).plan.time.0
   answer-more-wires U l k =
-      rw (answer-time-of s W B c h, answer-time-of s U B c k)
-      (more-wires (timeIn c s) (answer-first s W B c h) l (falls c s U) (answer-first s U B c k))
+      rw (answer-time_of s W B c h, answer-time_of s U B c k)
+      (more-wires (time_in c s) (answer-first s W B c h) l (falls c s U) (answer-first s U B c k))
 
   -- nor do more buses
-  pub answer-more-buses : (C : ℕ) → B ≤ C → (planAnswer s W C c).refusal.number ≡ 0
-      → (planAnswer s W C c).plan.time.0 ≤ (planAnswer s W B c).plan.time.0
+  pub answer-more-buses : (C : ℕ) → B ≤ C → (plan_answer s W C c).refusal.number ≡ 0
+      → (plan_answer s W C c).plan.time.0 ≤ (plan_answer s W B c).plan.time.0
   answer-more-buses C l k =
-      rw (answer-time-of s W B c h, answer-time-of s W C c k) (more-buses (timeIn c s) (answer-first s W B c h) l (answer-first s W C c k))
+      rw (answer-time_of s W B c h, answer-time_of s W C c k) (more-buses (time_in c s) (answer-first s W B c h) l (answer-first s W C c k))
 
   -- another number of wires or buses within the limits is not refused either
-  answered-too : (U C : ℕ) → 1 ≤ U → U ≤ widthMax → 1 ≤ C → C ≤ limitMax → (planAnswer s U C c).refusal ≡ accepted
-  unfolding planAnswer
-  answered-too U C a b l d =
+  answered_too : (U C : ℕ) → 1 ≤ U → U ≤ width_max → 1 ≤ C → C ≤ limit_max → (plan_answer s U C c).refusal ≡ accepted
+  unfolding plan_answer
+  answered_too U C a b l d =
       let r = answered s W B c h in
-      let n = length (plannedOf s) in
+      let n = length (planned_of s) in
       let first = le-leb 1 c r.first in
-      let last = le-leb c captureMax r.last in
+      let last = le-leb c capture_max r.last in
       let some = le-leb 1 n r.some in
-      let most = le-leb n plannedMax r.most in
-      rw (r.good, le-leb 1 U a, le-leb U widthMax b, le-leb 1 C l, le-leb C limitMax d, first, last, some, most)
+      let most = le-leb n planned_max r.most in
+      rw (r.good, le-leb 1 U a, le-leb U width_max b, le-leb 1 C l, le-leb C limit_max d, first, last, some, most)
 
   -- "with W below 64, W + 1 wires never give a larger least time": they are not refused either
-  pub answer-one-wire : W < widthMax
-      → ((planAnswer s (W + 1) B c).refusal ≡ accepted) × ((planAnswer s (W + 1) B c).plan.time.0 ≤ (planAnswer s W B c).plan.time.0)
-  answer-one-wire l =
+  pub answer-one_wire : W < width_max
+      → ((plan_answer s (W + 1) B c).refusal ≡ accepted) × ((plan_answer s (W + 1) B c).plan.time.0 ≤ (plan_answer s W B c).plan.time.0)
+  answer-one_wire l =
       let r = answered s W B c h in
-      let e = answered-too (W + 1) B (omega arith) (omega arith) r.limit r.few in
+      let e = answered_too (W + 1) B (omega arith) (omega arith) r.limit r.few in
       (e, answer-more-wires (W + 1) (omega arith) (ap (λ x. x.number) e))
 
   -- "with B below 3, nor does B + 1"
-  pub answer-one-bus : B < limitMax
-      → ((planAnswer s W (B + 1) c).refusal ≡ accepted) × ((planAnswer s W (B + 1) c).plan.time.0 ≤ (planAnswer s W B c).plan.time.0)
+  pub answer-one-bus : B < limit_max
+      → ((plan_answer s W (B + 1) c).refusal ≡ accepted) × ((plan_answer s W (B + 1) c).plan.time.0 ≤ (plan_answer s W B c).plan.time.0)
   answer-one-bus l =
       let r = answered s W B c h in
-      let e = answered-too W (B + 1) r.low r.narrow (omega arith) (omega arith) in
+      let e = answered_too W (B + 1) r.low r.narrow (omega arith) (omega arith) in
       (e, answer-more-buses (B + 1) (omega arith) (ap (λ x. x.number) e))
 
   -- "the least time is at least every planned module's time on a bus of W wires"
-  pub answer-single : (i : ℕ) → i < length (plannedOf s) → timeIn c s i W ≤ (planAnswer s W B c).plan.time.0
-  answer-single i l = rw (answer-time-of s W B c h) (plan-single (timeIn c s) (answer-first s W B c h).is-plan (falls c s W) i l)
+  pub answer_single : (i : ℕ) → i < length (planned_of s) → time_in c s i W ≤ (plan_answer s W B c).plan.time.0
+  answer_single i l = rw (answer-time_of s W B c h) (plan_single (time_in c s) (answer-first s W B c h).is-plan (falls c s W) i l)
 
   -- "B times it is at least the sum of those"
-  pub answer-shared : total (length (plannedOf s)) 0 (λ i. timeIn c s i W) ≤ B * (planAnswer s W B c).plan.time.0
-  answer-shared = rw (answer-time-of s W B c h) (plan-shared (timeIn c s) (answer-first s W B c h).is-plan (falls c s W))
+  pub answer_shared : total (length (planned_of s)) 0 (λ i. time_in c s i W) ≤ B * (plan_answer s W B c).plan.time.0
+  answer_shared = rw (answer-time_of s W B c h) (plan_shared (time_in c s) (answer-first s W B c h).is-plan (falls c s W))
 
   -- W times it is at least the sum of the planned modules' areas
-  pub answer-area : total (length (plannedOf s)) 0 (areaOf (timeIn c s) W) ≤ W * (planAnswer s W B c).plan.time.0
-  answer-area = rw (answer-time-of s W B c h) (plan-area (timeIn c s) (answer-first s W B c h).is-plan)
+  pub answer_area : total (length (planned_of s)) 0 (area_of (time_in c s) W) ≤ W * (plan_answer s W B c).plan.time.0
+  answer_area = rw (answer-time_of s W B c h) (plan_area (time_in c s) (answer-first s W B c h).is-plan)
 
   -- these times are what is answered for the modules alone
-  pub answer-times : (i : ℕ) → i < length (plannedOf s) → (w : ℕ) → 1 ≤ w → w ≤ widthMax
-      → (moduleTimeAnswer s (get_or (plannedOf s) i 0) w c).cycles.0 ≡ timeIn c s i w
-  unfolding timeIn
+  pub answer-times : (i : ℕ) → i < length (planned_of s) → (w : ℕ) → 1 ≤ w → w ≤ width_max
+      → (module_time_answer s (get_or (planned_of s) i 0) w c).cycles.0 ≡ time_in c s i w
+  unfolding time_in
   answer-times i l w a b =
-      let m = get_or (plannedOf s) i 0 in
+      let m = get_or (planned_of s) i 0 in
       let r = answered s W B c h in
       let good = r.good in
       let there = (planned-number s i l).0 in

@@ -6,22 +6,22 @@ use mathlib.Core.Bool.{Bool, true, false, cond}
 use mathlib.Core.List.{List}
 use native.Mathlib.Omega.{arith}
 use Rattle.units.specs.Refusals.{accepted}
-use Rattle.buffer.proofs.WriterAnswerLaws.{Fits, unless-fits}
-use Rattle.plan_record.specs.Good.{goodPlan}
+use Rattle.buffer.proofs.WriterAnswerLaws.{Fits, unless_fits}
+use Rattle.plan_record.specs.Good.{good_plan}
 use Rattle.plan_record.specs.declared.record.BusPlan.{BusPlan}
-use Rattle.plan_file.specs.Bytes.{fileBytes}
-use Rattle.plan_file.specs.Files.{writeAnswer, planIn, goodFile, refusedRead, readAnswer}
+use Rattle.plan_file.specs.Bytes.{file_bytes}
+use Rattle.plan_file.specs.Files.{write_answer, plan_in, good_file, refused_read, read_answer}
 
-pub write-fits : (p : BusPlan) (buf : List ℕ) → Fits buf (writeAnswer p buf)
-unfolding writeAnswer
-write-fits p buf = unless-fits 12 (fileBytes p) buf (omega arith) (goodPlan p)
+pub write_fits : (p : BusPlan) (buf : List ℕ) → Fits buf (write_answer p buf)
+unfolding write_answer
+write_fits p buf = unless_fits 12 (file_bytes p) buf (omega arith) (good_plan p)
 
-pub read_told : (f : List ℕ) → ((readAnswer f).refusal.number ≤ 14) × ((readAnswer f).refusal.line ≡ 0)
-unfolding readAnswer
-read_told f = go (goodFile f)
+pub read_told : (f : List ℕ) → ((read_answer f).refusal.number ≤ 14) × ((read_answer f).refusal.line ≡ 0)
+unfolding read_answer
+read_told f = go (good_file f)
   where
     go : (t : Bool) →
-        let a = cond t (record { refusal = accepted; plan = planIn f }) refusedRead in
+        let a = cond t (record { refusal = accepted; plan = plan_in f }) refused_read in
         (a.refusal.number ≤ 14) × (a.refusal.line ≡ 0)
     go true = (omega arith, refl)
     go false = (omega arith, refl)

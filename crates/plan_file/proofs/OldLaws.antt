@@ -6,19 +6,19 @@ use mathlib.Core.List.{List}
 use native.Mathlib.Omega.{arith}
 use Prim.Native.Nat.{ℕ}
 use Rattle.units.proofs.TestLaws.{and_both}
-use Rattle.plan_file.specs.Files.{goodLength, goodFile, refusedRead, readAnswer}
+use Rattle.plan_file.specs.Files.{good_length, good_file, refused_read, read_answer}
 use Rattle.plan_file.specs.OldFiles.{IsOld}
 use Rattle.plan_file.proofs.ReadLaws.{length-fits, answer-refused}
 
 -- with at least one module the two forms have two lengths
-pub forms-apart : (f : List ℕ) → goodFile f ≡ true → IsOld f → ⊥
-unfolding goodFile
-forms-apart f e o = let w = length-fits f (and_both (goodLength f) _ e).0 in omega (arith, w.exact, o.exact, o.some)
+pub forms_apart : (f : List ℕ) → good_file f ≡ true → IsOld f → ⊥
+unfolding good_file
+forms_apart f e o = let w = length-fits f (and_both (good_length f) _ e).0 in omega (arith, w.exact, o.exact, o.some)
 
 -- "a file of the old 12-byte records is 12"
-pub old-refused : (f : List ℕ) → IsOld f → readAnswer f ≡ refusedRead
-old-refused f o = sym (answer-refused f (bad (goodFile f) refl))
+pub old_refused : (f : List ℕ) → IsOld f → read_answer f ≡ refused_read
+old_refused f o = sym (answer-refused f (bad (good_file f) refl))
   where
-    bad : (t : Bool) → goodFile f ≡ t → goodFile f ≡ false
-    bad true e = absurd (forms-apart f e o)
+    bad : (t : Bool) → good_file f ≡ t → good_file f ≡ false
+    bad true e = absurd (forms_apart f e o)
     bad false e = e

@@ -7,35 +7,35 @@ use borrow.Author.Tests.{leb-true, eqb-true}
 use lib.ListN.{length}
 use Rattle.units.specs.Refusals.{accepted}
 use Rattle.units.proofs.TestLaws.{and_both}
-use Rattle.plan_record.specs.Record.{busPlaces, modulePlaces}
-use Rattle.plan_file.specs.Bytes.{trailerLength, fileLength}
-use Rattle.plan_file.specs.Files.{moduleCount, busCount, goodLength, planIn, goodFile, refusedRead, readAnswer}
+use Rattle.plan_record.specs.Record.{bus_places, module_places}
+use Rattle.plan_file.specs.Bytes.{trailer_length, file_length}
+use Rattle.plan_file.specs.Files.{module_count, bus_count, good_length, plan_in, good_file, refused_read, read_answer}
 
 -- what a good length says
 pub record Fitting (f : List ℕ) : Type 0 where
-  pub long : trailerLength ≤ length f
-  pub modules : moduleCount f ≤ modulePlaces
-  pub buses : busCount f ≤ busPlaces
-  pub exact : length f ≡ fileLength (moduleCount f) (busCount f)
+  pub long : trailer_length ≤ length f
+  pub modules : module_count f ≤ module_places
+  pub buses : bus_count f ≤ bus_places
+  pub exact : length f ≡ file_length (module_count f) (bus_count f)
 
-pub length-fits : (f : List ℕ) → goodLength f ≡ true → Fitting f
-unfolding goodLength
+pub length-fits : (f : List ℕ) → good_length f ≡ true → Fitting f
+unfolding good_length
 length-fits f e =
     let a = and_both _ _ e in
     let b = and_both _ _ a.1 in
     let d = and_both _ _ b.1 in
     record {
-      long = leb-true trailerLength (length f) a.0;
-      modules = leb-true (moduleCount f) modulePlaces b.0;
-      buses = leb-true (busCount f) busPlaces d.0;
-      exact = eqb-true (length f) (fileLength (moduleCount f) (busCount f)) d.1;
+      long = leb-true trailer_length (length f) a.0;
+      modules = leb-true (module_count f) module_places b.0;
+      buses = leb-true (bus_count f) bus_places d.0;
+      exact = eqb-true (length f) (file_length (module_count f) (bus_count f)) d.1;
     }
 
 -- what the reader answers
-pub answer-refused : (f : List ℕ) → goodFile f ≡ false → refusedRead ≡ readAnswer f
-unfolding readAnswer
+pub answer-refused : (f : List ℕ) → good_file f ≡ false → refused_read ≡ read_answer f
+unfolding read_answer
 answer-refused f e = rw e
 
-pub answer-accepted : (f : List ℕ) → goodFile f ≡ true → record { refusal = accepted; plan = planIn f } ≡ readAnswer f
-unfolding readAnswer
+pub answer-accepted : (f : List ℕ) → good_file f ≡ true → record { refusal = accepted; plan = plan_in f } ≡ read_answer f
+unfolding read_answer
 answer-accepted f e = rw e

@@ -10,13 +10,13 @@ use lib.Dec.{eqb}
 use lib.Seq.{length-take-le}
 use Rattle.units.specs.Places.{padded, all_of}
 use Rattle.units.proofs.TestLaws.{and_both}
-use Rattle.plan_record.specs.Record.{busPlaces, modulePlaces, noBus, noPlaced, modulesOf, busesOf}
+use Rattle.plan_record.specs.Record.{bus_places, module_places, no_bus, no_placed, modules_of, buses_of}
 use Rattle.plan_record.specs.declared.record.Bus.{Bus}
 use Rattle.plan_record.specs.declared.record.PlacedModule.{PlacedModule}
 use Rattle.plan_record.specs.declared.record.BusPlan.{BusPlan}
-use Rattle.plan_record.specs.Good.{spareBus, sparePlaced, spareRest, goodPlan}
+use Rattle.plan_record.specs.Good.{spare_bus, spare_placed, spare_rest, good_plan}
 use Rattle.plan_record.specs.Whole.{Whole}
-use Rattle.plan_record.proofs.GoodPlanLaws.{good-parts, good-figures}
+use Rattle.plan_record.proofs.GoodPlanLaws.{good_parts, good-figures}
 
 module _ {A : Type 0} (spare : A → Bool) (z : A) (only : (x : A) → spare x ≡ true → x ≡ z) where
   all-is : (xs : List A) → all_of spare xs ≡ true → xs ≡ replicate (length xs) z
@@ -37,37 +37,37 @@ module _ {A : Type 0} (spare : A → Bool) (z : A) (only : (x : A) → spare x �
       rw (m, ← d) (take-append-drop k xs)
 
 -- a figure that is 0, and more tests behind it
-zero-then : (n : ℕ) (b : Bool) → (eqb n 0 && b) ≡ true → (n ≡ 0) × (b ≡ true)
-zero-then n b e = let a = and_both (eqb n 0) b e in (eqb-true n 0 a.0, a.1)
+zero_then : (n : ℕ) (b : Bool) → (eqb n 0 && b) ≡ true → (n ≡ 0) × (b ≡ true)
+zero_then n b e = let a = and_both (eqb n 0) b e in (eqb-true n 0 a.0, a.1)
 
-bus-spare : (x : Bus) → spareBus x ≡ true → x ≡ noBus
-unfolding spareBus
+bus-spare : (x : Bus) → spare_bus x ≡ true → x ≡ no_bus
+unfolding spare_bus
 bus-spare x e =
-    let w = zero-then x.width.0 (eqb x.busy.0 0) e in
+    let w = zero_then x.width.0 (eqb x.busy.0 0) e in
     rw (w.0, eqb-true x.busy.0 0 w.1)
 
-placed-spare : (x : PlacedModule) → sparePlaced x ≡ true → x ≡ noPlaced
-unfolding sparePlaced
+placed-spare : (x : PlacedModule) → spare_placed x ≡ true → x ≡ no_placed
+unfolding spare_placed
 placed-spare x e =
-    let n = zero-then x.number (eqb x.bus 0 && (eqb x.wires.0 0 && (eqb x.cycles.0 0 && eqb x.start.0 0))) e in
-    let b = zero-then x.bus (eqb x.wires.0 0 && (eqb x.cycles.0 0 && eqb x.start.0 0)) n.1 in
-    let w = zero-then x.wires.0 (eqb x.cycles.0 0 && eqb x.start.0 0) b.1 in
-    let c = zero-then x.cycles.0 (eqb x.start.0 0) w.1 in
+    let n = zero_then x.number (eqb x.bus 0 && (eqb x.wires.0 0 && (eqb x.cycles.0 0 && eqb x.start.0 0))) e in
+    let b = zero_then x.bus (eqb x.wires.0 0 && (eqb x.cycles.0 0 && eqb x.start.0 0)) n.1 in
+    let w = zero_then x.wires.0 (eqb x.cycles.0 0 && eqb x.start.0 0) b.1 in
+    let c = zero_then x.cycles.0 (eqb x.start.0 0) w.1 in
     rw (n.0, b.0, w.0, c.0, eqb-true x.start.0 0 c.1)
 
-pub spare-both : (p : BusPlan) → spareRest p ≡ true
-    → (all_of spareBus (drop p.bus_count p.buses) ≡ true) × (all_of sparePlaced (drop p.module_count p.modules) ≡ true)
-unfolding spareRest
-spare-both p e = and_both _ _ e
+pub spare_both : (p : BusPlan) → spare_rest p ≡ true
+    → (all_of spare_bus (drop p.bus_count p.buses) ≡ true) × (all_of spare_placed (drop p.module_count p.modules) ≡ true)
+unfolding spare_rest
+spare_both p e = and_both _ _ e
 
-module _ (p : BusPlan) (w : Whole p) (e : goodPlan p ≡ true) where
-  pub buses-spare : padded busPlaces noBus (busesOf p) ≡ p.buses
+module _ (p : BusPlan) (w : Whole p) (e : good_plan p ≡ true) where
+  pub buses-spare : padded bus_places no_bus (buses_of p) ≡ p.buses
   buses-spare =
-      let s = (spare-both p (good-parts p e).spare).0 in
-      spare-padded spareBus noBus bus-spare busPlaces p.buses p.bus_count w.buses (good-figures p e).buses-high s
+      let s = (spare_both p (good_parts p e).spare).0 in
+      spare-padded spare_bus no_bus bus-spare bus_places p.buses p.bus_count w.buses (good-figures p e).buses-high s
 
-  pub modules-spare : padded modulePlaces noPlaced (modulesOf p) ≡ p.modules
+  pub modules-spare : padded module_places no_placed (modules_of p) ≡ p.modules
   modules-spare =
-      let s = (spare-both p (good-parts p e).spare).1 in
+      let s = (spare_both p (good_parts p e).spare).1 in
       let h = (good-figures p e).modules-high in
-      spare-padded sparePlaced noPlaced placed-spare modulePlaces p.modules p.module_count w.modules h s
+      spare-padded spare_placed no_placed placed-spare module_places p.modules p.module_count w.modules h s

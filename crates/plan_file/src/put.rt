@@ -1,7 +1,7 @@
 // The records of a plan file, each put at the front of the part that it is handed.
 ghost use Rattle.std.specs.Prelude.{◌≡◌, ◌≤◌, ◌<◌, length};
-ghost use Rattle.buffer.specs.Puts.{putFront};
-ghost use Rattle.plan_file.specs.Bytes.{moduleStride, busStride, trailerLength, moduleBytes, busBytes, trailerBytes};
+ghost use Rattle.buffer.specs.Puts.{put_front};
+ghost use Rattle.plan_file.specs.Bytes.{module_stride, bus_stride, trailer_length, module_bytes, bus_bytes, trailer_bytes};
 ghost use Rattle.plan_file.specs.Puts.{SmallModule, SmallTrailer};
 
 use super::strides::MODULE_STRIDE;
@@ -11,8 +11,8 @@ use plan_record::{Bus, BusPlan, PlacedModule};
 
 // Number, bus, wires, zero, cycles, start.
 pub(crate) fn put_module(b: &mut [u8], m: PlacedModule)
-    requires { (moduleStride ≤ length b.old) × SmallModule m }
-    ensures { b.new ≡ putFront (moduleBytes m) b.old }
+    requires { (module_stride ≤ length b.old) × SmallModule m }
+    ensures { b.new ≡ put_front (module_bytes m) b.old }
 {
     let w = [m.number as u8, m.bus as u8, m.wires.0 as u8, 0];
     let at = put_bytes(&mut *b, 0, &w);
@@ -22,8 +22,8 @@ pub(crate) fn put_module(b: &mut [u8], m: PlacedModule)
 
 // Width, three zeros, busy.
 pub(crate) fn put_bus(b: &mut [u8], x: Bus)
-    requires { (busStride ≤ length b.old) × (x.width.0 < 256) }
-    ensures { b.new ≡ putFront (busBytes x) b.old }
+    requires { (bus_stride ≤ length b.old) × (x.width.0 < 256) }
+    ensures { b.new ≡ put_front (bus_bytes x) b.old }
 {
     let w = [x.width.0 as u8, 0, 0, 0];
     let at = put_bytes(&mut *b, 0, &w);
@@ -32,8 +32,8 @@ pub(crate) fn put_bus(b: &mut [u8], x: Bus)
 
 // The offsets of the first module record, always 0, and of the first bus record; W, B, buses, modules; the time.
 pub(crate) fn put_trailer(b: &mut [u8], p: BusPlan)
-    requires { (trailerLength ≤ length b.old) × SmallTrailer p }
-    ensures { b.new ≡ putFront (trailerBytes p) b.old }
+    requires { (trailer_length ≤ length b.old) × SmallTrailer p }
+    ensures { b.new ≡ put_front (trailer_bytes p) b.old }
 {
     let buses = MODULE_STRIDE * p.module_count;
     let w = [

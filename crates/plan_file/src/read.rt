@@ -3,10 +3,10 @@ ghost use Rattle.std.specs.Prelude.{◌≡◌, true, ◌+◌, ◌*◌, ◌≤◌
 ghost use Rattle.units.specs.Places.{padded};
 ghost use Rattle.little_endian.specs.Little.{byte, number_at};
 ghost use Rattle.little_endian.specs.Rows.{rows};
-ghost use Rattle.plan_record.specs.Record.{busPlaces, modulePlaces, noBus, noPlaced};
-ghost use Rattle.plan_file.specs.Bytes.{moduleStride, busStride};
-ghost use Rattle.plan_file.specs.Files.{moduleAt, busAt, planIn, zeroModules, zeroBuses, goodLength, goodOffsets};
-ghost use Rattle.plan_file.specs.Files.{refusedRead, readAnswer};
+ghost use Rattle.plan_record.specs.Record.{bus_places, module_places, no_bus, no_placed};
+ghost use Rattle.plan_file.specs.Bytes.{module_stride, bus_stride};
+ghost use Rattle.plan_file.specs.Files.{module_at, bus_at, plan_in, zero_modules, zero_buses, good_length, good_offsets};
+ghost use Rattle.plan_file.specs.Files.{refused_read, read_answer};
 
 use super::strides::{BUS_STRIDE, MODULE_STRIDE, TRAILER};
 use little_endian::u64_at;
@@ -47,8 +47,8 @@ fn offset_at(f: &[u8], at: usize) -> usize
 
 // The first n records, of modules.
 fn modules_in(f: &[u8], n: usize) -> [PlacedModule; MODULE_PLACES]
-    requires { (n ≤ modulePlaces) × (moduleStride * n ≤ length f.now) }
-    ensures { result ≡ padded modulePlaces noPlaced (rows (moduleAt f.now) moduleStride n 0) }
+    requires { (n ≤ module_places) × (module_stride * n ≤ length f.now) }
+    ensures { result ≡ padded module_places no_placed (rows (module_at f.now) module_stride n 0) }
 {
     let mut list = [no_placed(); MODULE_PLACES];
     let mut i: usize = 0;
@@ -68,8 +68,8 @@ fn modules_in(f: &[u8], n: usize) -> [PlacedModule; MODULE_PLACES]
 
 // The n records from a place on, of buses.
 fn buses_in(f: &[u8], from: usize, n: usize) -> [Bus; BUS_PLACES]
-    requires { (n ≤ busPlaces) × (from + busStride * n ≤ length f.now) }
-    ensures { result ≡ padded busPlaces noBus (rows (busAt f.now) busStride n from) }
+    requires { (n ≤ bus_places) × (from + bus_stride * n ≤ length f.now) }
+    ensures { result ≡ padded bus_places no_bus (rows (bus_at f.now) bus_stride n from) }
 {
     let mut list = [no_bus(); BUS_PLACES];
     let mut i: usize = 0;
@@ -86,8 +86,8 @@ fn buses_in(f: &[u8], from: usize, n: usize) -> [Bus; BUS_PLACES]
 
 // Whether the zero byte of each of the first n records is 0.
 fn are_zero_modules(f: &[u8], n: usize) -> bool
-    requires { (n ≤ modulePlaces) × (moduleStride * n ≤ length f.now) }
-    ensures { result ≡ zeroModules f.now n }
+    requires { (n ≤ module_places) × (module_stride * n ≤ length f.now) }
+    ensures { result ≡ zero_modules f.now n }
 {
     let mut i: usize = 0;
     while i < n {
@@ -102,8 +102,8 @@ fn are_zero_modules(f: &[u8], n: usize) -> bool
 
 // Whether the three zeros of each of n records from a place on are 0.
 fn are_zero_buses(f: &[u8], from: usize, n: usize) -> bool
-    requires { (n ≤ busPlaces) × (from + busStride * n ≤ length f.now) }
-    ensures { result ≡ zeroBuses f.now n from }
+    requires { (n ≤ bus_places) × (from + bus_stride * n ≤ length f.now) }
+    ensures { result ≡ zero_buses f.now n from }
 {
     let mut i: usize = 0;
     while i < n {
@@ -124,7 +124,7 @@ fn are_zero_buses(f: &[u8], from: usize, n: usize) -> bool
 
 // Whether the trailer is there, the counts keep their limits, and the records and the trailer are all.
 fn has_good_length(f: &[u8]) -> bool
-    ensures { result ≡ goodLength f.now }
+    ensures { result ≡ good_length f.now }
 {
     if f.len() < TRAILER {
         return false;
@@ -142,8 +142,8 @@ fn has_good_length(f: &[u8]) -> bool
 }
 
 fn plan_in(f: &[u8]) -> BusPlan
-    requires { goodLength f.now ≡ true }
-    ensures { result ≡ planIn f.now }
+    requires { good_length f.now ≡ true }
+    ensures { result ≡ plan_in f.now }
 {
     let t = f.len() - TRAILER;
     let modules = figure_at(f, t + 7);
@@ -161,8 +161,8 @@ fn plan_in(f: &[u8]) -> BusPlan
 
 // The offsets of the trailer: of the first module record, always 0, and of the first bus record.
 fn has_good_offsets(f: &[u8]) -> bool
-    requires { goodLength f.now ≡ true }
-    ensures { result ≡ goodOffsets f.now }
+    requires { good_length f.now ≡ true }
+    ensures { result ≡ good_offsets f.now }
 {
     let t = f.len() - TRAILER;
     let modules = figure_at(f, t + 7);
@@ -173,7 +173,7 @@ fn has_good_offsets(f: &[u8]) -> bool
 }
 
 fn refused_read() -> FileRead
-    ensures { result ≡ refusedRead }
+    ensures { result ≡ refused_read }
 {
     FileRead {
         refusal: Refusal::at(12, 0),
@@ -182,7 +182,7 @@ fn refused_read() -> FileRead
 }
 
 pub fn read_plan(file: &[u8]) -> FileRead
-    ensures { result ≡ readAnswer file.now }
+    ensures { result ≡ read_answer file.now }
 {
     if !has_good_length(file) {
         return refused_read();

@@ -1,11 +1,11 @@
 // A plan record written to its file, at the front of a lent buffer; or the refusal: 12, then 11.
 ghost use Rattle.std.specs.Prelude.{◌≡◌, ◌*◌, ◌≤◌, length};
-ghost use Rattle.buffer.specs.Puts.{putFront};
+ghost use Rattle.buffer.specs.Puts.{put_front};
 ghost use Rattle.little_endian.specs.Rows.{each};
-ghost use Rattle.plan_record.specs.Record.{busesOf, modulesOf};
-ghost use Rattle.plan_file.specs.Bytes.{moduleStride, busStride, fileLength, moduleBytes, busBytes, fileBytes};
+ghost use Rattle.plan_record.specs.Record.{buses_of, modules_of};
+ghost use Rattle.plan_file.specs.Bytes.{module_stride, bus_stride, file_length, module_bytes, bus_bytes, file_bytes};
 ghost use Rattle.plan_file.specs.Puts.{Small};
-ghost use Rattle.plan_file.specs.Files.{writeAnswer, writeLeaves};
+ghost use Rattle.plan_file.specs.Files.{write_answer, write_leaves};
 
 use super::put::{put_bus, put_module, put_trailer};
 use super::strides::{BUS_STRIDE, MODULE_STRIDE, TRAILER};
@@ -16,8 +16,8 @@ use units::Refusal;
 
 // The records of the modules, ascending: each writer gets the part that starts at its offset.
 fn put_modules(b: &mut [u8], p: BusPlan)
-    requires { Small p × (moduleStride * p.module_count ≤ length b.old) }
-    ensures { b.new ≡ putFront (each moduleBytes (modulesOf p)) b.old }
+    requires { Small p × (module_stride * p.module_count ≤ length b.old) }
+    ensures { b.new ≡ put_front (each module_bytes (modules_of p)) b.old }
 {
     let n = p.module_count;
     let mut i: usize = 0;
@@ -31,8 +31,8 @@ fn put_modules(b: &mut [u8], p: BusPlan)
 
 // The records of the buses.
 fn put_buses(b: &mut [u8], p: BusPlan)
-    requires { Small p × (busStride * p.bus_count ≤ length b.old) }
-    ensures { b.new ≡ putFront (each busBytes (busesOf p)) b.old }
+    requires { Small p × (bus_stride * p.bus_count ≤ length b.old) }
+    ensures { b.new ≡ put_front (each bus_bytes (buses_of p)) b.old }
 {
     let n = p.bus_count;
     let mut i: usize = 0;
@@ -46,8 +46,8 @@ fn put_buses(b: &mut [u8], p: BusPlan)
 
 // The trailer is written last, at the end of the part used.
 fn put_file(b: &mut [u8], p: BusPlan)
-    requires { Small p × (fileLength p.module_count p.bus_count ≤ length b.old) }
-    ensures { b.new ≡ putFront (fileBytes p) b.old }
+    requires { Small p × (file_length p.module_count p.bus_count ≤ length b.old) }
+    ensures { b.new ≡ put_front (file_bytes p) b.old }
 {
     let buses = MODULE_STRIDE * p.module_count;
     let trailer = buses + BUS_STRIDE * p.bus_count;
@@ -57,7 +57,7 @@ fn put_file(b: &mut [u8], p: BusPlan)
 }
 
 pub fn write_plan(p: BusPlan, buf: &mut [u8]) -> Written
-    ensures { (result ≡ writeAnswer p buf.old) × (buf.new ≡ writeLeaves p buf.old) }
+    ensures { (result ≡ write_answer p buf.old) × (buf.new ≡ write_leaves p buf.old) }
 {
     if !is_good_plan(p) {
         return refused_write(12);

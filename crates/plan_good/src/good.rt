@@ -2,8 +2,8 @@
 ghost use Rattle.std.specs.Prelude.{◌≡◌, true, ◌≤◌, drop};
 ghost use Rattle.units.specs.Places.{all_of};
 ghost use Rattle.plan_rules.specs.Plans.{sum};
-ghost use Rattle.plan_record.specs.Record.{busPlaces, modulePlaces, modulesOf, busesOf, widthsOf, numbersOf};
-ghost use Rattle.plan_record.specs.Good.{goodCounts, ascendingFrom, goodPlaced, risingFrom, goodBuses, spareBus, sparePlaced, spareRest, goodPlan};
+ghost use Rattle.plan_record.specs.Record.{bus_places, module_places, modules_of, buses_of, widths_of, numbers_of};
+ghost use Rattle.plan_record.specs.Good.{good_counts, ascending_from, good_placed, rising_from, good_buses, spare_bus, spare_placed, spare_rest, good_plan};
 
 use plan_record::{BUS_PLACES, BusPlan, MODULE_PLACES, PlacedModule};
 use plan_sums::{has_good_starts, has_good_times};
@@ -14,7 +14,7 @@ use wrapper_fit::{MODULE_TIME_MAX, WIDTH_MAX};
 const NUMBER_MAX: usize = MODULES_MAX - 1;
 
 fn has_good_counts(p: BusPlan) -> bool
-    ensures { result ≡ goodCounts p }
+    ensures { result ≡ good_counts p }
 {
     if p.wires.0 < 1 {
         return false;
@@ -35,8 +35,8 @@ fn has_good_counts(p: BusPlan) -> bool
 }
 
 fn is_ascending(p: BusPlan) -> bool
-    requires { p.module_count ≤ modulePlaces }
-    ensures { result ≡ ascendingFrom 1 (numbersOf (modulesOf p)) }
+    requires { p.module_count ≤ module_places }
+    ensures { result ≡ ascending_from 1 (numbers_of (modules_of p)) }
 {
     let n = p.module_count;
     let mut low: usize = 1;
@@ -56,8 +56,8 @@ fn is_ascending(p: BusPlan) -> bool
 }
 
 fn is_good_placed(p: BusPlan, m: PlacedModule) -> bool
-    requires { p.bus_count ≤ busPlaces }
-    ensures { result ≡ goodPlaced p m }
+    requires { p.bus_count ≤ bus_places }
+    ensures { result ≡ good_placed p m }
 {
     let bus = m.bus;
     if bus < 1 {
@@ -80,8 +80,8 @@ fn is_good_placed(p: BusPlan, m: PlacedModule) -> bool
 }
 
 fn are_good_placed(p: BusPlan) -> bool
-    requires { (p.bus_count ≤ busPlaces) × (p.module_count ≤ modulePlaces) }
-    ensures { result ≡ all_of (goodPlaced p) (modulesOf p) }
+    requires { (p.bus_count ≤ bus_places) × (p.module_count ≤ module_places) }
+    ensures { result ≡ all_of (good_placed p) (modules_of p) }
 {
     let n = p.module_count;
     let mut i: usize = 0;
@@ -96,8 +96,8 @@ fn are_good_placed(p: BusPlan) -> bool
 }
 
 fn is_rising(p: BusPlan) -> bool
-    requires { p.bus_count ≤ busPlaces }
-    ensures { result ≡ risingFrom 1 (widthsOf (busesOf p)) }
+    requires { p.bus_count ≤ bus_places }
+    ensures { result ≡ rising_from 1 (widths_of (buses_of p)) }
 {
     let n = p.bus_count;
     let mut low: u32 = 1;
@@ -114,8 +114,8 @@ fn is_rising(p: BusPlan) -> bool
 }
 
 fn sum_widths(p: BusPlan) -> u64
-    requires { p.bus_count ≤ busPlaces }
-    ensures { result ≡ sum (widthsOf (busesOf p)) }
+    requires { p.bus_count ≤ bus_places }
+    ensures { result ≡ sum (widths_of (buses_of p)) }
 {
     let n = p.bus_count;
     let mut sum: u64 = 0;
@@ -129,8 +129,8 @@ fn sum_widths(p: BusPlan) -> u64
 }
 
 fn has_good_buses(p: BusPlan) -> bool
-    requires { p.limit ≤ busPlaces }
-    ensures { result ≡ goodBuses p }
+    requires { p.limit ≤ bus_places }
+    ensures { result ≡ good_buses p }
 {
     if p.bus_count < 1 {
         return false;
@@ -145,8 +145,8 @@ fn has_good_buses(p: BusPlan) -> bool
 }
 
 fn are_spare_buses(p: BusPlan, n: usize) -> bool
-    requires { n ≤ busPlaces }
-    ensures { result ≡ all_of spareBus (drop n p.buses) }
+    requires { n ≤ bus_places }
+    ensures { result ≡ all_of spare_bus (drop n p.buses) }
 {
     let mut i = n;
     while i < BUS_PLACES {
@@ -163,7 +163,7 @@ fn are_spare_buses(p: BusPlan, n: usize) -> bool
 }
 
 fn is_spare_placed(m: PlacedModule) -> bool
-    ensures { result ≡ sparePlaced m }
+    ensures { result ≡ spare_placed m }
 {
     if m.number != 0 {
         return false;
@@ -181,8 +181,8 @@ fn is_spare_placed(m: PlacedModule) -> bool
 }
 
 fn are_spare_placed(p: BusPlan, n: usize) -> bool
-    requires { n ≤ modulePlaces }
-    ensures { result ≡ all_of sparePlaced (drop n p.modules) }
+    requires { n ≤ module_places }
+    ensures { result ≡ all_of spare_placed (drop n p.modules) }
 {
     let mut i = n;
     while i < MODULE_PLACES {
@@ -197,7 +197,7 @@ fn are_spare_placed(p: BusPlan, n: usize) -> bool
 
 // The bus count is looked at before the modules' buses, so that it is a place in the record; the answer is the same in any order.
 pub fn is_good_plan(p: BusPlan) -> bool
-    ensures { result ≡ goodPlan p }
+    ensures { result ≡ good_plan p }
 {
     if !has_good_counts(p) {
         return false;

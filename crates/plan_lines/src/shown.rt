@@ -1,17 +1,17 @@
 // The lines of a plan record at the front of a lent buffer; or the refusal: 12, then 11.
 ghost use Rattle.std.specs.Prelude.{◌≡◌, ◌≤◌, length};
 ghost use Rattle.buffer.specs.Puts.{Put};
-ghost use Rattle.plan_record.specs.Record.{busPlaces, modulePlaces};
-ghost use Rattle.listing.specs.Listing.{shown, showAnswer, showLeaves};
-ghost use Rattle.listing.specs.Room.{planRoom};
+ghost use Rattle.plan_record.specs.Record.{bus_places, module_places};
+ghost use Rattle.listing.specs.Listing.{shown, show_answer, show_leaves};
+ghost use Rattle.listing.specs.Room.{plan_room};
 
 use buffer::Written;
 use plan_record::BusPlan;
 
 // The lines of a plan record, without the name.
 fn put_shown(buf: &mut [u8], p: BusPlan) -> usize
-    requires { (p.bus_count ≤ busPlaces) × (p.module_count ≤ modulePlaces) × (planRoom ≤ length buf.old) }
-    ensures { Put (shown p) 0 buf.old buf.new result × (length (shown p) ≤ planRoom) }
+    requires { (p.bus_count ≤ bus_places) × (p.module_count ≤ module_places) × (plan_room ≤ length buf.old) }
+    ensures { Put (shown p) 0 buf.old buf.new result × (length (shown p) ≤ plan_room) }
 {
     let a = listing::put_counts(&mut *buf, 0, p);
     listing::put_rest(&mut *buf, a, p)
@@ -19,7 +19,7 @@ fn put_shown(buf: &mut [u8], p: BusPlan) -> usize
 
 // A plan record's lines, without the name that it does not hold.
 pub fn show(p: BusPlan, buf: &mut [u8]) -> Written
-    ensures { (result ≡ showAnswer p buf.old) × (buf.new ≡ showLeaves p buf.old) }
+    ensures { (result ≡ show_answer p buf.old) × (buf.new ≡ show_leaves p buf.old) }
 {
     if !plan_good::is_good_plan(p) {
         return buffer::refused_write(12);

@@ -1,6 +1,6 @@
 // The plan record: what a planner answers, and a plan file says.
 ghost use Rattle.std.specs.Prelude.{◌≡◌};
-ghost use Rattle.plan_record.specs.Record.{noBus, noPlaced, noPlan};
+ghost use Rattle.plan_record.specs.Record.{no_bus, no_placed, no_plan};
 
 use units::{Cycles, Wires};
 
@@ -38,7 +38,7 @@ pub struct BusPlan {
 
 // A spare bus.
 pub fn no_bus() -> Bus
-    ensures { result ≡ noBus }
+    ensures { result ≡ no_bus }
 {
     Bus {
         width: Wires(0),
@@ -48,7 +48,7 @@ pub fn no_bus() -> Bus
 
 // A spare planned module.
 pub fn no_placed() -> PlacedModule
-    ensures { result ≡ noPlaced }
+    ensures { result ≡ no_placed }
 {
     PlacedModule {
         number: 0,
@@ -61,7 +61,7 @@ pub fn no_placed() -> PlacedModule
 
 // What a refusal answers in the place of a plan.
 pub fn no_plan() -> BusPlan
-    ensures { result ≡ noPlan }
+    ensures { result ≡ no_plan }
 {
     BusPlan {
         wires: Wires(0),

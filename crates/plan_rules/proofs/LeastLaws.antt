@@ -1,4 +1,4 @@
--- `firstLeast` and `first_of` give the first element of least time, for any time and any list of plans. Assumes nothing.
+-- `first_least` and `first_of` give the first element of least time, for any time and any list of plans. Assumes nothing.
 use Prim.Native.Nat.{ℕ, ◌≤◌, ◌<◌}
 use mathlib.Core.Path.{◌≡◌, refl, sym, ap, ◌∙◌}
 use mathlib.Core.Bool.{Bool, true, false, cond}
@@ -9,7 +9,7 @@ use native.Mathlib.Omega.{arith}
 use lib.Dec.{ltb}
 use borrow.Author.Tests.{ltb-true, ltb-false}
 use Rattle.plan_rules.specs.Plans.{Plan}
-use Rattle.plan_rules.specs.Listed.{firstLeast, first_of}
+use Rattle.plan_rules.specs.Listed.{first_least, first_of}
 use Rattle.plan_rules.proofs.ListLaws.{Sorted, more}
 
 -- x stands in the list, and y at a later place
@@ -17,10 +17,10 @@ pub data Later {A : Type 0} (x y : A) : List A → Type 0 where
   here : {z : A} {zs : List A} → x ≡ z → Memᴰ y zs → Later x y (z ∷ zs)
   behind : {z : A} {zs : List A} → Later x y zs → Later x y (z ∷ zs)
 
-pub sorted-later : {A : Type 0} (R : A → A → Type 0) (x y : A) (zs : List A) → Sorted R zs → Later x y zs → R x y
-sorted-later R x y [] s l = elim l [ ]
-sorted-later R x y (z ∷ zs) (more h s) (here e m) = rw e (h y m)
-sorted-later R x y (z ∷ zs) (more h s) (behind l) = sorted-later R x y zs s l
+pub sorted_later : {A : Type 0} (R : A → A → Type 0) (x y : A) (zs : List A) → Sorted R zs → Later x y zs → R x y
+sorted_later R x y [] s l = elim l [ ]
+sorted_later R x y (z ∷ zs) (more h s) (here e m) = rw e (h y m)
+sorted_later R x y (z ∷ zs) (more h s) (behind l) = sorted_later R x y zs s l
 
 later_more : {A : Type 0} {x y p q : A} {zs : List A} → Later x y (p ∷ zs) → Later x y (p ∷ q ∷ zs)
 later_more (here e m) = here e (Memᴰ.tail m)
@@ -67,38 +67,38 @@ module _ (time : Plan → ℕ) where
             (Memᴰ.cases_cons m);
       }
 
-  pub least-le : (p : Plan) (qs : List Plan) → time (firstLeast time p qs) ≤ time p
-  unfolding firstLeast
-  least-le p [] = omega arith
-  least-le p (q ∷ qs) = pick (least-le q qs) (least-le p qs) (ltb (time q) (time p)) refl
+  pub least_le : (p : Plan) (qs : List Plan) → time (first_least time p qs) ≤ time p
+  unfolding first_least
+  least_le p [] = omega arith
+  least_le p (q ∷ qs) = pick (least_le q qs) (least_le p qs) (ltb (time q) (time p)) refl
     where
-      pick : time (firstLeast time q qs) ≤ time q → time (firstLeast time p qs) ≤ time p → (t : Bool) → ltb (time q) (time p) ≡ t
-          → time (cond t (firstLeast time q qs) (firstLeast time p qs)) ≤ time p
+      pick : time (first_least time q qs) ≤ time q → time (first_least time p qs) ≤ time p → (t : Bool) → ltb (time q) (time p) ≡ t
+          → time (cond t (first_least time q qs) (first_least time p qs)) ≤ time p
       pick a b true e = omega (arith, ltb-true (time q) (time p) e)
       pick a b false e = b
 
   -- where nothing is better than p, it is p
-  pub least-same : (p : Plan) (qs : List Plan) → time p ≤ time (firstLeast time p qs) → firstLeast time p qs ≡ p
-  unfolding firstLeast
+  pub least-same : (p : Plan) (qs : List Plan) → time p ≤ time (first_least time p qs) → first_least time p qs ≡ p
+  unfolding first_least
   least-same p [] h = refl
   least-same p (q ∷ qs) h = pick (least-same p qs) (ltb (time q) (time p)) refl h
     where
-      pick : (time p ≤ time (firstLeast time p qs) → firstLeast time p qs ≡ p) → (t : Bool) → ltb (time q) (time p) ≡ t
-          → time p ≤ time (cond t (firstLeast time q qs) (firstLeast time p qs))
-          → cond t (firstLeast time q qs) (firstLeast time p qs) ≡ p
-      pick ih true e k = absurd (omega (arith, ltb-true (time q) (time p) e, least-le q qs))
+      pick : (time p ≤ time (first_least time p qs) → first_least time p qs ≡ p) → (t : Bool) → ltb (time q) (time p) ≡ t
+          → time p ≤ time (cond t (first_least time q qs) (first_least time p qs))
+          → cond t (first_least time q qs) (first_least time p qs) ≡ p
+      pick ih true e k = absurd (omega (arith, ltb-true (time q) (time p) e, least_le q qs))
       pick ih false e k = ih k
 
-  pub least-is : (p : Plan) (qs : List Plan) → Least time (p ∷ qs) (firstLeast time p qs)
-  unfolding firstLeast
+  pub least-is : (p : Plan) (qs : List Plan) → Least time (p ∷ qs) (first_least time p qs)
+  unfolding first_least
   least-is p [] = least-one p
   least-is p (q ∷ qs) = pick (least-is q qs) (least-is p qs) (ltb (time q) (time p)) refl
     where
-      pick : Least time (q ∷ qs) (firstLeast time q qs) → Least time (p ∷ qs) (firstLeast time p qs) → (t : Bool)
+      pick : Least time (q ∷ qs) (first_least time q qs) → Least time (p ∷ qs) (first_least time p qs) → (t : Bool)
           → ltb (time q) (time p) ≡ t
-          → Least time (p ∷ q ∷ qs) (cond t (firstLeast time q qs) (firstLeast time p qs))
-      pick a b true e = least-better p q (firstLeast time q qs) qs (ltb-true (time q) (time p) e) a
-      pick a b false e = least-no-better p q (firstLeast time p qs) qs (ltb-false (time q) (time p) e) (least-same p qs) b
+          → Least time (p ∷ q ∷ qs) (cond t (first_least time q qs) (first_least time p qs))
+      pick a b true e = least-better p q (first_least time q qs) qs (ltb-true (time q) (time p) e) a
+      pick a b false e = least-no-better p q (first_least time p qs) qs (ltb-false (time q) (time p) e) (least-same p qs) b
 
   -- of a list with an element
   pub first-is : (ps : List Plan) (p : Plan) → Memᴰ p ps → Least time ps (first_of time ps)

@@ -6,7 +6,7 @@ use mathlib.Core.Path.{◌≡◌, refl, ap}
 use mathlib.Core.List.{List, [], ◌∷◌}
 use native.Mathlib.Omega.{arith}
 use lib.ListN.{length, get_or}
-use Rattle.plan_rules.specs.Plans.{Plan, IsPlan, sum, timeOf}
+use Rattle.plan_rules.specs.Plans.{Plan, IsPlan, sum, time_of}
 use Rattle.plan_rules.specs.Listed.{plan}
 use Rattle.plan_rules.specs.First.{IsFirst}
 use Rattle.plan_rules.specs.Widths.{Wider, nothing, wider}
@@ -26,40 +26,40 @@ limit-more h r = record {
 }
 
 -- the last bus has d wires more
-lastMore : ℕ → List ℕ → List ℕ
-lastMore d [] = []
-lastMore d (w ∷ []) = (w + d) ∷ []
-lastMore d (w ∷ v ∷ ws) = w ∷ lastMore d (v ∷ ws)
+last_more : ℕ → List ℕ → List ℕ
+last_more d [] = []
+last_more d (w ∷ []) = (w + d) ∷ []
+last_more d (w ∷ v ∷ ws) = w ∷ last_more d (v ∷ ws)
 
-more-length : (d : ℕ) (ws : List ℕ) → length (lastMore d ws) ≡ length ws
-unfolding lastMore
+more-length : (d : ℕ) (ws : List ℕ) → length (last_more d ws) ≡ length ws
+unfolding last_more
 more-length d [] = refl
 more-length d (w ∷ []) = refl
 more-length d (w ∷ v ∷ ws) = ap suc (more-length d (v ∷ ws))
 
-more-sum : (d : ℕ) (ws : List ℕ) → 1 ≤ length ws → sum (lastMore d ws) ≡ sum ws + d
-unfolding lastMore sum
+more-sum : (d : ℕ) (ws : List ℕ) → 1 ≤ length ws → sum (last_more d ws) ≡ sum ws + d
+unfolding last_more sum
 more-sum d [] h = absurd (omega arith)
 more-sum d (w ∷ []) h = omega arith
 more-sum d (w ∷ v ∷ ws) h = omega (arith, more-sum d (v ∷ ws) (omega arith))
 
-more-before : (d : ℕ) (ws : List ℕ) (j : ℕ) → suc j < length ws → get_or (lastMore d ws) j 0 ≡ get_or ws j 0
-unfolding lastMore
+more-before : (d : ℕ) (ws : List ℕ) (j : ℕ) → suc j < length ws → get_or (last_more d ws) j 0 ≡ get_or ws j 0
+unfolding last_more
 more-before d [] j h = refl
 more-before d (w ∷ []) j h = absurd (omega arith)
 more-before d (w ∷ v ∷ ws) zero h = refl
 more-before d (w ∷ v ∷ ws) (suc j) h = more-before d (v ∷ ws) j (omega arith)
 
-more-ge : (d : ℕ) (ws : List ℕ) (j : ℕ) → get_or ws j 0 ≤ get_or (lastMore d ws) j 0
-unfolding lastMore
-more-ge d [] j = omega arith
-more-ge d (w ∷ []) zero = omega arith
-more-ge d (w ∷ []) (suc j) = omega arith
-more-ge d (w ∷ v ∷ ws) zero = omega arith
-more-ge d (w ∷ v ∷ ws) (suc j) = more-ge d (v ∷ ws) j
+more_ge : (d : ℕ) (ws : List ℕ) (j : ℕ) → get_or ws j 0 ≤ get_or (last_more d ws) j 0
+unfolding last_more
+more_ge d [] j = omega arith
+more_ge d (w ∷ []) zero = omega arith
+more_ge d (w ∷ []) (suc j) = omega arith
+more_ge d (w ∷ v ∷ ws) zero = omega arith
+more_ge d (w ∷ v ∷ ws) (suc j) = more_ge d (v ∷ ws) j
 
-more-wider : (d top : ℕ) (ws : List ℕ) → ((j : ℕ) → j < length ws → 1 ≤ get_or ws j 0) → sum ws + d ≤ top → Wider top ws (lastMore d ws)
-unfolding lastMore sum
+more-wider : (d top : ℕ) (ws : List ℕ) → ((j : ℕ) → j < length ws → 1 ≤ get_or ws j 0) → sum ws + d ≤ top → Wider top ws (last_more d ws)
+unfolding last_more sum
 more-wider d top [] low h = nothing
 more-wider d top (w ∷ []) low h = let k : w ≤ w + d = omega arith in wider (low 0 (omega arith)) k (omega arith) nothing
 more-wider d top (w ∷ v ∷ ws) low h =
@@ -67,34 +67,34 @@ more-wider d top (w ∷ v ∷ ws) low h =
     wider (low 0 (omega arith)) k (omega arith) (more-wider d top (v ∷ ws) (λ j l. low (suc j) (omega arith)) (omega arith))
 
 -- with more wires on the last bus a plan is a plan for more wires
-more-plan : {W B n : ℕ} {p : Plan} (d : ℕ) → IsPlan W B n p → IsPlan (W + d) B n (plan (lastMore d p.widths) p.buses)
+more-plan : {W B n : ℕ} {p : Plan} (d : ℕ) → IsPlan W B n p → IsPlan (W + d) B n (plan (last_more d p.widths) p.buses)
 more-plan {p = p} d r =
     let ws = p.widths in
-    let e : length (lastMore d ws) ≡ length ws = more-length d ws in
+    let e : length (last_more d ws) ≡ length ws = more-length d ws in
     record {
       some = omega (arith, r.some);
       limit = omega (arith, r.limit);
-      wide = λ i h. omega (arith, r.wide i (omega arith), more-ge d ws i);
-      rising = λ i h. omega (arith, r.rising i (omega arith), more-before d ws i (omega arith), more-ge d ws (suc i));
+      wide = λ i h. omega (arith, r.wide i (omega arith), more_ge d ws i);
+      rising = λ i h. omega (arith, r.rising i (omega arith), more-before d ws i (omega arith), more_ge d ws (suc i));
       wires = omega (arith, more-sum d ws r.some, r.wires);
       placed = r.placed;
       low = r.low;
       high = λ i h. omega (arith, r.high i h);
     }
 
-module _ (time : ℕ → ℕ → ℕ) {W B n : ℕ} {p : Plan} (f : IsFirst (timeOf time) W B n p) where
+module _ (time : ℕ → ℕ → ℕ) {W B n : ℕ} {p : Plan} (f : IsFirst (time_of time) W B n p) where
   -- with more buses the least time is no larger
-  pub more-buses : {C : ℕ} {q : Plan} → B ≤ C → IsFirst (timeOf time) W C n q → timeOf time q ≤ timeOf time p
+  pub more-buses : {C : ℕ} {q : Plan} → B ≤ C → IsFirst (time_of time) W C n q → time_of time q ≤ time_of time p
   more-buses h g = g.least p (limit-more h f.is-plan)
 
   -- nor is it with more wires
   pub more-wires : {U : ℕ} {q : Plan} → W ≤ U → ((i v w : ℕ) → i < n → 1 ≤ v → v ≤ w → w ≤ U → time i w ≤ time i v)
-      → IsFirst (timeOf time) U B n q → timeOf time q ≤ timeOf time p
+      → IsFirst (time_of time) U B n q → time_of time q ≤ time_of time p
   more-wires {U} h falls g =
       let d = U - W in
       let ws = p.widths in
       let e : W + d ≡ U = omega arith in
       let r = f.is-plan in
-      let a = g.least (plan (lastMore d ws) p.buses) (rw e at (more-plan d r)) in
+      let a = g.least (plan (last_more d ws) p.buses) (rw e at (more-plan d r)) in
       let b = wider-plan time n U falls (more-wider d U ws r.wide (omega (arith, r.wires))) p.buses r.placed in
       omega (arith, a, b)

@@ -8,13 +8,13 @@ use native.Mathlib.Omega.{arith}
 use native.Mathlib.Nat.{suc-mul, mul-le-mul_left, mul_comm, le-div_iff_mul-le, div-le_self}
 use lib.ListN.{length, get_or, length-append, length-replicate}
 use lib.Dec.{eqb}
-use Rattle.plan_rules.specs.Plans.{Plan, IsPlan, sum, busyFrom, busies, largest, timeOf}
-use Rattle.plan_rules.specs.Listed.{widthLists, placements, plan, plansOn, plans}
-use Rattle.plan_rules.specs.Least.{leastAll, costOn, leastBy, leastOn}
+use Rattle.plan_rules.specs.Plans.{Plan, IsPlan, sum, busy_from, busies, largest, time_of}
+use Rattle.plan_rules.specs.Listed.{width_lists, placements, plan, plans_on, plans}
+use Rattle.plan_rules.specs.Least.{least_all, cost_on, least_by, least_on}
 use Rattle.plan_rules.specs.Widths.{Rising, none, more, Wider, nothing, wider, widest, even}
-use Rattle.plan_rules.proofs.ListedLaws.{placements-sound, widths-complete, plans-on-in, sound}
-use Rattle.plan_rules.proofs.ListLaws.{upward-in}
-use Rattle.plan_rules.proofs.AllLaws.{all-le, all_in, all-ge}
+use Rattle.plan_rules.proofs.ListedLaws.{placements_sound, widths_complete, plans_on_in, sound}
+use Rattle.plan_rules.proofs.ListLaws.{upward_in}
+use Rattle.plan_rules.proofs.AllLaws.{all_le, all_in, all_ge}
 
 pub wider-length : {top : ℕ} {ws vs : List ℕ} → Wider top ws vs → length vs ≡ length ws
 wider-length nothing = refl
@@ -33,25 +33,25 @@ wider-behind top u (w ∷ pre) h (more l r) t p =
 
 -- where every placement costs at most as much on wider buses, so does the least
 pub wider-least : (cost : Plan → ℕ) (n top : ℕ) {ws vs : List ℕ} → Wider top ws vs
-    → ((bs : List ℕ) → length bs ≡ n → costOn cost vs bs ≤ costOn cost ws bs) → (t : ℕ)
-    → leastBy cost n vs t ≤ leastBy cost n ws t
-unfolding leastBy
+    → ((bs : List ℕ) → length bs ≡ n → cost_on cost vs bs ≤ cost_on cost ws bs) → (t : ℕ)
+    → least_by cost n vs t ≤ least_by cost n ws t
+unfolding least_by
 wider-least cost n top {ws} {vs} r h t =
     let e : length vs ≡ length ws = wider-length r in
-    rw e (all-ge (costOn cost ws) t (leastAll (costOn cost vs) t (placements n (length ws))) (placements n (length ws)) (all-le (costOn cost vs) t (placements n (length ws)))
-    (λ bs k. omega (arith, all_in (costOn cost vs) t (placements n (length ws)) bs k, h bs (placements-sound n (length ws) bs k).placed)))
+    rw e (all_ge (cost_on cost ws) t (least_all (cost_on cost vs) t (placements n (length ws))) (placements n (length ws)) (all_le (cost_on cost vs) t (placements n (length ws)))
+    (λ bs k. omega (arith, all_in (cost_on cost vs) t (placements n (length ws)) bs k, h bs (placements_sound n (length ws) bs k).placed)))
 
-cond-le : (t : Bool) (x y : ℕ) → x ≤ y → cond t x 0 ≤ cond t y 0
-cond-le true x y h = h
-cond-le false x y h = omega arith
+cond_le : (t : Bool) (x y : ℕ) → x ≤ y → cond t x 0 ≤ cond t y 0
+cond_le true x y h = h
+cond_le false x y h = omega arith
 
 -- times that do not rise: nor do busy figures
 busy-falls : (time : ℕ → ℕ → ℕ) (i b u w : ℕ) (xs : List ℕ) → ((k : ℕ) → i ≤ k → k < i + length xs → time k u ≤ time k w)
-    → busyFrom time i b u xs ≤ busyFrom time i b w xs
-unfolding busyFrom
+    → busy_from time i b u xs ≤ busy_from time i b w xs
+unfolding busy_from
 busy-falls time i b u w [] h = omega arith
 busy-falls time i b u w (x ∷ xs) h =
-    omega (arith, cond-le (eqb x b) (time i u) (time i w) (h i (omega arith) (omega arith)), busy-falls time (suc i) b u w xs (λ k l m. h k (omega arith) (omega arith)))
+    omega (arith, cond_le (eqb x b) (time i u) (time i w) (h i (omega arith) (omega arith)), busy-falls time (suc i) b u w xs (λ k l m. h k (omega arith) (omega arith)))
 
 -- the times of n modules, which do not rise with the width up to top
 module _ (time : ℕ → ℕ → ℕ) (n top : ℕ) (falls : (i v w : ℕ) → i < n → 1 ≤ v → v ≤ w → w ≤ top → time i w ≤ time i v) where
@@ -63,18 +63,18 @@ module _ (time : ℕ → ℕ → ℕ) (n top : ℕ) (falls : (i v w : ℕ) → i
       omega (arith, busy-falls time 0 b v w bs (λ k a d. falls k w v (omega arith) l h t), wider-busies bs e (suc b) r)
 
   -- a placement takes no longer on wider buses
-  pub wider-plan : {ws vs : List ℕ} → Wider top ws vs → (bs : List ℕ) → length bs ≡ n → timeOf time (plan vs bs) ≤ timeOf time (plan ws bs)
-  unfolding timeOf
+  pub wider-plan : {ws vs : List ℕ} → Wider top ws vs → (bs : List ℕ) → length bs ≡ n → time_of time (plan vs bs) ≤ time_of time (plan ws bs)
+  unfolding time_of
   wider-plan r bs e = wider-busies bs e 1 r
 
   -- so the least time on wider buses is no larger
-  pub wider-time : {ws vs : List ℕ} → Wider top ws vs → (t : ℕ) → leastOn time n vs t ≤ leastOn time n ws t
-  wider-time r = wider-least (timeOf time) n top r (wider-plan r)
+  pub wider-time : {ws vs : List ℕ} → Wider top ws vs → (t : ℕ) → least_on time n vs t ≤ least_on time n ws t
+  wider-time r = wider-least (time_of time) n top r (wider-plan r)
 
   -- so where none is found on them, none is on the others
-  pub wider-none : {ws vs : List ℕ} → Wider top ws vs → (t : ℕ) → leastOn time n vs t ≡ t → leastOn time n ws t ≡ t
-  unfolding leastBy
-  wider-none {ws} r t e = omega (arith, wider-time r t, all-le (costOn (timeOf time) ws) t (placements n (length ws)))
+  pub wider-none : {ws vs : List ℕ} → Wider top ws vs → (t : ℕ) → least_on time n vs t ≡ t → least_on time n ws t ≡ t
+  unfolding least_by
+  wider-none {ws} r t e = omega (arith, wider-time r t, all_le (cost_on (time_of time) ws) t (placements n (length ws)))
 
 -- the first of rising widths is at most an equal share
 rising-share : (u : ℕ) (ws : List ℕ) → Rising u ws → length ws * u ≤ sum ws
@@ -153,8 +153,8 @@ unfolding plans
 even-plan c w W B n bs l h b m =
     let s = even_sum c w W (omega (arith, suc-mul c w)) in
     let e = even-length c w W in
-    let d : Memᴰ (even c w W) (widthLists (suc c) 1 W) = rw e at (rw s at (widths-complete 1 (even c w W) (even-rising c w W 1 l h))) in
+    let d : Memᴰ (even c w W) (width_lists (suc c) 1 W) = rw e at (rw s at (widths_complete 1 (even c w W) (even-rising c w W 1 l h))) in
     let k : suc c ≤ W = omega (arith, mul-le-mul_left (suc c) l) in
     sound W B n (plan (even c w W) bs)
-    (upward-in (min B W) 1 (λ k. plansOn n k (widthLists k 1 W)) (suc c) (plan (even c w W) bs) (omega arith) (omega arith)
-    (plans-on-in n (suc c) (widthLists (suc c) 1 W) (even c w W) bs d m))
+    (upward_in (min B W) 1 (λ k. plans_on n k (width_lists k 1 W)) (suc c) (plan (even c w W) bs) (omega arith) (omega arith)
+    (plans_on_in n (suc c) (width_lists (suc c) 1 W) (even c w W) bs d m))

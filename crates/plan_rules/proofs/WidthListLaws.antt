@@ -7,7 +7,7 @@ use native.Mathlib.Omega.{arith}
 use native.Mathlib.Nat.{suc-mul, mul-le-mul_left}
 use native.Mathlib.Numerals.{add-one}
 use borrow.Author.Tests.{ne_eqb}
-use Rattle.plan_rules.specs.Listed.{upward, widthLists}
+use Rattle.plan_rules.specs.Listed.{upward, width_lists}
 
 module _ {A : Type 0} (f : ℕ → List A) where
   -- two stretches, one behind the other
@@ -38,38 +38,38 @@ module _ {A : Type 0} (f : ℕ → List A) where
   upward-last (suc n) i j e h = rw (h i (omega arith) (omega arith)) (upward-last n (suc i) j (omega arith) (λ k l m. h k (omega arith) m))
 
 -- c widths of at least low have no room
-pub width-lists-none : (c low left : ℕ) → 1 ≤ c → 1 ≤ low → left < c * low → widthLists c low left ≡ []
-unfolding widthLists upward
-width-lists-none zero low left h l k = absurd (omega arith)
-width-lists-none (suc zero) low left h l k = let e : suc left - low ≡ 0 = omega arith in rw e
-width-lists-none (suc (suc c)) low left h l k =
-    upward-none (λ w. map (λ ws. w ∷ ws) (widthLists (suc c) w (left - w))) (suc left - low) low (λ w m.
-    rw (width-lists-none (suc c) w (left - w) (omega arith) (omega arith) (less-room c low left w l m k)))
+pub width_lists-none : (c low left : ℕ) → 1 ≤ c → 1 ≤ low → left < c * low → width_lists c low left ≡ []
+unfolding width_lists upward
+width_lists-none zero low left h l k = absurd (omega arith)
+width_lists-none (suc zero) low left h l k = let e : suc left - low ≡ 0 = omega arith in rw e
+width_lists-none (suc (suc c)) low left h l k =
+    upward-none (λ w. map (λ ws. w ∷ ws) (width_lists (suc c) w (left - w))) (suc left - low) low (λ w m.
+    rw (width_lists-none (suc c) w (left - w) (omega arith) (omega arith) (less_room c low left w l m k)))
   where
-    less-room : (c low left w : ℕ) → 1 ≤ low → low ≤ w → left < suc (suc c) * low → left - w < suc c * w
-    less-room c low left w l m k = omega (arith, mul-le-mul_left (suc (suc c)) m, suc-mul (suc c) w, suc-mul c w)
+    less_room : (c low left w : ℕ) → 1 ≤ low → low ≤ w → left < suc (suc c) * low → left - w < suc c * w
+    less_room c low left w l m k = omega (arith, mul-le-mul_left (suc (suc c)) m, suc-mul (suc c) w, suc-mul c w)
 
 -- one width takes what is left
-pub width-lists-one : (low left : ℕ) → low ≤ left → widthLists 1 low left ≡ (left ∷ []) ∷ []
-unfolding widthLists
-width-lists-one low left h =
+pub width_lists-one : (low left : ℕ) → low ≤ left → width_lists 1 low left ≡ (left ∷ []) ∷ []
+unfolding width_lists
+width_lists-one low left h =
     let e : suc left - low ≡ suc (left - low) = omega arith in
     let z : left - left ≡ 0 = omega arith in
-    rw e (upward-last (λ w. map (λ ws. w ∷ ws) (widthLists zero w (left - w))) (left - low) low left (omega arith)
+    rw e (upward-last (λ w. map (λ ws. w ∷ ws) (width_lists zero w (left - w))) (left - low) low left (omega arith)
     (λ w l m. rw (ne_eqb (left - w) 0 (λ n. omega arith))) ∙ rw z)
 
 -- lists that begin with pre, of which the first width of some is w
-pub starting-append : (pre : List ℕ) (w : ℕ) (vss wss : List (List ℕ))
+pub starting_append : (pre : List ℕ) (w : ℕ) (vss wss : List (List ℕ))
     → map (λ ws. pre ++ ws) (map (λ ws. w ∷ ws) vss ++ wss) ≡ map (λ ws. (pre ++ w ∷ []) ++ ws) vss ++ map (λ ws. pre ++ ws) wss
-starting-append pre w [] wss = refl
-starting-append pre w (vs ∷ vss) wss = rw (starting-append pre w vss wss, append_assoc)
+starting_append pre w [] wss = refl
+starting_append pre w (vs ∷ vss) wss = rw (starting_append pre w vss wss, append_assoc)
 
 -- the lists behind pre whose first width is low, and those whose first width is more
-pub lists-more : (pre : List ℕ) (k low left : ℕ) → low ≤ left
-    → map (λ ws. pre ++ ws) (widthLists (suc k) low left)
-    ≡ map (λ ws. (pre ++ low ∷ []) ++ ws) (widthLists k low (left - low)) ++ map (λ ws. pre ++ ws) (widthLists (suc k) (low + 1) left)
-unfolding widthLists upward
-lists-more pre k low left h =
+pub lists_more : (pre : List ℕ) (k low left : ℕ) → low ≤ left
+    → map (λ ws. pre ++ ws) (width_lists (suc k) low left)
+    ≡ map (λ ws. (pre ++ low ∷ []) ++ ws) (width_lists k low (left - low)) ++ map (λ ws. pre ++ ws) (width_lists (suc k) (low + 1) left)
+unfolding width_lists upward
+lists_more pre k low left h =
     let e : suc left - low ≡ suc (suc left - (low + 1)) = omega arith in
-    rw (e, add-one low) (starting-append pre low (widthLists k low (left - low))
-    (upward (suc left - suc low) (suc low) (λ w. map (λ ws. w ∷ ws) (widthLists k w (left - w)))))
+    rw (e, add-one low) (starting_append pre low (width_lists k low (left - low))
+    (upward (suc left - suc low) (suc low) (λ w. map (λ ws. w ∷ ws) (width_lists k w (left - w)))))

@@ -13,8 +13,8 @@ smallest f zero = f 1
 smallest f (suc w) = min (smallest f w) (f (suc w))
 
 -- the smallest w × time at w of module i, w from 1 to W: it takes that many wires times cycles at least
-abbrev pub areaOf : (ℕ → ℕ → ℕ) → ℕ → ℕ → ℕ
-areaOf time W i = smallest (λ w. w * time i w) W
+abbrev pub area_of : (ℕ → ℕ → ℕ) → ℕ → ℕ → ℕ
+area_of time W i = smallest (λ w. w * time i w) W
 
 -- f gives r somewhere from 1 to w, and nowhere there less
 pub record IsSmallest (f : ℕ → ℕ) (w r : ℕ) : Type 0 where

@@ -15,22 +15,22 @@ abbrev pub over : List ℕ → List ℕ → ℕ → List ℕ
 over from to at = take at to ++ (from ++ drop (at + length from) to)
 
 -- the first i of what is copied
-abbrev pub overFirst : List ℕ → List ℕ → ℕ → ℕ → List ℕ
-overFirst from to at i = take at to ++ (take i from ++ drop (at + i) to)
+abbrev pub over_first : List ℕ → List ℕ → ℕ → ℕ → List ℕ
+over_first from to at i = take at to ++ (take i from ++ drop (at + i) to)
 
 -- they stand there, and all other places are as they were
 pub record Copied (from to₀ : List ℕ) (at : ℕ) (to : List ℕ) (i : ℕ) : Type 0 where
   pub upto : i ≤ length from
   pub same_length : length to ≡ length to₀
-  pub is : to ≡ overFirst from to₀ at i
+  pub is : to ≡ over_first from to₀ at i
 
 module _ (from to₀ : List ℕ) (at : ℕ) (room : at + length from ≤ length to₀) where
-  pub copied-first : Copied from to₀ at to₀ 0
-  copied-first =
+  pub copied_first : Copied from to₀ at to₀ 0
+  copied_first =
       let z : at + 0 ≡ at = omega arith in
       record { upto = omega arith; same_length = refl; is = rw z (sym (take-append-drop at to₀)) }
 
-  first_more : (i : ℕ) → i < length from → set (overFirst from to₀ at i) (at + i) (get_or from i 0) ≡ overFirst from to₀ at (i + 1)
+  first_more : (i : ℕ) → i < length from → set (over_first from to₀ at i) (at + i) (get_or from i 0) ≡ over_first from to₀ at (i + 1)
   first_more i less =
       let A = take at to₀ in
       let B = take i from in
@@ -62,7 +62,7 @@ module _ (from to₀ : List ℕ) (at : ℕ) (room : at + length from ≤ length 
     pub copied_all : length from ≤ i → to ≡ over from to₀ at
     copied_all h =
         let e : i ≡ length from = omega (arith, b.upto) in
-        b.is ∙ ap (overFirst from to₀ at) e
+        b.is ∙ ap (over_first from to₀ at) e
         ∙ ap (λ x. take at to₀ ++ (x ++ drop (at + length from) to₀)) (take_all (length from) from (omega arith))
 
 -- behind the first place

@@ -10,24 +10,24 @@ use native.Mathlib.Numerals.{add-one}
 use lib.ListN.{length, get_or, take, drop}
 use lib.Seq.{length-take-le, length_front}
 use Rattle.plan_rules.specs.Plans.{largest}
-use Rattle.plan_rules.specs.Listed.{upward, widthLists}
-use Rattle.plan_rules.specs.Least.{leastOn, Kept, keepLists, allLists}
+use Rattle.plan_rules.specs.Listed.{upward, width_lists}
+use Rattle.plan_rules.specs.Least.{least_on, Kept, keep_lists, all_lists}
 use Rattle.plan_rules.specs.Widths.{none}
 use Rattle.plan_rules.proofs.FirstLaws.{keep_append}
-use Rattle.plan_search.specs.Search.{searchBuses, rowPlaces, tableTime, bestMax}
+use Rattle.plan_search.specs.Search.{search_buses, row_places, table_time, best_max}
 use Rattle.plan_search.specs.Lists.{kept, Rooms, group, Group, Sought, Listing}
-use Rattle.plan_search.proofs.ListLaws.{lists-group}
-use Rattle.plan_search.proofs.SoughtLaws.{sought-le}
+use Rattle.plan_search.proofs.ListLaws.{lists_group}
+use Rattle.plan_search.proofs.SoughtLaws.{sought_le}
 
 -- the whole group of c widths
 module _ (ws : List ℕ) (W c : ℕ) (long : length ws ≡ c) (some : 1 ≤ c) (fits : c ≤ W) where
-  share-le : c * (W / c) ≤ W
-  share-le = omega (arith, (le-div_iff_mul-le some).0 (le-self (W / c)), mul_comm (W / c) c)
+  share_le : c * (W / c) ≤ W
+  share_le = omega (arith, (le-div_iff_mul-le some).0 (le_self (W / c)), mul_comm (W / c) c)
     where
-      le-self : (n : ℕ) → n ≤ n
-      le-self n = omega arith
+      le_self : (n : ℕ) → n ≤ n
+      le_self n = omega arith
 
-  pub group-all : c ≤ searchBuses → W ≤ rowPlaces → Group 0 1 (W / c) W ws
+  pub group-all : c ≤ search_buses → W ≤ row_places → Group 0 1 (W / c) W ws
   unfolding largest
   group-all few narrow = record {
     at_most = omega arith;
@@ -36,39 +36,39 @@ module _ (ws : List ℕ) (W c : ℕ) (long : length ws ≡ c) (some : 1 ≤ c) (
     front-most = omega arith;
     some = omega arith;
     upward = (le-div_iff_mul-le some).1 (omega arith);
-    share = let z : length ws - 0 ≡ c = omega arith in rw z share-le;
+    share = let z : length ws - 0 ≡ c = omega arith in rw z share_le;
     last = λ e. let o : c ≡ 1 = omega arith in rw o (omega arith);
     narrow = narrow;
   }
 
   -- it has all lists of c widths
-  pub group-lists : group (take 0 ws) (length ws - (0 + 1)) 1 (W / c) W ≡ widthLists c 1 W
-  group-lists =
+  pub group_lists : group (take 0 ws) (length ws - (0 + 1)) 1 (W / c) W ≡ width_lists c 1 W
+  group_lists =
       let k : length ws - (0 + 1) ≡ c - 1 = omega arith in
       let e : suc (c - 1) ≡ c = omega arith in
-      rw k (sym (lists-group [] (c - 1) 1 W (W / c) (omega arith) (div-le_self W c) (λ z. let o : c ≡ 1 = omega arith in rw o (omega arith))
+      rw k (sym (lists_group [] (c - 1) 1 W (W / c) (omega arith) (div-le_self W c) (λ z. let o : c ≡ 1 = omega arith in rw o (omega arith))
       (λ w h. rw e (omega (arith, (div-lt_iff_lt-mul some).0 h, mul_comm w c)))) ∙ rw (map-id, e))
 
 module _ (t : List ℕ) (W B n best₀ : ℕ) (found₀ : List ℕ) where
   abbrev least : List ℕ → ℕ → ℕ
-  least = leastOn (tableTime t) n
+  least = least_on (table_time t) n
 
-  abbrev listsWith : ℕ → List (List ℕ)
-  listsWith c = widthLists c 1 W
+  abbrev lists_with : ℕ → List (List ℕ)
+  lists_with c = width_lists c 1 W
 
   -- the lists of at least c widths were not yet searched
   pub record Counted (widths found : List ℕ) (r c : ℕ) : Type 0 where
     pub from : 1 ≤ c
     pub upto : c ≤ B + 1
-    pub widths-room : length widths ≡ searchBuses
+    pub widths-room : length widths ≡ search_buses
     pub found-room : length found ≡ length found₀
     pub count : get_or found 0 0 < length found
-    pub small : r ≤ bestMax
-    pub is : keepLists least (kept best₀ found₀) (allLists W B) ≡ keepLists least (kept r found) (upward (min B W - (c - 1)) c listsWith)
+    pub small : r ≤ best_max
+    pub is : keep_lists least (kept best₀ found₀) (all_lists W B) ≡ keep_lists least (kept r found) (upward (min B W - (c - 1)) c lists_with)
 
   module _ (l : Listing t W B n best₀ found₀) where
-    pub counted-first : (widths : List ℕ) → length widths ≡ searchBuses → Counted widths found₀ best₀ 1
-    unfolding allLists
+    pub counted-first : (widths : List ℕ) → length widths ≡ search_buses → Counted widths found₀ best₀ 1
+    unfolding all_lists
     counted-first widths e = record {
       from = omega arith;
       upto = omega arith;
@@ -81,28 +81,28 @@ module _ (t : List ℕ) (W B n best₀ : ℕ) (found₀ : List ℕ) where
 
     module _ {widths found : List ℕ} {r c : ℕ} (s : Counted widths found r c) where
       -- all were searched
-      pub counted-last : (B < c) ⊎ (W < c) → kept r found ≡ keepLists least (kept best₀ found₀) (allLists W B)
-      unfolding upward keepLists
+      pub counted-last : (B < c) ⊎ (W < c) → kept r found ≡ keep_lists least (kept best₀ found₀) (all_lists W B)
+      unfolding upward keep_lists
       counted-last h =
           let f = s.from in
           let e : min B W - (c - 1) ≡ 0 = ⊎_elim (λ k. omega arith) (λ k. omega arith) h in
           sym (s.is ∙ rw e)
 
       module _ (h : c ≤ B) (k : c ≤ W) where
-        widths-lent : length (take c widths) ≡ c
-        widths-lent = length-take-le c widths (omega (arith, s.widths-room, l.limit))
+        widths_lent : length (take c widths) ≡ c
+        widths_lent = length-take-le c widths (omega (arith, s.widths-room, l.limit))
 
-        lists-step : upward (min B W - (c - 1)) c listsWith ≡ listsWith c ++ upward (min B W - (c + 1 - 1)) (c + 1) listsWith
+        lists_step : upward (min B W - (c - 1)) c lists_with ≡ lists_with c ++ upward (min B W - (c + 1 - 1)) (c + 1) lists_with
         unfolding upward
-        lists-step =
+        lists_step =
             let e : min B W - (c - 1) ≡ suc (min B W - (c + 1 - 1)) = omega (arith, s.from) in
             rw (e, add-one c)
 
-        pub group-lent : Group 0 1 (W / c) W (take c widths)
-        group-lent = group-all (take c widths) W c widths-lent s.from k (omega (arith, l.limit)) l.narrow
+        pub group_lent : Group 0 1 (W / c) W (take c widths)
+        group_lent = group-all (take c widths) W c widths_lent s.from k (omega (arith, l.limit)) l.narrow
 
-        pub rooms-lent : Rooms (length (take c widths)) found
-        rooms-lent = record { places = omega (arith, widths-lent, s.found-room, l.rooms.places, l.limit); count = s.count }
+        pub rooms_lent : Rooms (length (take c widths)) found
+        rooms_lent = record { places = omega (arith, widths_lent, s.found-room, l.rooms.places, l.limit); count = s.count }
 
         -- the lists of c widths were searched
         pub counted_next : (widths' found' : List ℕ) (r' : ℕ) → length widths' ≡ length (take c widths)
@@ -114,15 +114,15 @@ module _ (t : List ℕ) (W B n best₀ : ℕ) (found₀ : List ℕ) where
           widths-room = length_front widths widths' c e ∙ s.widths-room;
           found-room = q.same-room ∙ s.found-room;
           count = q.count;
-          small = omega (arith, s.small, sought-le _ q);
+          small = omega (arith, s.small, sought_le _ q);
           is =
-              s.is ∙ ap (keepLists least (kept r found)) lists-step
-              ∙ keep_append least (kept r found) (listsWith c) later
-              ∙ ap (λ (m : Kept). keepLists least m later) (sym sought);
+              s.is ∙ ap (keep_lists least (kept r found)) lists_step
+              ∙ keep_append least (kept r found) (lists_with c) later
+              ∙ ap (λ (m : Kept). keep_lists least m later) (sym sought);
         }
           where
             later : List (List ℕ)
-            later = upward (min B W - (c + 1 - 1)) (c + 1) listsWith
+            later = upward (min B W - (c + 1 - 1)) (c + 1) lists_with
 
-            sought : kept r' found' ≡ keepLists least (kept r found) (listsWith c)
-            sought = rw (group-lists (take c widths) W c widths-lent s.from k) at q.is
+            sought : kept r' found' ≡ keep_lists least (kept r found) (lists_with c)
+            sought = rw (group_lists (take c widths) W c widths_lent s.from k) at q.is

@@ -11,21 +11,21 @@ use native.Mathlib.Nat.{eq-or-lt_of_le, suc-mul, mul_comm, mul-le-mul_left, le-d
 use lib.ListN.{length, get_or, take, drop, set, replicate, length-append, length-set}
 use lib.Seq.{take-suc-set, take_all, take_at, take-length, length-take-le, take-append_seam}
 use Rattle.plan_rules.specs.Plans.{sum, largest}
-use Rattle.plan_rules.specs.Listed.{upward, widthLists}
-use Rattle.plan_rules.specs.Least.{leastOn, Kept, keepLists}
+use Rattle.plan_rules.specs.Listed.{upward, width_lists}
+use Rattle.plan_rules.specs.Least.{least_on, Kept, keep_lists}
 use Rattle.plan_rules.specs.Widths.{Rising, none, more, Wider, wider, widest}
-use Rattle.plan_rules.proofs.ListLaws.{upward-of}
-use Rattle.plan_rules.proofs.ListedLaws.{widths-sound}
+use Rattle.plan_rules.proofs.ListLaws.{upward_of}
+use Rattle.plan_rules.proofs.ListedLaws.{widths_sound}
 use Rattle.plan_rules.proofs.BusyLaws.{largest-append}
 use Rattle.plan_rules.proofs.FirstLaws.{keep-none}
 use Rattle.plan_rules.proofs.WiderLaws.{wider-behind, wider-none, widest-wider, length-widest, widest-most, widest-rising, rising-behind}
-use Rattle.plan_search.specs.Search.{searchBuses, rowPlaces, tableTime, IsTable, AreWidths}
-use Rattle.plan_search.specs.Lists.{startingWith, group, Group}
-use Rattle.plan_rules.proofs.WidthListLaws.{upward-append, width-lists-one}
-use Rattle.plan_search.proofs.ListLaws.{lists-group}
+use Rattle.plan_search.specs.Search.{search_buses, row_places, table_time, IsTable, AreWidths}
+use Rattle.plan_search.specs.Lists.{starting_with, group, Group}
+use Rattle.plan_rules.proofs.WidthListLaws.{upward-append, width_lists-one}
+use Rattle.plan_search.proofs.ListLaws.{lists_group}
 
-share-of : (k m high left : ℕ) → m ≤ high → k * high ≤ left → k * m ≤ left
-share-of k m high left h s = omega (arith, mul-le-mul_left k h)
+share_of : (k m high left : ℕ) → m ≤ high → k * high ≤ left → k * m ≤ left
+share_of k m high left h s = omega (arith, mul-le-mul_left k h)
 
 -- the widths that are set, and one more behind them
 module _ {ws : List ℕ} {at low high left : ℕ} (g : Group at low high left ws) where
@@ -48,7 +48,7 @@ module _ {ws : List ℕ} {at low high left : ℕ} (g : Group at low high left ws
       omega (arith, s, suc-mul (length ws - (at + 1)) high, g.upward)
 
   behind-room : (length ws - (at + 1)) * low ≤ left - low
-  behind-room = share-of (length ws - (at + 1)) low high (left - low) g.upward behind-share
+  behind-room = share_of (length ws - (at + 1)) low high (left - low) g.upward behind-share
 
   pub wide-length : length wide ≡ length ws
   wide-length = simp (length-append, front_length, length-widest) (omega (arith, g.at_most))
@@ -77,45 +77,45 @@ module _ {ws : List ℕ} {at low high left : ℕ} (g : Group at low high left ws
       }
 
   -- every list of the group has buses no wider than that
-  group-wider : (vs : List ℕ) → Memᴰ vs (group (take at ws) (length ws - (at + 1)) low high left) → Wider rowPlaces vs wide
-  unfolding startingWith
+  group-wider : (vs : List ℕ) → Memᴰ vs (group (take at ws) (length ws - (at + 1)) low high left) → Wider row_places vs wide
+  unfolding starting_with
   group-wider vs m =
       let k = length ws - (at + 1) in
-      let u = upward-of (suc high - low) low (startingWith (take at ws) k left) vs m in
+      let u = upward_of (suc high - low) low (starting_with (take at ws) k left) vs m in
       let w = u.0 in
-      let x = Memᴰ.of_map (λ us. (take at ws ++ w ∷ []) ++ us) (widthLists k w (left - w)) u.3 in
-      let r = widths-sound k w (left - w) x.0 x.1 in
+      let x = Memᴰ.of_map (λ us. (take at ws ++ w ∷ []) ++ us) (width_lists k w (left - w)) u.3 in
+      let r = widths_sound k w (left - w) x.0 x.1 in
       let some : 1 ≤ w = omega (arith, u.1, g.some) in
       let fits : w ≤ high = omega (arith, u.1, u.2, g.upward) in
-      let narrow : high ≤ rowPlaces = omega (arith, high-left, g.narrow) in
-      let behind : Wider rowPlaces x.0 (widest k low (left - low)) =
-      widest-wider rowPlaces k low (left - low) w x.0 r.count r.rising (omega (arith, r.wires, u.1)) u.1 g.some
+      let narrow : high ≤ row_places = omega (arith, high-left, g.narrow) in
+      let behind : Wider row_places x.0 (widest k low (left - low)) =
+      widest-wider row_places k low (left - low) w x.0 r.count r.rising (omega (arith, r.wires, u.1)) u.1 g.some
       (omega (arith, g.narrow)) in
-      let front : largest (take at ws) ≤ rowPlaces = omega (arith, g.front-most, g.upward) in
+      let front : largest (take at ws) ≤ row_places = omega (arith, g.front-most, g.upward) in
       let e : take at ws ++ w ∷ x.0 ≡ vs = sym (append_assoc (take at ws) (w ∷ []) x.0) ∙ x.2 in
-      subst (λ (ys : List ℕ). Wider rowPlaces ys wide) e
-      (wider-behind rowPlaces 1 (take at ws) (omega arith) g.front front (wider some fits narrow behind))
+      subst (λ (ys : List ℕ). Wider row_places ys wide) e
+      (wider-behind row_places 1 (take at ws) (omega arith) g.front front (wider some fits narrow behind))
 
   -- so where nothing less is found on it, all of them may be skipped
-  pub group-none : {t : List ℕ} {n : ℕ} → IsTable t n → (k : Kept) → leastOn (tableTime t) n wide k.time ≡ k.time
-      → keepLists (leastOn (tableTime t) n) k (group (take at ws) (length ws - (at + 1)) low high left) ≡ k
+  pub group-none : {t : List ℕ} {n : ℕ} → IsTable t n → (k : Kept) → least_on (table_time t) n wide k.time ≡ k.time
+      → keep_lists (least_on (table_time t) n) k (group (take at ws) (length ws - (at + 1)) low high left) ≡ k
   group-none {t} {n} table k e =
-      keep-none (leastOn (tableTime t) n) k (group (take at ws) (length ws - (at + 1)) low high left)
-      (λ vs m. wider-none (tableTime t) n rowPlaces table.falls (group-wider vs m) k.time e)
+      keep-none (least_on (table_time t) n) k (group (take at ws) (length ws - (at + 1)) low high left)
+      (λ vs m. wider-none (table_time t) n row_places table.falls (group-wider vs m) k.time e)
 
 -- a group of widths that begin alike
-pub group-as : (ws vs : List ℕ) (at low high left : ℕ) → take at vs ≡ take at ws → length vs ≡ length ws
+pub group_as : (ws vs : List ℕ) (at low high left : ℕ) → take at vs ≡ take at ws → length vs ≡ length ws
     → group (take at ws) (length ws - (at + 1)) low high left ≡ group (take at vs) (length vs - (at + 1)) low high left
-group-as ws vs at low high left e f = rw (e, f)
+group_as ws vs at low high left e f = rw (e, f)
 
 -- a group falls into two
-pub group-split : (pre : List ℕ) (k low middle high left : ℕ) → low ≤ middle → middle < high
+pub group_split : (pre : List ℕ) (k low middle high left : ℕ) → low ≤ middle → middle < high
     → group pre k low high left ≡ group pre k low middle left ++ group pre k (middle + 1) high left
-group-split pre k low middle high left l h =
+group_split pre k low middle high left l h =
     let e : suc high - low ≡ suc middle - low + (suc high - (middle + 1)) = omega arith in
     let i : low + (suc middle - low) ≡ middle + 1 = omega arith in
-    ap (λ n. upward n low (startingWith pre k left)) e
-    ∙ upward-append (startingWith pre k left) (suc middle - low) (suc high - (middle + 1)) low ∙ rw i
+    ap (λ n. upward n low (starting_with pre k left)) e
+    ∙ upward-append (starting_with pre k left) (suc middle - low) (suc high - (middle + 1)) low ∙ rw i
 
 -- one more width is set
 module _ {ws : List ℕ} {at low left : ℕ} (g : Group at low low left ws) where
@@ -148,7 +148,7 @@ module _ {ws : List ℕ} {at low left : ℕ} (g : Group at low low left ws) wher
           front-most = rw next-front (omega (arith, largest-append (take at ws) (low ∷ []), g.front-most));
           some = g.some;
           upward = (le-div_iff_mul-le p).1 (omega (arith, room, mul_comm low (length ws - (at + 1))));
-          share = rw c (omega (arith, (le-div_iff_mul-le p).0 (le-self behind), mul_comm behind (length ws - (at + 1))));
+          share = rw c (omega (arith, (le-div_iff_mul-le p).0 (le_self behind), mul_comm behind (length ws - (at + 1))));
           last = λ e.
               let f : suc (at + 1) ≡ length ws = e ∙ length-set ws at low in
               let o : length ws - (at + 1) ≡ 1 = omega arith in
@@ -156,21 +156,21 @@ module _ {ws : List ℕ} {at low left : ℕ} (g : Group at low low left ws) wher
           narrow = omega (arith, g.narrow);
         }
       where
-        le-self : (n : ℕ) → n ≤ n
-        le-self n = omega arith
+        le_self : (n : ℕ) → n ≤ n
+        le_self n = omega arith
 
     -- and the group is that of the widths behind it
     pub group-one : group (take at ws) (length ws - (at + 1)) low low left
         ≡ group (take (at + 1) next) (length next - (at + 1 + 1)) low behind (left - low)
-    unfolding startingWith upward
+    unfolding starting_with upward
     group-one =
         let p = some-behind in
         let o : suc low - low ≡ 1 = omega arith in
         let k : length ws - (at + 1) ≡ suc (length next - (at + 1 + 1)) = rw length-set (omega arith) in
-        rw o (append-nil (startingWith (take at ws) (length ws - (at + 1)) left low)
-        ∙ ap (λ m. map (λ us. (take at ws ++ low ∷ []) ++ us) (widthLists m low (left - low))) k
+        rw o (append-nil (starting_with (take at ws) (length ws - (at + 1)) left low)
+        ∙ ap (λ m. map (λ us. (take at ws ++ low ∷ []) ++ us) (width_lists m low (left - low))) k
         ∙ rw (← next-front)
-        (lists-group (take (at + 1) next) (length next - (at + 1 + 1)) low (left - low) behind g.some (div-le_self (left - low) (length ws - (at + 1)))
+        (lists_group (take (at + 1) next) (length next - (at + 1 + 1)) low (left - low) behind g.some (div-le_self (left - low) (length ws - (at + 1)))
         (λ z. let w : length ws - (at + 1) ≡ 1 = omega arith in rw w (omega arith))
         (λ w h. rw (← k) (omega (arith, (div-lt_iff_lt-mul p).0 h, mul_comm w (length ws - (at + 1)))))))
 
@@ -198,7 +198,7 @@ module _ {ws : List ℕ} {at low high left : ℕ} (g : Group at low high left ws
       let z : length ws - (at + 1) ≡ 0 = omega arith in
       let e : high ≡ left = g.last last in
       rw (z, e, last-is)
-      (sym (lists-group (take at ws) 0 low left left g.some (omega arith) (λ f. refl) (λ w h. omega arith)) ∙ rw (width-lists-one low left last_fits))
+      (sym (lists_group (take at ws) 0 low left left g.some (omega arith) (λ f. refl) (λ w h. omega arith)) ∙ rw (width_lists-one low left last_fits))
 
 -- the halves of a group, in other widths that begin alike
 module _ {ws vs : List ℕ} {at low high left : ℕ} (g : Group at low high left ws) (less : suc at < length ws) (apart : low ≡ high → ⊥)
@@ -211,26 +211,26 @@ module _ {ws vs : List ℕ} {at low high left : ℕ} (g : Group at low high left
     front-most = rw same-front g.front-most;
     some = g.some;
     upward = omega (arith, g.upward);
-    share = rw same_count (share-of (length ws - at) ((low + high) / 2) high left (omega (arith, g.upward)) g.share);
+    share = rw same_count (share_of (length ws - at) ((low + high) / 2) high left (omega (arith, g.upward)) g.share);
     last = λ e. absurd (omega arith);
     narrow = g.narrow;
   }
 
-  pub group-upper : Group at ((low + high) / 2 + 1) high left vs
-  group-upper = record {
+  pub group_upper : Group at ((low + high) / 2 + 1) high left vs
+  group_upper = record {
     at_most = rw same_count g.at_most;
     few = rw same_count g.few;
     front = rw same-front g.front;
     front-most = rw same-front (omega (arith, g.front-most, g.upward));
     some = omega arith;
-    upward = omega (arith, g.upward, apart-lt);
+    upward = omega (arith, g.upward, apart_lt);
     share = rw same_count g.share;
     last = λ e. absurd (omega arith);
     narrow = g.narrow;
   }
     where
-      apart-lt : low < high
-      apart-lt = ⊎_elim (λ e. absurd (apart e)) (λ l. l) (eq-or-lt_of_le g.upward)
+      apart_lt : low < high
+      apart_lt = ⊎_elim (λ e. absurd (apart e)) (λ l. l) (eq-or-lt_of_le g.upward)
 
 -- while the widest are set: the places before j are, and what is left for those from j on where each before took low
 pub record Widened (ws : List ℕ) (low left i : ℕ) (vs : List ℕ) (rest j : ℕ) : Type 0 where
@@ -240,8 +240,8 @@ pub record Widened (ws : List ℕ) (low left i : ℕ) (vs : List ℕ) (rest j : 
   pub is : take j vs ++ widest (length ws - j) low rest ≡ take i ws ++ widest (length ws - i) low left
 
 module _ {ws : List ℕ} {low left i : ℕ} {vs : List ℕ} {rest j : ℕ} (w : Widened ws low left i vs rest j) where
-  pub widened-less : j < length ws → low ≤ rest
-  widened-less h =
+  pub widened_less : j < length ws → low ≤ rest
+  widened_less h =
       let e : length ws - j ≡ suc (length ws - (j + 1)) = omega arith in
       omega (arith, rw e at w.room, suc-mul (length ws - (j + 1)) low)
 

@@ -23,9 +23,9 @@ pub record Summed (f : ℕ → ℕ) (n : ℕ) (rest : List ℕ) (i : ℕ) : Type
 
 module _ (f : ℕ → ℕ) (n : ℕ) where
   -- behind the last module nothing is left
-  pub summed-first : (rest : List ℕ) → length rest ≡ n + 1 → Summed f n (set rest n 0) n
+  pub summed_first : (rest : List ℕ) → length rest ≡ n + 1 → Summed f n (set rest n 0) n
   unfolding total
-  summed-first rest e = record {
+  summed_first rest e = record {
     upto = omega arith;
     long = length-set rest n 0 ∙ e;
     sums = λ k l h.
@@ -35,10 +35,10 @@ module _ (f : ℕ → ℕ) (n : ℕ) where
   }
 
   -- one module more
-  pub summed-next : (rest : List ℕ) (i x v : ℕ) → Summed f n rest (suc i) → x ≡ f i → v ≡ get_or rest (suc i) 0 + x
+  pub summed_next : (rest : List ℕ) (i x v : ℕ) → Summed f n rest (suc i) → x ≡ f i → v ≡ get_or rest (suc i) 0 + x
       → Summed f n (set rest i v) i
   unfolding total
-  summed-next rest i x v s e g = record {
+  summed_next rest i x v s e g = record {
     upto = omega (arith, s.upto);
     long = length-set rest i v ∙ s.long;
     sums = λ k l h. ⊎_elim

@@ -1,4 +1,4 @@
--- Laws of the search: `keepAll` over lists that are joined, and the placements with one more module. Assumes nothing.
+-- Laws of the search: `keep_all` over lists that are joined, and the placements with one more module. Assumes nothing.
 use Prim.Native.Nat.{ℕ, zero, suc, ◌+◌, ◌-◌, ◌≤◌, ◌<◌}
 use mathlib.Core.Path.{◌≡◌, refl, ap, ◌∙◌}
 use mathlib.Core.Bool.{Bool, true, false, cond}
@@ -9,37 +9,37 @@ use lib.ListN.{get_or}
 use lib.Dec.{ltb}
 use borrow.Author.Tests.{lt-ltb, le-ltb}
 use Rattle.plan_rules.specs.Listed.{upward, placements}
-use Rattle.plan_rules.specs.Least.{keepAll}
+use Rattle.plan_rules.specs.Least.{keep_all}
 use Rattle.plan_rules.proofs.FromLaws.{map-upward}
 
 module _ (time : List ℕ → ℕ) where
   keep-append-at : (b x : List ℕ) (xs ys : List (List ℕ)) (t : Bool)
-      → keepAll time (time x ∷ x) (xs ++ ys) ≡ keepAll time (keepAll time (time x ∷ x) xs) ys
-      → keepAll time b (xs ++ ys) ≡ keepAll time (keepAll time b xs) ys
-      → cond t (keepAll time (time x ∷ x) (xs ++ ys)) (keepAll time b (xs ++ ys)) ≡ keepAll time (cond t (keepAll time (time x ∷ x) xs) (keepAll time b xs)) ys
+      → keep_all time (time x ∷ x) (xs ++ ys) ≡ keep_all time (keep_all time (time x ∷ x) xs) ys
+      → keep_all time b (xs ++ ys) ≡ keep_all time (keep_all time b xs) ys
+      → cond t (keep_all time (time x ∷ x) (xs ++ ys)) (keep_all time b (xs ++ ys)) ≡ keep_all time (cond t (keep_all time (time x ∷ x) xs) (keep_all time b xs)) ys
   keep-append-at b x xs ys true p q = p
   keep-append-at b x xs ys false p q = q
 
-  pub keep_append : (b : List ℕ) (xs ys : List (List ℕ)) → keepAll time b (xs ++ ys) ≡ keepAll time (keepAll time b xs) ys
-  unfolding keepAll
+  pub keep_append : (b : List ℕ) (xs ys : List (List ℕ)) → keep_all time b (xs ++ ys) ≡ keep_all time (keep_all time b xs) ys
+  unfolding keep_all
   keep_append b [] ys = refl
   keep_append b (x ∷ xs) ys = keep-append-at b x xs ys (ltb (time x) (get_or b 0 0)) (keep_append (time x ∷ x) xs ys) (keep_append b xs ys)
 
   -- nothing that takes less than the best is to come
-  pub keep-none : (b : List ℕ) (xs : List (List ℕ)) → ((x : List ℕ) → Memᴰ x xs → get_or b 0 0 ≤ time x) → keepAll time b xs ≡ b
-  unfolding keepAll
+  pub keep-none : (b : List ℕ) (xs : List (List ℕ)) → ((x : List ℕ) → Memᴰ x xs → get_or b 0 0 ≤ time x) → keep_all time b xs ≡ b
+  unfolding keep_all
   keep-none b [] h = refl
   keep-none b (x ∷ xs) h =
       let e : ltb (time x) (get_or b 0 0) ≡ false = le-ltb (time x) (get_or b 0 0) (h x (Memᴰ.head refl)) in
       rw e (keep-none b xs (λ y m. h y (Memᴰ.tail m)))
 
-  pub keep_one : (b x : List ℕ) → time x < get_or b 0 0 → keepAll time b (x ∷ []) ≡ time x ∷ x
-  unfolding keepAll
+  pub keep_one : (b x : List ℕ) → time x < get_or b 0 0 → keep_all time b (x ∷ []) ≡ time x ∷ x
+  unfolding keep_all
   keep_one b x h = rw (lt-ltb (time x) (get_or b 0 0) h)
 
-pub upward-step : {A : Type 0} (c b : ℕ) (f : ℕ → List A) → b < c → upward (c - b) (b + 1) f ≡ f (b + 1) ++ upward (c - (b + 1)) (b + 1 + 1) f
+pub upward_step : {A : Type 0} (c b : ℕ) (f : ℕ → List A) → b < c → upward (c - b) (b + 1) f ≡ f (b + 1) ++ upward (c - (b + 1)) (b + 1 + 1) f
 unfolding upward
-upward-step c b f h = let e : c - b ≡ suc (c - (b + 1)) = omega arith in rw (e, add-one (b + 1))
+upward_step c b f h = let e : c - b ≡ suc (c - (b + 1)) = omega arith in rw (e, add-one (b + 1))
 
 pub upward-end : {A : Type 0} (c b : ℕ) (f : ℕ → List A) → c ≤ b → upward (c - b) (b + 1) f ≡ []
 unfolding upward

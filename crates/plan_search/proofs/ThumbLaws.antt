@@ -10,14 +10,14 @@ use native.Mathlib.Numerals.{add-one}
 use lib.ListN.{length, get_or, take, drop, set, replicate, length-append, length-set, get_or-append}
 use lib.ListN.{length-replicate, get_or-replicate, replicate-append-replicate}
 use lib.Seq.{take_all, take-suc-set, take-set-lt, get_or-take, get_or_at, take_at, length-take-le, length_front}
-use Rattle.plan_rules.specs.Plans.{largest, timeOf}
+use Rattle.plan_rules.specs.Plans.{largest, time_of}
 use Rattle.plan_rules.specs.Listed.{placements, plan}
 use Rattle.plan_rules.specs.Least.{Reached}
 use Rattle.plan_rules.specs.Widths.{even}
 use Rattle.plan_rules.proofs.BusyLaws.{length-busies, busies-none, busies-one, busies-most, largest-zeros, largest-set}
-use Rattle.plan_rules.proofs.ListedLaws.{Placed, placements-sound, placements-complete}
+use Rattle.plan_rules.proofs.ListedLaws.{Placed, placements_sound, placements_complete}
 use Rattle.plan_rules.proofs.WiderLaws.{even-plan}
-use Rattle.plan_search.specs.Search.{searchBuses, rowPlaces, timeBound, tableTime, TimeIn, IsTable}
+use Rattle.plan_search.specs.Search.{search_buses, row_places, time_bound, table_time, TimeIn, IsTable}
 use Rattle.plan_search.specs.Thumb.{AreBuses, Partly, Placeable}
 
 -- a module's time on a bus stands in the table
@@ -25,13 +25,13 @@ pub bus-time : (t ws : List ℕ) (i b n : ℕ) → IsTable t n → AreBuses ws �
 bus-time t ws i b n o u h k = let w = u.wide b k in record { low = w.0; high = w.1; entry = omega (arith, o.long) }
 
 module _ (t ws : List ℕ) (i : ℕ) (loads : List ℕ) (p : Partly t ws i loads) where
-  pub partly-length : length loads ≡ length ws
-  partly-length = ap length p.loads-are ∙ length-busies (tableTime t) 1 ws p.buses
+  pub partly_length : length loads ≡ length ws
+  partly_length = ap length p.loads_are ∙ length-busies (table_time t) 1 ws p.buses
 
-  pub partly-most : ((j w : ℕ) → tableTime t j w ≤ timeBound) → (b : ℕ) → get_or loads b 0 ≤ i * timeBound
-  partly-most h b =
-      let l = (placements-sound i (length ws) p.buses p.listed).placed in
-      rw p.loads-are (rw l at (busies-most (tableTime t) timeBound h 1 b ws p.buses))
+  pub partly_most : ((j w : ℕ) → table_time t j w ≤ time_bound) → (b : ℕ) → get_or loads b 0 ≤ i * time_bound
+  partly_most h b =
+      let l = (placements_sound i (length ws) p.buses p.listed).placed in
+      rw p.loads_are (rw l at (busies-most (table_time t) time_bound h 1 b ws p.buses))
 
 -- a table of more modules is one of fewer
 pub table-fewer : (t : List ℕ) (n m : ℕ) → IsTable t n → m ≤ n → IsTable t m
@@ -45,9 +45,9 @@ table-fewer t n m o h = record {
 -- the first i of n modules are placed: the loads are in the front of an array, and the largest of them is beside it
 pub record Thumbed (t ws : List ℕ) (n i : ℕ) (loads : List ℕ) (top : ℕ) : Type 0 where
   pub so_far : i ≤ n
-  pub room : length loads ≡ searchBuses
+  pub room : length loads ≡ search_buses
   pub partly : Partly t ws i (take (length ws) loads)
-  pub top-is : top ≡ largest (take (length ws) loads)
+  pub top_is : top ≡ largest (take (length ws) loads)
 
 take-zeros : (c n : ℕ) → c ≤ n → ◌≡◌ {A = List ℕ} (take c (replicate n 0)) (replicate c 0)
 take-zeros zero n h = refl
@@ -58,14 +58,14 @@ no-modules : (c : ℕ) → Memᴰ [] (placements 0 c)
 unfolding placements
 no-modules c = Memᴰ.head refl
 
-pub thumbed-none : (t ws : List ℕ) (n : ℕ) → AreBuses ws → Thumbed t ws n 0 (replicate searchBuses 0) 0
-thumbed-none t ws n u =
-    let e = take-zeros (length ws) searchBuses u.few in
+pub thumbed_none : (t ws : List ℕ) (n : ℕ) → AreBuses ws → Thumbed t ws n 0 (replicate search_buses 0) 0
+thumbed_none t ws n u =
+    let e = take-zeros (length ws) search_buses u.few in
     record {
       so_far = omega arith;
       room = refl;
-      partly = record { buses = []; listed = no-modules (length ws); loads-are = e ∙ sym (busies-none (tableTime t) 1 ws) };
-      top-is = sym (ap largest e ∙ largest-zeros (length ws));
+      partly = record { buses = []; listed = no-modules (length ws); loads_are = e ∙ sym (busies-none (table_time t) 1 ws) };
+      top_is = sym (ap largest e ∙ largest-zeros (length ws));
     }
 
 -- one more module has a bus
@@ -89,28 +89,28 @@ placed-last n c b bs p h = record { placed = length-append bs ((b + 1) ∷ []) �
         ⊎_elim (λ e. rw (here i e) (omega arith)) (λ l. rw (there i l) (p.high i l)) (eq-or-lt_of_le m)
 
 module _ (t ws : List ℕ) (i b x : ℕ) (loads : List ℕ) (p : Partly t ws i loads) (h : b < length ws)
-    (e : x ≡ tableTime t i (get_or ws b 0)) where
+    (e : x ≡ table_time t i (get_or ws b 0)) where
   partly_more : Partly t ws (i + 1) (set loads b (get_or loads b 0 + x))
   partly_more =
-      let q = placements-sound i (length ws) p.buses p.listed in
-      let one = busies-one (tableTime t) 1 b ws p.buses (b + 1) h (omega arith) in
+      let q = placements_sound i (length ws) p.buses p.listed in
+      let one = busies-one (table_time t) 1 b ws p.buses (b + 1) h (omega arith) in
       record {
         buses = p.buses ++ (b + 1) ∷ [];
-        listed = placements-complete (i + 1) (length ws) (p.buses ++ (b + 1) ∷ []) (placed-last i (length ws) b p.buses q h);
-        loads-are = rw (e, p.loads-are) (sym (rw q.placed at one));
+        listed = placements_complete (i + 1) (length ws) (p.buses ++ (b + 1) ∷ []) (placed-last i (length ws) b p.buses q h);
+        loads_are = rw (e, p.loads_are) (sym (rw q.placed at one));
       }
 
 module _ (t ws : List ℕ) (n i : ℕ) (loads : List ℕ) (top : ℕ) where
   -- no load is so large that a sum overflows
-  pub thumbed-most : Thumbed t ws n i loads top → ((j w : ℕ) → tableTime t j w ≤ timeBound) → (b : ℕ) → b < length ws
-      → get_or loads b 0 ≤ i * timeBound
-  thumbed-most d m b h = rw (get_or-take (length ws) loads b 0 h) at (partly-most t ws i (take (length ws) loads) d.partly m b)
+  pub thumbed_most : Thumbed t ws n i loads top → ((j w : ℕ) → table_time t j w ≤ time_bound) → (b : ℕ) → b < length ws
+      → get_or loads b 0 ≤ i * time_bound
+  thumbed_most d m b h = rw (get_or-take (length ws) loads b 0 h) at (partly_most t ws i (take (length ws) loads) d.partly m b)
 
   -- one more module goes to the bus at place b
-  pub thumbed-more : (b x next : ℕ) → length ws ≤ searchBuses → Thumbed t ws n i loads top → i < n → b < length ws
-      → x ≡ tableTime t i (get_or ws b 0) → next ≡ max top (get_or loads b 0 + x)
+  pub thumbed_more : (b x next : ℕ) → length ws ≤ search_buses → Thumbed t ws n i loads top → i < n → b < length ws
+      → x ≡ table_time t i (get_or ws b 0) → next ≡ max top (get_or loads b 0 + x)
       → Thumbed t ws n (i + 1) (set loads b (get_or loads b 0 + x)) next
-  thumbed-more b x next few d l h e f =
+  thumbed_more b x next few d l h e f =
       let c = length ws in
       let g : get_or (take c loads) b 0 ≡ get_or loads b 0 = get_or-take c loads b 0 h in
       let load = get_or loads b 0 + x in
@@ -120,16 +120,16 @@ module _ (t ws : List ℕ) (n i : ℕ) (loads : List ℕ) (top : ℕ) where
         so_far = omega arith;
         room = length-set loads b load ∙ d.room;
         partly = rw s (rw g at (partly_more t ws i b x (take c loads) d.partly h e));
-        top-is = rw (s, f, d.top-is) (sym (largest-set (take c loads) b load (omega arith) (omega arith)));
+        top_is = rw (s, f, d.top_is) (sym (largest-set (take c loads) b load (omega arith) (omega arith)));
       }
 
   -- all modules are placed
-  pub thumbed-all : Thumbed t ws n i loads top → n ≤ i → Placeable t ws n top
-  unfolding timeOf
-  thumbed-all d h =
+  pub thumbed_all : Thumbed t ws n i loads top → n ≤ i → Placeable t ws n top
+  unfolding time_of
+  thumbed_all d h =
       let e : i ≡ n = omega (arith, d.so_far) in
       let p : Partly t ws n (take (length ws) loads) = rw e at d.partly in
-      record { buses = p.buses; listed = p.listed; takes = sym (d.top-is ∙ ap largest p.loads-are) }
+      record { buses = p.buses; listed = p.listed; takes = sym (d.top_is ∙ ap largest p.loads_are) }
 
 -- of c buses, the first i have w of W wires each, and `left` wires are left for the others
 pub record Evened (c w W i : ℕ) (ws : List ℕ) (left : ℕ) : Type 0 where
@@ -187,13 +187,13 @@ module _ (k w W : ℕ) (low : 1 ≤ w) (fits : suc k * w ≤ W) where
       rw g (low, t))
       (eq-or-lt_of_le m)
 
-  even-buses : suc k ≤ searchBuses → W ≤ rowPlaces → AreBuses (even k w W)
+  even-buses : suc k ≤ search_buses → W ≤ row_places → AreBuses (even k w W)
   even-buses few top =
       let e = even-length k w W in
       record { some = omega arith; few = omega arith; wide = λ b h. let u = even-wide b (omega arith) in (u.0, omega (arith, u.1)) }
 
   -- a placement on them has the time of a plan
-  even-reached : (t : List ℕ) (B n r : ℕ) → suc k ≤ B → Placeable t (even k w W) n r → Reached (tableTime t) W B n r
+  even-reached : (t : List ℕ) (B n r : ℕ) → suc k ≤ B → Placeable t (even k w W) n r → Reached (table_time t) W B n r
   even-reached t B n r b p = record {
     reached = plan (even k w W) p.buses;
     is-plan = even-plan k w W B n p.buses low fits b (rw (even-length k w W) at p.listed);
@@ -202,28 +202,28 @@ module _ (k w W : ℕ) (low : 1 ≤ w) (fits : suc k * w ≤ W) where
 
 -- the first c of the widths ws are lent, and come back as c buses of w of W wires, the last with the rest
 pub record Lent (c w W : ℕ) (ws es : List ℕ) : Type 0 where
-  pub room : length ws ≡ searchBuses
+  pub room : length ws ≡ search_buses
   pub some : 1 ≤ c
-  pub few : c ≤ searchBuses
+  pub few : c ≤ search_buses
   pub low : 1 ≤ w
   pub fits : c * w ≤ W
-  pub top : W ≤ rowPlaces
+  pub top : W ≤ row_places
   pub same : length es ≡ length (take c ws)
   pub are : es ≡ even (length (take c ws) - 1) w W
 
 -- what is asked of the widths before they are lent
-pub lent-asked : (c w W : ℕ) (ws : List ℕ) → length ws ≡ searchBuses → 1 ≤ c → c ≤ searchBuses → c * w ≤ W → W ≤ rowPlaces
-    → (1 ≤ length (take c ws)) × (length (take c ws) ≤ searchBuses) × (length (take c ws) * w ≤ W) × (W ≤ rowPlaces)
-lent-asked c w W ws room some few fits top =
+pub lent_asked : (c w W : ℕ) (ws : List ℕ) → length ws ≡ search_buses → 1 ≤ c → c ≤ search_buses → c * w ≤ W → W ≤ row_places
+    → (1 ≤ length (take c ws)) × (length (take c ws) ≤ search_buses) × (length (take c ws) * w ≤ W) × (W ≤ row_places)
+lent_asked c w W ws room some few fits top =
     let l : length (take c ws) ≡ c = length-take-le c ws (omega arith) in
     rw l (some, few, fits, top)
 
 module _ {c w W : ℕ} {ws es : List ℕ} (d : Lent c w W ws es) where
-  pub lent-room : length (es ++ drop c ws) ≡ searchBuses
-  lent-room = length_front ws es c d.same ∙ d.room
+  pub lent_room : length (es ++ drop c ws) ≡ search_buses
+  lent_room = length_front ws es c d.same ∙ d.room
 
-  pub lent-count : c ≡ length (take c (es ++ drop c ws))
-  lent-count = sym (length-take-le c (es ++ drop c ws) (omega (arith, lent-room, d.few)))
+  pub lent_count : c ≡ length (take c (es ++ drop c ws))
+  lent_count = sym (length-take-le c (es ++ drop c ws) (omega (arith, lent_room, d.few)))
 
   lent_is : take c (es ++ drop c ws) ≡ even (c - 1) w W
   lent_is =
@@ -233,18 +233,18 @@ module _ {c w W : ℕ} {ws es : List ℕ} (d : Lent c w W ws es) where
   last_fits : suc (c - 1) * w ≤ W
   last_fits = let e : suc (c - 1) ≡ c = omega (arith, d.some) in rw e d.fits
 
-  pub lent-buses : AreBuses (take c (es ++ drop c ws))
-  lent-buses = rw lent_is (even-buses (c - 1) w W d.low last_fits (omega (arith, d.some, d.few)) d.top)
+  pub lent_buses : AreBuses (take c (es ++ drop c ws))
+  lent_buses = rw lent_is (even-buses (c - 1) w W d.low last_fits (omega (arith, d.some, d.few)) d.top)
 
-  pub lent-reached : (t : List ℕ) (n r : ℕ) → Placeable t (take c (es ++ drop c ws)) n r → Reached (tableTime t) W c n r
-  lent-reached t n r p = even-reached (c - 1) w W d.low last_fits t c n r (omega (arith, d.some)) (rw lent_is at p)
+  pub lent_reached : (t : List ℕ) (n r : ℕ) → Placeable t (take c (es ++ drop c ws)) n r → Reached (table_time t) W c n r
+  lent_reached t n r p = even-reached (c - 1) w W d.low last_fits t c n r (omega (arith, d.some)) (rw lent_is at p)
 
 -- a width of at most an equal share
 pub share-fits : (c w W : ℕ) → 1 ≤ c → w ≤ W / c → c * w ≤ W
 share-fits c w W some h = let p : 0 < c = some in omega (arith, (le-div_iff_mul-le p).0 h, mul_comm w c)
 
 -- with a larger limit the same plan is one
-pub reached-more : (t : List ℕ) (W B C n r : ℕ) → B ≤ C → Reached (tableTime t) W B n r → Reached (tableTime t) W C n r
+pub reached-more : (t : List ℕ) (W B C n r : ℕ) → B ≤ C → Reached (table_time t) W B n r → Reached (table_time t) W C n r
 reached-more t W B C n r h p =
     let q = p.is-plan in
     record {

@@ -1,15 +1,15 @@
 // The busy figure of a bus of the plan that was found (document 01, "The plan": "A bus is busy for the sum of its modules' times").
 ghost use Rattle.std.specs.Prelude.{◌≡◌, ◌≤◌, take};
-ghost use Rattle.plan_rules.specs.Plans.{busyFrom};
-ghost use Rattle.plan_search.specs.Search.{rowPlaces, tableTime, AreTimes};
+ghost use Rattle.plan_rules.specs.Plans.{busy_from};
+ghost use Rattle.plan_search.specs.Search.{row_places, table_time, AreTimes};
 
 use super::place::{FOUND_MODULES, time_at};
 use units::{Cycles, Wires};
 
 // How long bus b, from 1, of width w is busy.
 pub fn busy_of(table: &[u64], buses: [u64; FOUND_MODULES], n: usize, b: usize, w: Wires) -> Cycles
-    requires { AreTimes table.now n × (1 ≤ w.0) × (w.0 ≤ rowPlaces) }
-    ensures { result.0 ≡ busyFrom (tableTime table.now) 0 b w.0 (take n buses) }
+    requires { AreTimes table.now n × (1 ≤ w.0) × (w.0 ≤ row_places) }
+    ensures { result.0 ≡ busy_from (table_time table.now) 0 b w.0 (take n buses) }
 {
     let mut sum = Cycles(0);
     let mut i: usize = 0;

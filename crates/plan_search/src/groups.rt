@@ -1,9 +1,9 @@
 // The lists of widths in their order (document 01, "The plan"), and the first of them on which the time is least. Lists that begin alike are
 // judged together: where no plan on buses as wide as each of them allows takes less than the best so far, none of them is looked at.
 ghost use Rattle.std.specs.Prelude.{◌≡◌, false, [], ◌++◌, ◌∷◌, ◌+◌, ◌-◌, ◌≤◌, ◌<◌, length, take, drop};
-ghost use Rattle.plan_rules.specs.Least.{leastOn};
+ghost use Rattle.plan_rules.specs.Least.{least_on};
 ghost use Rattle.plan_rules.specs.Widths.{widest};
-ghost use Rattle.plan_search.specs.Search.{searchBuses, bestMax, tableTime, IsTable, AreWidths};
+ghost use Rattle.plan_search.specs.Search.{search_buses, best_max, table_time, IsTable, AreWidths};
 ghost use Rattle.plan_search.specs.Lists.{Rooms, group, Group, Sought};
 
 use super::least::least_on;
@@ -28,8 +28,8 @@ fn widen(widths: &mut [u32], at: usize, low: Wires, high: Wires, left: Wires)
 
 // Whether a plan on buses of these widths takes less than the best so far.
 fn may_beat(table: &[u64], n: usize, widths: &[u32], best: Cycles) -> bool
-    requires { IsTable table.now n × AreWidths widths.now × (best.0 ≤ bestMax) }
-    ensures { result ≡ false → leastOn (tableTime table.now) n widths.now best.0 ≡ best.0 }
+    requires { IsTable table.now n × AreWidths widths.now × (best.0 ≤ best_max) }
+    ensures { result ≡ false → least_on (table_time table.now) n widths.now best.0 ≡ best.0 }
 {
     if best.0 == 0 {
         return false;
@@ -40,7 +40,7 @@ fn may_beat(table: &[u64], n: usize, widths: &[u32], best: Cycles) -> bool
 
 // The widths become those of the best plan: how many, and behind that the widths.
 fn keep_widths(widths: &[u32], found: &mut [u32])
-    requires { (length widths.now ≤ searchBuses) × (length widths.now < length found.old) }
+    requires { (length widths.now ≤ search_buses) × (length widths.now < length found.old) }
     ensures { found.new ≡
         length widths.now ∷ widths.now ++ drop (length widths.now + 1) found.old }
 {
@@ -54,7 +54,7 @@ fn keep_widths(widths: &[u32], found: &mut [u32])
 
 // The smaller of best and the least time on buses of these widths; if that is less, they are kept.
 fn on_widths(table: &[u64], n: usize, widths: &[u32], found: &mut [u32], best: Cycles) -> Cycles
-    requires { IsTable table.now n × AreWidths widths.now × (best.0 ≤ bestMax) × Rooms (length widths.now) found.old }
+    requires { IsTable table.now n × AreWidths widths.now × (best.0 ≤ best_max) × Rooms (length widths.now) found.old }
     ensures { Sought table.now n (widths.now ∷ []) best.0 found.old result.0 found.new }
 {
     let r = least_on(table, n, widths, best, Cycles(0));
@@ -76,7 +76,7 @@ pub(crate) fn over_group(
     found: &mut [u32],
     best: Cycles,
 ) -> Cycles
-    requires { IsTable table.now n × (best.0 ≤ bestMax) × Group at low.0 high.0 left.0 widths.old
+    requires { IsTable table.now n × (best.0 ≤ best_max) × Group at low.0 high.0 left.0 widths.old
         × Rooms (length widths.old) found.old }
     ensures widths_unchanged { take at widths.new ≡ take at widths.old }
     ensures sought { Sought table.now n

@@ -1,9 +1,9 @@
 // The least time on buses of given widths (document 01, "The plan"), with the modules in whatever order the table has them: the order does not
 // change it. Nothing is kept but the loads of the buses.
 ghost use Rattle.std.specs.Prelude.{◌≡◌, ◌+◌, ◌-◌, ◌≤◌, ◌<◌, length};
-ghost use Rattle.plan_rules.specs.Least.{leastOn};
-ghost use Rattle.plan_rules.specs.From.{leastFrom};
-ghost use Rattle.plan_search.specs.Search.{rowPlaces, bestMax, tableTime, IsTable, AreWidths};
+ghost use Rattle.plan_rules.specs.Least.{least_on};
+ghost use Rattle.plan_rules.specs.From.{least_from};
+ghost use Rattle.plan_search.specs.Search.{row_places, best_max, table_time, IsTable, AreWidths};
 ghost use Rattle.plan_search.specs.Least.{RestIs, Board, Loads, Reaches};
 
 use super::place::{SEARCH_BUSES, SEARCH_MODULES, larger, time_at};
@@ -11,7 +11,7 @@ use units::{Cycles, Wires};
 
 // For each module and behind the last one, the times at width w of the modules from there on.
 fn sum_rest(table: &[u64], w: Wires, rest: &mut [u64])
-    requires { IsTable table.now (length rest.old - 1) × (1 ≤ length rest.old) × (1 ≤ w.0) × (w.0 ≤ rowPlaces) }
+    requires { IsTable table.now (length rest.old - 1) × (1 ≤ length rest.old) × (1 ≤ w.0) × (w.0 ≤ row_places) }
     ensures { RestIs table.now w.0 rest.new }
 {
     let n = rest.len() - 1;
@@ -38,9 +38,9 @@ fn least(
     enough: Cycles,
 ) -> Cycles
     requires { Board table.now widths.now rest.now × Loads widths.now i top.0 load.0 loads.old
-        × (i < length rest.now) × (best.0 ≤ bestMax) }
+        × (i < length rest.now) × (best.0 ≤ best_max) }
     ensures loads_unchanged { loads.new ≡ loads.old }
-    ensures reaches { Reaches (leastFrom (tableTime table.now) widths.now (length rest.now - 1 - i) i
+    ensures reaches { Reaches (least_from (table_time table.now) widths.now (length rest.now - 1 - i) i
         loads.old best.0) enough.0 result.0 }
 {
     if best.0 <= top.0 {
@@ -89,8 +89,8 @@ pub(crate) fn least_on(
     best: Cycles,
     enough: Cycles,
 ) -> Cycles
-    requires { IsTable table.now n × AreWidths widths.now × (best.0 ≤ bestMax) }
-    ensures { Reaches (leastOn (tableTime table.now) n widths.now best.0) enough.0 result.0 }
+    requires { IsTable table.now n × AreWidths widths.now × (best.0 ≤ best_max) }
+    ensures { Reaches (least_on (table_time table.now) n widths.now best.0) enough.0 result.0 }
 {
     let c = widths.len();
     let mut rest = [0u64; SEARCH_MODULES + 1];

@@ -1,7 +1,7 @@
 // Placing the modules on buses of given widths (document 01, "The plan"), in the order of bus numbers from the lowest module. Numbers
 // alone, in lent buffers, so that nothing is copied on the way.
 ghost use Rattle.std.specs.Prelude.{◌≡◌, ◌∷◌, ◌+◌, max, length};
-ghost use Rattle.plan_search.specs.Search.{tableTime, TimeIn, Ready, Placed};
+ghost use Rattle.plan_search.specs.Search.{table_time, TimeIn, Ready, Placed};
 
 use units::{Cycles, Wires};
 
@@ -21,7 +21,7 @@ pub const ROW_PLACES: usize = 64;
 // The time of module i, from 0, at width w.
 pub fn time_at(table: &[u64], i: usize, w: Wires) -> Cycles
     requires { TimeIn table.now i w.0 }
-    ensures { result.0 ≡ tableTime table.now i w.0 }
+    ensures { result.0 ≡ table_time table.now i w.0 }
 {
     Cycles(table[i * ROW_PLACES + (w.0 as usize - 1)])
 }

@@ -3,7 +3,7 @@
 ghost use Rattle.std.specs.Prelude.{◌≡◌, ◌+◌, ◌-◌, ◌*◌, ◌≤◌, ◌<◌, length};
 ghost use Rattle.plan_rules.specs.Least.{Reached};
 ghost use Rattle.plan_rules.specs.Widths.{even};
-ghost use Rattle.plan_search.specs.Search.{searchBuses, rowPlaces, tableTime, IsTable};
+ghost use Rattle.plan_search.specs.Search.{search_buses, row_places, table_time, IsTable};
 ghost use Rattle.plan_search.specs.Thumb.{AreBuses, Partly, Placeable};
 
 use super::place::{SEARCH_BUSES, larger, time_at};
@@ -52,7 +52,7 @@ fn thumb_on(table: &[u64], widths: &[u32], n: usize) -> Cycles
 
 // Buses of w wires, and the last one with the rest.
 fn even_widths(widths: &mut [u32], w: Wires, wires: Wires)
-    requires { (1 ≤ length widths.old) × (length widths.old ≤ searchBuses) × (length widths.old * w.0 ≤ wires.0) × (wires.0 ≤ rowPlaces) }
+    requires { (1 ≤ length widths.old) × (length widths.old ≤ search_buses) × (length widths.old * w.0 ≤ wires.0) × (wires.0 ≤ row_places) }
     ensures { widths.new ≡ even (length widths.old - 1) w.0 wires.0 }
 {
     let last = widths.len() - 1;
@@ -68,8 +68,8 @@ fn even_widths(widths: &mut [u32], w: Wires, wires: Wires)
 
 // The least time that the rule gives with c buses.
 fn thumb_with(table: &[u64], c: usize, wires: Wires, n: usize) -> Cycles
-    requires { IsTable table.now n × (1 ≤ c) × (c ≤ searchBuses) × (c ≤ wires.0) × (wires.0 ≤ rowPlaces) }
-    ensures { Reached (tableTime table.now) wires.0 c n result.0 }
+    requires { IsTable table.now n × (1 ≤ c) × (c ≤ search_buses) × (c ≤ wires.0) × (wires.0 ≤ row_places) }
+    ensures { Reached (table_time table.now) wires.0 c n result.0 }
 {
     let mut widths = [0u32; SEARCH_BUSES];
     even_widths(&mut widths[..c], Wires(1), wires);
@@ -89,8 +89,8 @@ fn thumb_with(table: &[u64], c: usize, wires: Wires, n: usize) -> Cycles
 
 // The least time that the rule gives with up to limit buses.
 pub(crate) fn bound_of(table: &[u64], wires: Wires, limit: usize, n: usize) -> Cycles
-    requires { IsTable table.now n × (1 ≤ wires.0) × (wires.0 ≤ rowPlaces) × (1 ≤ limit) × (limit ≤ searchBuses) }
-    ensures { Reached (tableTime table.now) wires.0 limit n result.0 }
+    requires { IsTable table.now n × (1 ≤ wires.0) × (wires.0 ≤ row_places) × (1 ≤ limit) × (limit ≤ search_buses) }
+    ensures { Reached (table_time table.now) wires.0 limit n result.0 }
 {
     let mut best = thumb_with(table, 1, wires, n);
     let mut c: usize = 2;

@@ -1,11 +1,11 @@
 // The first plan of least time (document 01, "The plan"). The least time and the first list of widths that has it are found with the modules by
 // falling time; on that list alone they are then placed in ascending number, and the first placement that keeps to the time is the answer.
 ghost use Rattle.std.specs.Prelude.{◌≡◌, ◌+◌, ◌-◌, ◌≤◌, ◌<◌, length, get_or, take, drop};
-ghost use Rattle.plan_rules.specs.Listed.{placements, bestPlan};
-ghost use Rattle.plan_rules.specs.Plans.{timeOf};
-ghost use Rattle.plan_rules.specs.Least.{leastOn, allLists, keepLists, keepAll, Stands};
-ghost use Rattle.plan_search.specs.Search.{searchBuses, searchModules, foundBuses, foundModules, rowPlaces, tableTime, timeOn};
-ghost use Rattle.plan_search.specs.Search.{foundOf, foundIn, IsTable, AreWidths, IsHeld};
+ghost use Rattle.plan_rules.specs.Listed.{placements, best_plan};
+ghost use Rattle.plan_rules.specs.Plans.{time_of};
+ghost use Rattle.plan_rules.specs.Least.{least_on, all_lists, keep_lists, keep_all, Stands};
+ghost use Rattle.plan_search.specs.Search.{search_buses, search_modules, found_buses, found_modules, row_places, table_time, time_on};
+ghost use Rattle.plan_search.specs.Search.{found_of, found_in, IsTable, AreWidths, IsHeld};
 ghost use Rattle.units.specs.Places.{padded};
 ghost use Rattle.plan_search.specs.Lists.{kept, Rooms, Listing};
 
@@ -35,7 +35,7 @@ fn first_list(
 ) -> Cycles
     requires { Listing table.now wires.0 limit n best.0 found.old }
     ensures found_after { kept result.0 found.new ≡
-        keepLists (leastOn (tableTime table.now) n) (kept best.0 found.old) (allLists wires.0 limit) }
+        keep_lists (least_on (table_time table.now) n) (kept best.0 found.old) (all_lists wires.0 limit) }
     ensures found_in_bounds { get_or found.new 0 0 < length found.new }
 {
     let mut widths = [0u32; SEARCH_BUSES];
@@ -63,10 +63,10 @@ fn first_list(
 
 // The least time, and the first list of widths that has it: with the modules by falling time, from what a rule of thumb gives.
 fn least_list(table: &[u64], wires: Wires, limit: usize, n: usize, found: &mut [u32]) -> Cycles
-    requires { IsTable table.now n × (1 ≤ wires.0) × (wires.0 ≤ rowPlaces) × (1 ≤ limit) × (limit ≤ searchBuses)
-        × Rooms searchBuses found.old }
-    ensures stands { Stands (timeOf (tableTime table.now)) n (kept result.0 found.new)
-        (bestPlan (tableTime table.now) wires.0 limit n) }
+    requires { IsTable table.now n × (1 ≤ wires.0) × (wires.0 ≤ row_places) × (1 ≤ limit) × (limit ≤ search_buses)
+        × Rooms search_buses found.old }
+    ensures stands { Stands (time_of (table_time table.now)) n (kept result.0 found.new)
+        (best_plan (table_time table.now) wires.0 limit n) }
     ensures found_in_bounds { get_or found.new 0 0 < length found.new }
 {
     let mut order = [0usize; SEARCH_MODULES];
@@ -80,7 +80,7 @@ fn least_list(table: &[u64], wires: Wires, limit: usize, n: usize, found: &mut [
 fn first_placement(table: &[u64], widths: &[u32], best: &mut [u64])
     requires { IsTable table.now (length best.old - 1) × AreWidths widths.now × (1 ≤ length best.old) }
     ensures { best.new ≡
-        keepAll (timeOn table.now widths.now) best.old
+        keep_all (time_on table.now widths.now) best.old
         (placements (length best.old - 1) (length widths.now)) }
 {
     if best[0] == 0 {
@@ -101,8 +101,8 @@ fn first_placement(table: &[u64], widths: &[u32], best: &mut [u64])
 
 // The first plan of least time for W wires and a limit of buses, over a table of the times of n modules.
 pub fn search(table: &[u64], wires: Wires, limit: usize, n: usize) -> Found
-    requires { IsTable table.now n × (1 ≤ wires.0) × (wires.0 ≤ rowPlaces) × (1 ≤ limit) × (limit ≤ searchBuses) }
-    ensures { result ≡ foundOf (tableTime table.now) (bestPlan (tableTime table.now) wires.0 limit n) }
+    requires { IsTable table.now n × (1 ≤ wires.0) × (wires.0 ≤ row_places) × (1 ≤ limit) × (limit ≤ search_buses) }
+    ensures { result ≡ found_of (table_time table.now) (best_plan (table_time table.now) wires.0 limit n) }
 {
     let mut found = [0u32; SEARCH_BUSES + 1];
     let time = least_list(table, wires, limit, n, &mut found);
@@ -115,8 +115,8 @@ pub fn search(table: &[u64], wires: Wires, limit: usize, n: usize) -> Found
 
 // The widths behind their count, at the front of the places for them.
 fn placed_widths(found: &[u32]) -> [u32; FOUND_BUSES]
-    requires { (1 ≤ length found.now) × (get_or found.now 0 0 ≤ searchBuses) × (get_or found.now 0 0 < length found.now) }
-    ensures { result ≡ padded foundBuses 0 (take (get_or found.now 0 0) (drop 1 found.now)) }
+    requires { (1 ≤ length found.now) × (get_or found.now 0 0 ≤ search_buses) × (get_or found.now 0 0 < length found.now) }
+    ensures { result ≡ padded found_buses 0 (take (get_or found.now 0 0) (drop 1 found.now)) }
 {
     let count = found[0] as usize;
     let mut widths = [0u32; FOUND_BUSES];
@@ -130,8 +130,8 @@ fn placed_widths(found: &[u32]) -> [u32; FOUND_BUSES]
 
 // The bus numbers behind the time, at the front of the places for them.
 fn placed_buses(best: &[u64]) -> [u64; FOUND_MODULES]
-    requires { (1 ≤ length best.now) × (length best.now ≤ searchModules + 1) }
-    ensures { result ≡ padded foundModules 0 (drop 1 best.now) }
+    requires { (1 ≤ length best.now) × (length best.now ≤ search_modules + 1) }
+    ensures { result ≡ padded found_modules 0 (drop 1 best.now) }
 {
     let mut buses = [0u64; FOUND_MODULES];
     let mut i: usize = 1;
@@ -145,7 +145,7 @@ fn placed_buses(best: &[u64]) -> [u64; FOUND_MODULES]
 // The plan that the buffers hold.
 fn found_in(best: &[u64], found: &[u32]) -> Found
     requires { IsHeld best.now found.now }
-    ensures { result ≡ foundIn best.now found.now }
+    ensures { result ≡ found_in best.now found.now }
 {
     Found {
         count: found[0] as usize,

@@ -1,14 +1,14 @@
 // The starts of a record's modules, judged by its own modules (document 02, item 1).
 ghost use Rattle.std.specs.Prelude.{◌≡◌};
-ghost use Rattle.plan_record.specs.Record.{modulesOf, runsBefore, start_of};
-ghost use Rattle.plan_record.specs.Good.{goodStarts};
+ghost use Rattle.plan_record.specs.Record.{modules_of, runs_before, start_of};
+ghost use Rattle.plan_record.specs.Good.{good_starts};
 ghost use Rattle.plan_sums.specs.Times.{CyclesFit};
 
 use plan_record::{BusPlan, PlacedModule};
 
 // Whether x runs on m's bus before m.
 fn runs_before(x: PlacedModule, m: PlacedModule) -> bool
-    ensures { result ≡ runsBefore x m }
+    ensures { result ≡ runs_before x m }
 {
     if x.bus != m.bus {
         return false;
@@ -19,7 +19,7 @@ fn runs_before(x: PlacedModule, m: PlacedModule) -> bool
 // The cycles of the modules on m's bus with a lower number.
 fn start_of(p: BusPlan, m: PlacedModule) -> u64
     requires { CyclesFit p }
-    ensures { result ≡ start_of (modulesOf p) m }
+    ensures { result ≡ start_of (modules_of p) m }
 {
     let n = p.module_count;
     let mut sum: u64 = 0;
@@ -36,7 +36,7 @@ fn start_of(p: BusPlan, m: PlacedModule) -> u64
 
 pub fn has_good_starts(p: BusPlan) -> bool
     requires { CyclesFit p }
-    ensures { result ≡ goodStarts (modulesOf p) }
+    ensures { result ≡ good_starts (modules_of p) }
 {
     let n = p.module_count;
     let mut i: usize = 0;

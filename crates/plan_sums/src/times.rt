@@ -1,8 +1,8 @@
 // Busy figures and the time of a record, judged by its own modules.
 ghost use Rattle.std.specs.Prelude.{◌≡◌, ◌≤◌};
 ghost use Rattle.plan_rules.specs.Plans.{largest};
-ghost use Rattle.plan_record.specs.Record.{busPlaces, modulePlaces, busesOf, modulesOf, busiesOf, cyclesOn};
-ghost use Rattle.plan_record.specs.Good.{goodBusies, goodTimes};
+ghost use Rattle.plan_record.specs.Record.{bus_places, module_places, buses_of, modules_of, busies_of, cycles_on};
+ghost use Rattle.plan_record.specs.Good.{good_busies, good_times};
 ghost use Rattle.plan_sums.specs.Times.{CyclesFit};
 
 use plan_record::BusPlan;
@@ -10,7 +10,7 @@ use plan_record::BusPlan;
 // The cycles of the modules on bus b.
 fn cycles_on(p: BusPlan, b: usize) -> u64
     requires { CyclesFit p }
-    ensures { result ≡ cyclesOn b (modulesOf p) }
+    ensures { result ≡ cycles_on b (modules_of p) }
 {
     let n = p.module_count;
     let mut sum: u64 = 0;
@@ -26,8 +26,8 @@ fn cycles_on(p: BusPlan, b: usize) -> u64
 }
 
 fn has_good_busy(p: BusPlan) -> bool
-    requires { (p.bus_count ≤ busPlaces) × CyclesFit p }
-    ensures { result ≡ goodBusies (modulesOf p) 1 (busesOf p) }
+    requires { (p.bus_count ≤ bus_places) × CyclesFit p }
+    ensures { result ≡ good_busies (modules_of p) 1 (buses_of p) }
 {
     let n = p.bus_count;
     let mut b: usize = 0;
@@ -42,8 +42,8 @@ fn has_good_busy(p: BusPlan) -> bool
 }
 
 fn largest_busy(p: BusPlan) -> u64
-    requires { p.bus_count ≤ busPlaces }
-    ensures { result ≡ largest (busiesOf (busesOf p)) }
+    requires { p.bus_count ≤ bus_places }
+    ensures { result ≡ largest (busies_of (buses_of p)) }
 {
     let n = p.bus_count;
     let mut most: u64 = 0;
@@ -59,8 +59,8 @@ fn largest_busy(p: BusPlan) -> u64
 }
 
 pub fn has_good_times(p: BusPlan) -> bool
-    requires { (p.bus_count ≤ busPlaces) × CyclesFit p }
-    ensures { result ≡ goodTimes p }
+    requires { (p.bus_count ≤ bus_places) × CyclesFit p }
+    ensures { result ≡ good_times p }
 {
     if !has_good_busy(p) {
         return false;

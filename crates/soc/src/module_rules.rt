@@ -1,8 +1,8 @@
 // The rules of one module of a record: its limits, its level against the module before it, its spare places (refusal 14).
 ghost use Rattle.std.specs.Prelude.{◌≡◌, ◌≤◌, take, drop};
-ghost use Rattle.soc.specs.Limits.{positionMax, chainsMax};
+ghost use Rattle.soc.specs.Limits.{position_max, chains_max};
 ghost use Rattle.units.specs.Places.{all_of};
-ghost use Rattle.soc.specs.Rules.{up_to, goodLength, spareLength, goodPosition, levelRule, goodTerminals, goodChains, goodTests, goodModule, spareModule};
+ghost use Rattle.soc.specs.Rules.{up_to, good_length, spare_length, good_position, level_rule, good_terminals, good_chains, good_tests, good_module, spare_module};
 
 use super::test_rules::{are_good_tests, are_spare_tests, is_none, is_not_given};
 use super::{CHAINS_MAX, LENGTH_MAX, LEVEL_MAX, Module, POSITION_MAX, TERMINALS_MAX, TESTS_MAX};
@@ -10,7 +10,7 @@ use units::FlipFlops;
 
 // 0 to 1,000,000.
 fn is_position(z: i32) -> bool
-    ensures { result ≡ up_to positionMax z }
+    ensures { result ≡ up_to position_max z }
 {
     if z < 0 {
         return false;
@@ -19,7 +19,7 @@ fn is_position(z: i32) -> bool
 }
 
 fn is_good_position(option: bool, x: i32, y: i32) -> bool
-    ensures { result ≡ goodPosition option x y }
+    ensures { result ≡ good_position option x y }
 {
     if is_not_given(x) {
         return is_not_given(y);
@@ -35,8 +35,8 @@ fn is_good_position(option: bool, x: i32, y: i32) -> bool
 }
 
 fn are_good_lengths(chains: [FlipFlops; CHAINS_MAX], n: usize) -> bool
-    requires { n ≤ chainsMax }
-    ensures { result ≡ all_of goodLength (take n chains) }
+    requires { n ≤ chains_max }
+    ensures { result ≡ all_of good_length (take n chains) }
 {
     let mut i: usize = 0;
     while i < n {
@@ -53,8 +53,8 @@ fn are_good_lengths(chains: [FlipFlops; CHAINS_MAX], n: usize) -> bool
 }
 
 fn are_spare_lengths(chains: [FlipFlops; CHAINS_MAX], n: usize) -> bool
-    requires { n ≤ chainsMax }
-    ensures { result ≡ all_of spareLength (drop n chains) }
+    requires { n ≤ chains_max }
+    ensures { result ≡ all_of spare_length (drop n chains) }
 {
     let mut i = n;
     while i < CHAINS_MAX {
@@ -69,7 +69,7 @@ fn are_spare_lengths(chains: [FlipFlops; CHAINS_MAX], n: usize) -> bool
 
 // Module 0 has level 0; another has a level from 1 to the previous module's level plus 1.
 pub fn keeps_level_rule(m: usize, last: u32, v: u32) -> bool
-    ensures { result ≡ levelRule m last v }
+    ensures { result ≡ level_rule m last v }
 {
     if m == 0 {
         return v == 0;
@@ -81,7 +81,7 @@ pub fn keeps_level_rule(m: usize, last: u32, v: u32) -> bool
 }
 
 fn has_good_terminals(d: Module) -> bool
-    ensures { result ≡ goodTerminals d }
+    ensures { result ≡ good_terminals d }
 {
     if d.inputs > TERMINALS_MAX {
         return false;
@@ -93,7 +93,7 @@ fn has_good_terminals(d: Module) -> bool
 }
 
 fn has_good_chains(d: Module) -> bool
-    ensures { result ≡ goodChains d }
+    ensures { result ≡ good_chains d }
 {
     let n = d.chain_count;
     if n > CHAINS_MAX {
@@ -107,7 +107,7 @@ fn has_good_chains(d: Module) -> bool
 }
 
 fn has_good_tests(m: usize, power: bool, d: Module) -> bool
-    ensures { result ≡ goodTests m power d }
+    ensures { result ≡ good_tests m power d }
 {
     let n = d.test_count;
     if n > TESTS_MAX {
@@ -121,7 +121,7 @@ fn has_good_tests(m: usize, power: bool, d: Module) -> bool
 }
 
 pub(crate) fn is_good_module(power: bool, xy: bool, m: usize, last: u32, d: Module) -> bool
-    ensures { result ≡ goodModule power xy m last d }
+    ensures { result ≡ good_module power xy m last d }
 {
     if d.level > LEVEL_MAX {
         return false;
@@ -142,7 +142,7 @@ pub(crate) fn is_good_module(power: bool, xy: bool, m: usize, last: u32, d: Modu
 }
 
 pub(crate) fn is_spare_module(d: Module) -> bool
-    ensures { result ≡ spareModule d }
+    ensures { result ≡ spare_module d }
 {
     if d.level != 0 {
         return false;

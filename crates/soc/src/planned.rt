@@ -1,6 +1,6 @@
 // Planned modules: those with at least one test with TamUse 1.
 ghost use Rattle.std.specs.Prelude.{◌≡◌};
-ghost use Rattle.soc.specs.Planned.{isPlanned, plannedOf, plannedIs};
+ghost use Rattle.soc.specs.Planned.{is_planned, planned_of, planned_is};
 
 use super::{MODULES_MAX, Module, Soc, TESTS_MAX};
 
@@ -12,7 +12,7 @@ pub struct Planned {
 }
 
 pub fn is_planned(d: Module) -> bool
-    ensures { result ≡ isPlanned d }
+    ensures { result ≡ is_planned d }
 {
     let n = d.test_count;
     let mut i: usize = 0;
@@ -30,7 +30,7 @@ pub fn is_planned(d: Module) -> bool
 }
 
 pub fn planned_modules(s: Soc) -> Planned
-    ensures { result ≡ plannedIs (plannedOf s) }
+    ensures { result ≡ planned_is (planned_of s) }
 {
     let n = s.module_count;
     let mut numbers = [0usize; MODULES_MAX];

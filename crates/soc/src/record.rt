@@ -1,7 +1,7 @@
 // The SOC record and its limits. What is in use stands at the front of an array, as many places as its count says; the spare places
 // behind it are 0.
 ghost use Rattle.std.specs.Prelude.{◌≡◌};
-ghost use Rattle.soc.specs.Record.{noTest, noModule, noSoc};
+ghost use Rattle.soc.specs.Record.{no_test, no_module, no_soc};
 
 use fields::NAME_MAX;
 use units::FlipFlops;
@@ -63,7 +63,7 @@ pub struct Soc {
 
 // A spare test.
 pub fn no_test() -> Test
-    ensures { result ≡ noTest }
+    ensures { result ≡ no_test }
 {
     Test {
         scan_use: false,
@@ -75,7 +75,7 @@ pub fn no_test() -> Test
 
 // A spare module.
 pub fn no_module() -> Module
-    ensures { result ≡ noModule }
+    ensures { result ≡ no_module }
 {
     let test = no_test();
     Module {
@@ -94,7 +94,7 @@ pub fn no_module() -> Module
 
 // What a refusal answers in the place of a record.
 pub fn no_soc() -> Soc
-    ensures { result ≡ noSoc }
+    ensures { result ≡ no_soc }
 {
     let module = no_module();
     Soc {

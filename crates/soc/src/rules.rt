@@ -2,17 +2,17 @@
 // place (refusal 14).
 ghost use Rattle.std.specs.Prelude.{◌≡◌, ◌≤◌, take, drop};
 ghost use Rattle.units.specs.Places.{all_of};
-ghost use Rattle.soc.specs.Limits.{modulesMax};
-ghost use Rattle.fields.specs.Names.{nameMax};
-ghost use Rattle.soc.specs.Rules.{none, goodModules, spareModule, goodName, goodSoc};
+ghost use Rattle.soc.specs.Limits.{modules_max};
+ghost use Rattle.fields.specs.Names.{name_max};
+ghost use Rattle.soc.specs.Rules.{none, good_modules, spare_module, good_name, good_soc};
 
 use super::module_rules::{is_good_module, is_spare_module};
 use super::{MODULES_MAX, Soc};
 use fields::NAME_MAX;
 
 fn are_good_modules(s: Soc) -> bool
-    requires { s.module_count ≤ modulesMax }
-    ensures { result ≡ goodModules s.power s.xy 0 0 (take s.module_count s.modules) }
+    requires { s.module_count ≤ modules_max }
+    ensures { result ≡ good_modules s.power s.xy 0 0 (take s.module_count s.modules) }
 {
     let n = s.module_count;
     let power = s.power;
@@ -31,8 +31,8 @@ fn are_good_modules(s: Soc) -> bool
 }
 
 fn are_spare_modules(s: Soc, n: usize) -> bool
-    requires { n ≤ modulesMax }
-    ensures { result ≡ all_of spareModule (drop n s.modules) }
+    requires { n ≤ modules_max }
+    ensures { result ≡ all_of spare_module (drop n s.modules) }
 {
     let mut i = n;
     while i < MODULES_MAX {
@@ -46,7 +46,7 @@ fn are_spare_modules(s: Soc, n: usize) -> bool
 }
 
 fn are_spare_bytes(name: [u8; NAME_MAX], n: usize) -> bool
-    requires { n ≤ nameMax }
+    requires { n ≤ name_max }
     ensures { result ≡ all_of none (drop n name) }
 {
     let mut i = n;
@@ -60,7 +60,7 @@ fn are_spare_bytes(name: [u8; NAME_MAX], n: usize) -> bool
 }
 
 fn has_good_name(s: Soc) -> bool
-    ensures { result ≡ goodName s }
+    ensures { result ≡ good_name s }
 {
     let n = s.name_len;
     if n > NAME_MAX {
@@ -74,7 +74,7 @@ fn has_good_name(s: Soc) -> bool
 }
 
 pub fn is_good(s: Soc) -> bool
-    ensures { result ≡ goodSoc s }
+    ensures { result ≡ good_soc s }
 {
     if !has_good_name(s) {
         return false;

@@ -11,73 +11,73 @@ use lib.Dec.{leb}
 use lib.ListN.{length}
 use Rattle.units.specs.Refusals.{refused}
 use Rattle.units.specs.declared.Refusal.{Refusal}
-use Rattle.fields.specs.Bytes.{badByte}
+use Rattle.fields.specs.Bytes.{bad_byte}
 use Rattle.fields.specs.Lines.{lines_from}
 use Rattle.fields.specs.Readers.{no, got}
 use Rattle.fields.specs.declared.byte.BadByte.{BadByte}
 use Rattle.fields.specs.declared.byte.BadByte.TheVariants.{OnLine, Nowhere}
-use Rattle.soc.specs.Record.{noSoc}
-use Rattle.soc.specs.Rules.{goodName, goodSoc}
+use Rattle.soc.specs.Record.{no_soc}
+use Rattle.soc.specs.Rules.{good_name, good_soc}
 use Rattle.soc.specs.Sized.{Sized}
 use Rattle.soc.specs.declared.record.Soc.{Soc}
 use Rattle.text_reader.specs.Lines.{LinesRead}
-use Rattle.soc.specs.Limits.{textMax}
-use Rattle.text_reader.specs.Reading.{soc, refusedSoc, acceptedSoc, answer, unlessBad, readSoc}
-use Rattle.text.specs.Describes.{Describes, fieldLines}
+use Rattle.soc.specs.Limits.{text_max}
+use Rattle.text_reader.specs.Reading.{soc, refused_soc, accepted_soc, answer, unless_bad, read_soc}
+use Rattle.text.specs.Describes.{Describes, field_lines}
 use Rattle.text.specs.Numbers.{TextNumber}
 use Rattle.text_reader.specs.declared.read.SocRead.{SocRead}
-use Rattle.text.proofs.Accepted.{Read, soc-only}
+use Rattle.text.proofs.Accepted.{Read, soc_only}
 use Rattle.text.proofs.Refused.{soc-refuses}
 
 -- the answer accepts t, for this record
 abbrev Right : List ℕ → SocRead → Type 0
-Right t a = (s : Soc) × (a ≡ acceptedSoc s) × (length t ≤ textMax) × (badByte 1 t ≡ Nowhere) × (soc (lines_from 1 t 0) ≡ got s [])
+Right t a = (s : Soc) × (a ≡ accepted_soc s) × (length t ≤ text_max) × (bad_byte 1 t ≡ Nowhere) × (soc (lines_from 1 t 0) ≡ got s [])
 
 -- the answer refuses, with this refusal
 abbrev Wrong : SocRead → Type 0
-Wrong a = (r : Refusal) × (a ≡ refusedSoc r) × TextNumber r.number
+Wrong a = (r : Refusal) × (a ≡ refused_soc r) × TextNumber r.number
 
 pub text-number-some : (c : ℕ) → TextNumber c → 1 ≤ c
 text-number-some c (inl h) = h.0
 text-number-some c (inr e) = omega (arith, e)
 
 module _ (t : List ℕ) where
-  lines-outcome : length t ≤ textMax → badByte 1 t ≡ Nowhere → (g : LinesRead Soc) → soc (lines_from 1 t 0) ≡ g → Right t (answer g) ⊎ Wrong (answer g)
+  lines_outcome : length t ≤ text_max → bad_byte 1 t ≡ Nowhere → (g : LinesRead Soc) → soc (lines_from 1 t 0) ≡ g → Right t (answer g) ⊎ Wrong (answer g)
   unfolding answer
-  lines-outcome h k (no r) e = inr (r, refl, soc-refuses (lines_from 1 t 0) r e)
-  lines-outcome h k (got s ls) e =
-      let f = soc-only (lines_from 1 t 0) s ls e in
+  lines_outcome h k (no r) e = inr (r, refl, soc-refuses (lines_from 1 t 0) r e)
+  lines_outcome h k (got s ls) e =
+      let f = soc_only (lines_from 1 t 0) s ls e in
       inl (s, refl, h, k, e ∙ ap (got s) f.1)
 
-  bytes-outcome : length t ≤ textMax → (b : BadByte) → badByte 1 t ≡ b → Right t (unlessBad b (answer (soc (lines_from 1 t 0)))) ⊎ Wrong (unlessBad b (answer (soc (lines_from 1 t 0))))
-  unfolding unlessBad
-  bytes-outcome h (OnLine n) e = inr (refused 2 n, refl, inl (omega arith, omega arith))
-  bytes-outcome h Nowhere e = lines-outcome h e (soc (lines_from 1 t 0)) refl
+  bytes_outcome : length t ≤ text_max → (b : BadByte) → bad_byte 1 t ≡ b → Right t (unless_bad b (answer (soc (lines_from 1 t 0)))) ⊎ Wrong (unless_bad b (answer (soc (lines_from 1 t 0))))
+  unfolding unless_bad
+  bytes_outcome h (OnLine n) e = inr (refused 2 n, refl, inl (omega arith, omega arith))
+  bytes_outcome h Nowhere e = lines_outcome h e (soc (lines_from 1 t 0)) refl
 
-  outcome : Right t (readSoc t) ⊎ Wrong (readSoc t)
-  unfolding readSoc
-  outcome = go (leb (length t) textMax) refl
+  outcome : Right t (read_soc t) ⊎ Wrong (read_soc t)
+  unfolding read_soc
+  outcome = go (leb (length t) text_max) refl
     where
       read : SocRead
-      read = unlessBad (badByte 1 t) (answer (soc (lines_from 1 t 0)))
+      read = unless_bad (bad_byte 1 t) (answer (soc (lines_from 1 t 0)))
 
-      go : (b : Bool) → leb (length t) textMax ≡ b → Right t (cond b read (refusedSoc (refused 1 0))) ⊎ Wrong (cond b read (refusedSoc (refused 1 0)))
-      go true e = bytes-outcome (leb-true (length t) textMax e) (badByte 1 t) refl
+      go : (b : Bool) → leb (length t) text_max ≡ b → Right t (cond b read (refused_soc (refused 1 0))) ⊎ Wrong (cond b read (refused_soc (refused 1 0)))
+      go true e = bytes_outcome (leb-true (length t) text_max e) (bad_byte 1 t) refl
       go false e = inr (refused 1 0, refl, inl (omega arith, omega arith))
 
   -- it accepts, or it refuses with a number from 1 to 6, or with 17
-  pub accepts-or-refuses : ((s : Soc) × (readSoc t ≡ acceptedSoc s)) ⊎ ((r : Refusal) × (readSoc t ≡ refusedSoc r) × TextNumber r.number)
-  accepts-or-refuses = go outcome
+  pub accepts_or_refuses : ((s : Soc) × (read_soc t ≡ accepted_soc s)) ⊎ ((r : Refusal) × (read_soc t ≡ refused_soc r) × TextNumber r.number)
+  accepts_or_refuses = go outcome
     where
-      go : Right t (readSoc t) ⊎ Wrong (readSoc t) → ((s : Soc) × (readSoc t ≡ acceptedSoc s)) ⊎ Wrong (readSoc t)
+      go : Right t (read_soc t) ⊎ Wrong (read_soc t) → ((s : Soc) × (read_soc t ≡ accepted_soc s)) ⊎ Wrong (read_soc t)
       go (inl (s, e, h, k, l)) = inl (s, e)
       go (inr w) = inr w
 
-  module _ (s : Soc) (a : readSoc t ≡ acceptedSoc s) where
-    pub accepted-is : (length t ≤ textMax) × (badByte 1 t ≡ Nowhere) × (soc (lines_from 1 t 0) ≡ got s [])
+  module _ (s : Soc) (a : read_soc t ≡ accepted_soc s) where
+    pub accepted-is : (length t ≤ text_max) × (bad_byte 1 t ≡ Nowhere) × (soc (lines_from 1 t 0) ≡ got s [])
     accepted-is = go outcome
       where
-        go : Right t (readSoc t) ⊎ Wrong (readSoc t) → (length t ≤ textMax) × (badByte 1 t ≡ Nowhere) × (soc (lines_from 1 t 0) ≡ got s [])
+        go : Right t (read_soc t) ⊎ Wrong (read_soc t) → (length t ≤ text_max) × (bad_byte 1 t ≡ Nowhere) × (soc (lines_from 1 t 0) ≡ got s [])
         go (inl (q, e, h, k, l)) =
             let i : q ≡ s = ap (λ (r : SocRead). r.soc) (sym e ∙ a) in
             (h, k, l ∙ ap (λ r. got r []) i)
@@ -86,27 +86,27 @@ module _ (t : List ℕ) where
             absurd (omega (arith, text-number-some r.number n))
 
     pub accepted-read : Read s (lines_from 1 t 0)
-    accepted-read = (soc-only (lines_from 1 t 0) s [] accepted-is.2).0
+    accepted-read = (soc_only (lines_from 1 t 0) s [] accepted-is.2).0
 
-    pub accepted-good : goodSoc s ≡ true
+    pub accepted-good : good_soc s ≡ true
     accepted-good = accepted-read.good
 
     pub accepted-sized : Sized s
     accepted-sized = accepted-read.sized
 
-    pub accepted-describes : Describes s (fieldLines t)
-    accepted-describes = accepted-read.described
+    pub accepted_describes : Describes s (field_lines t)
+    accepted_describes = accepted-read.described
 
 -- a record that says nothing is not good, so that an answer that refuses is none that accepts
-no-soc : goodSoc noSoc ≡ false
-unfolding goodSoc goodName
+no-soc : good_soc no_soc ≡ false
+unfolding good_soc good_name
 no-soc = refl
 
-pub refused-number : (t : List ℕ) (r : Refusal) → readSoc t ≡ refusedSoc r → TextNumber r.number
-refused-number t r a = go (accepts-or-refuses t)
+pub refused-number : (t : List ℕ) (r : Refusal) → read_soc t ≡ refused_soc r → TextNumber r.number
+refused-number t r a = go (accepts_or_refuses t)
   where
-    go : ((s : Soc) × (readSoc t ≡ acceptedSoc s)) ⊎ Wrong (readSoc t) → TextNumber r.number
+    go : ((s : Soc) × (read_soc t ≡ accepted_soc s)) ⊎ Wrong (read_soc t) → TextNumber r.number
     go (inl (s, e)) =
-        let i : s ≡ noSoc = ap (λ (q : SocRead). q.soc) (sym e ∙ a) in
-        absurd (false≢true (sym no-soc ∙ ap goodSoc (sym i) ∙ accepted-good t s e))
+        let i : s ≡ no_soc = ap (λ (q : SocRead). q.soc) (sym e ∙ a) in
+        absurd (false≢true (sym no-soc ∙ ap good_soc (sym i) ∙ accepted-good t s e))
     go (inr (q, e, n)) = subst TextNumber (ap (λ (q : SocRead). q.refusal.number) (sym e ∙ a)) n

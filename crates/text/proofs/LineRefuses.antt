@@ -10,15 +10,15 @@ use native.Mathlib.Omega.{arith}
 use lib.Dec.{eqb, leb}
 use lib.IntN.{pos}
 use Rattle.units.proofs.TestLaws.{clash}
-use Rattle.fields.specs.Bytes.{bytes, sameBytes}
-use Rattle.fields.specs.Names.{isName}
-use Rattle.fields.specs.Numbers.{decimalOf}
-use Rattle.fields.specs.Readers.{no, got, FieldsGot, Reader, ◌>>=◌, ◌>>◌, after, each, bytesDue, within, between, keyBetween}
-use Rattle.soc.specs.Limits.{modulesMax, levelMax, terminalsMax, chainsMax, lengthMax, testsMax, patternsMax, positionMax, powerMax}
-use Rattle.soc.specs.Record.{notGiven}
-use Rattle.soc.specs.Rules.{levelRule, pinsRule}
-use Rattle.text_lines.specs.Parts.{whole, closed, refuses, due, dueIs, keyDue, flag, keyFlag, givenIs, orNotGiven, keyGiven, name, rule, pins, isNext}
-use Rattle.text_lines.specs.Kinds.{Terminals, Uses, namePart, nameLine, totalLine, optionsPart, optionsLine, moduleDue, level, terminals, chainLength, lengthsPart, chainsPart, levelLine, pairRule, positionPart, totalTests, testsPart, secondPart, secondLine, testsLine, powerPart, uses, testDue, patternsPart, testLine}
+use Rattle.fields.specs.Bytes.{bytes, same_bytes}
+use Rattle.fields.specs.Names.{is_name}
+use Rattle.fields.specs.Numbers.{decimal_of}
+use Rattle.fields.specs.Readers.{no, got, FieldsGot, Reader, ◌>>=◌, ◌>>◌, after, each, bytes_due, within, between, key_between}
+use Rattle.soc.specs.Limits.{modules_max, level_max, terminals_max, chains_max, length_max, tests_max, patterns_max, position_max, power_max}
+use Rattle.soc.specs.Record.{not_given}
+use Rattle.soc.specs.Rules.{level_rule, pins_rule}
+use Rattle.text_lines.specs.Parts.{whole, closed, refuses, due, due_is, key_due, flag, key_flag, given_is, or_not_given, key_given, name, rule, pins, is_next}
+use Rattle.text_lines.specs.Kinds.{Terminals, Uses, name_part, name_line, total_line, options_part, options_line, module_due, level, terminals, chain_length, lengths_part, chains_part, level_line, pair_rule, position_part, total_tests, tests_part, second_part, second_line, tests_line, power_part, uses, test_due, patterns_part, test_line}
 
 -- what the fields of a line are refused with
 abbrev pub LineNumber : ℕ → Type 0
@@ -32,212 +32,212 @@ abbrev pub FairReader : {A : Type 0} → Reader A → Type 0
 FairReader p = (fs : List (List ℕ)) → Fair (p fs)
 
 module _ {A : Type 0} where
-  pub fair-no : (n : ℕ) → 3 ≤ n → n ≤ 5 → Fair {A = A} (no n)
-  fair-no n h k = record { fair = λ c e. let q : n ≡ c = cc in inl (omega arith, omega arith) }
+  pub fair_no : (n : ℕ) → 3 ≤ n → n ≤ 5 → Fair {A = A} (no n)
+  fair_no n h k = record { fair = λ c e. let q : n ≡ c = cc in inl (omega arith, omega arith) }
 
-  fair-seventeen : Fair {A = A} (no 17)
-  fair-seventeen = record { fair = λ c e. let q : ◌≡◌ {A = ℕ} 17 c = cc in inr (sym q) }
+  fair_seventeen : Fair {A = A} (no 17)
+  fair_seventeen = record { fair = λ c e. let q : ◌≡◌ {A = ℕ} 17 c = cc in inr (sym q) }
 
-  pub fair-got : (a : A) (fs : List (List ℕ)) → Fair (got a fs)
-  fair-got a fs = record { fair = λ c e. clash cc }
+  pub fair_got : (a : A) (fs : List (List ℕ)) → Fair (got a fs)
+  fair_got a fs = record { fair = λ c e. clash cc }
 
-  pub fair-if : (t : Bool) {x y : FieldsGot A} → Fair x → Fair y → Fair (cond t x y)
-  fair-if true p q = p
-  fair-if false p q = q
+  pub fair_if : (t : Bool) {x y : FieldsGot A} → Fair x → Fair y → Fair (cond t x y)
+  fair_if true p q = p
+  fair_if false p q = q
 
-  pub fair-closed : (g : FieldsGot A) → Fair g → (c : ℕ) → closed g ≡ refuses c → LineNumber c
+  pub fair_closed : (g : FieldsGot A) → Fair g → (c : ℕ) → closed g ≡ refuses c → LineNumber c
   unfolding closed
-  fair-closed (no n) f c h = let q : n ≡ c = cc in f.fair c (ap no q)
-  fair-closed (got a []) f c h = clash cc
-  fair-closed (got a (g ∷ gs)) f c h = let q : ◌≡◌ {A = ℕ} 3 c = cc in inl (omega arith, omega arith)
+  fair_closed (no n) f c h = let q : n ≡ c = cc in f.fair c (ap no q)
+  fair_closed (got a []) f c h = clash cc
+  fair_closed (got a (g ∷ gs)) f c h = let q : ◌≡◌ {A = ℕ} 3 c = cc in inl (omega arith, omega arith)
 
-pub fair-after : {A B : Type 0} {g : FieldsGot A} {k : A → Reader B} → Fair g → ((a : A) → FairReader (k a)) → Fair (after g k)
+pub fair_after : {A B : Type 0} {g : FieldsGot A} {k : A → Reader B} → Fair g → ((a : A) → FairReader (k a)) → Fair (after g k)
 unfolding after
-fair-after {g = no c} p q = record { fair = λ d h. let e : c ≡ d = cc in p.fair d (ap no e) }
-fair-after {g = got a fs} p q = q a fs
+fair_after {g = no c} p q = record { fair = λ d h. let e : c ≡ d = cc in p.fair d (ap no e) }
+fair_after {g = got a fs} p q = q a fs
 
-pub fair-bind : {A B : Type 0} {p : Reader A} {k : A → Reader B} → FairReader p → ((a : A) → FairReader (k a)) → FairReader (p >>= k)
-fair-bind f h fs = fair-after (f fs) h
+pub fair_bind : {A B : Type 0} {p : Reader A} {k : A → Reader B} → FairReader p → ((a : A) → FairReader (k a)) → FairReader (p >>= k)
+fair_bind f h fs = fair_after (f fs) h
 
-pub fair-then : {A B : Type 0} {p : Reader A} {q : Reader B} → FairReader p → FairReader q → FairReader (p >> q)
-fair-then f h fs = fair-after (f fs) (λ _. h)
+pub fair_then : {A B : Type 0} {p : Reader A} {q : Reader B} → FairReader p → FairReader q → FairReader (p >> q)
+fair_then f h fs = fair_after (f fs) (λ _. h)
 
-pub fair-each : {A : Type 0} (n : ℕ) {p : ℕ → Reader A} → ((i : ℕ) → FairReader (p i)) → (i : ℕ) → FairReader (each n p i)
+pub fair_each : {A : Type 0} (n : ℕ) {p : ℕ → Reader A} → ((i : ℕ) → FairReader (p i)) → (i : ℕ) → FairReader (each n p i)
 unfolding each
-fair-each zero f i = fair-got []
-fair-each (suc n) f i = fair-bind (f i) (λ x. fair-bind (fair-each n f (suc i)) (λ xs. fair-got (x ∷ xs)))
+fair_each zero f i = fair_got []
+fair_each (suc n) f i = fair_bind (f i) (λ x. fair_bind (fair_each n f (suc i)) (λ xs. fair_got (x ∷ xs)))
 
 -- the parts of a line
 
 three : {A : Type 0} → Fair {A = A} (no 3)
-three = fair-no 3 (omega arith) (omega arith)
+three = fair_no 3 (omega arith) (omega arith)
 
 four : {A : Type 0} → Fair {A = A} (no 4)
-four = fair-no 4 (omega arith) (omega arith)
+four = fair_no 4 (omega arith) (omega arith)
 
 five : {A : Type 0} → Fair {A = A} (no 5)
-five = fair-no 5 (omega arith) (omega arith)
+five = fair_no 5 (omega arith) (omega arith)
 
-pub fair-word : (w : List ℕ) → FairReader (bytesDue w)
-unfolding bytesDue
-fair-word w [] = three
-fair-word w (f ∷ fs) = fair-if (sameBytes f w) (fair-got tt fs) three
+pub fair_word : (w : List ℕ) → FairReader (bytes_due w)
+unfolding bytes_due
+fair_word w [] = three
+fair_word w (f ∷ fs) = fair_if (same_bytes f w) (fair_got tt fs) three
 
-fair-within : (low high : ℕ) (o : Option ℕ) → FairReader (within low high o)
+fair_within : (low high : ℕ) (o : Option ℕ) → FairReader (within low high o)
 unfolding within
-fair-within low high none fs = four
-fair-within low high (some v) fs = fair-if (leb low v && leb v high) (fair-got v fs) four
+fair_within low high none fs = four
+fair_within low high (some v) fs = fair_if (leb low v && leb v high) (fair_got v fs) four
 
-pub fair-between : (low high : ℕ) → FairReader (between low high)
+pub fair_between : (low high : ℕ) → FairReader (between low high)
 unfolding between
-fair-between low high [] = three
-fair-between low high (f ∷ fs) = fair-within low high (decimalOf f) fs
+fair_between low high [] = three
+fair_between low high (f ∷ fs) = fair_within low high (decimal_of f) fs
 
-fair-due-is : (n : ℕ) (o : Option ℕ) → FairReader (dueIs n o)
-unfolding dueIs
-fair-due-is n none fs = four
-fair-due-is n (some v) fs = fair-if (eqb v n) (fair-got tt fs) five
+fair_due_is : (n : ℕ) (o : Option ℕ) → FairReader (due_is n o)
+unfolding due_is
+fair_due_is n none fs = four
+fair_due_is n (some v) fs = fair_if (eqb v n) (fair_got tt fs) five
 
-pub fair-due : (n : ℕ) → FairReader (due n)
+pub fair_due : (n : ℕ) → FairReader (due n)
 unfolding due
-fair-due n [] = three
-fair-due n (f ∷ fs) = fair-due-is n (decimalOf f) fs
+fair_due n [] = three
+fair_due n (f ∷ fs) = fair_due_is n (decimal_of f) fs
 
-pub fair-flag : FairReader flag
+pub fair_flag : FairReader flag
 unfolding flag
-fair-flag [] = three
-fair-flag (f ∷ fs) = fair-if (sameBytes f (bytes "0")) (fair-got false fs) (fair-if (sameBytes f (bytes "1")) (fair-got true fs) three)
+fair_flag [] = three
+fair_flag (f ∷ fs) = fair_if (same_bytes f (bytes "0")) (fair_got false fs) (fair_if (same_bytes f (bytes "1")) (fair_got true fs) three)
 
-fair-given-is : (high : ℕ) (o : Option ℕ) → FairReader (givenIs high o)
-unfolding givenIs
-fair-given-is high none fs = four
-fair-given-is high (some v) fs = fair-if (leb v high) (fair-got (pos v) fs) four
+fair_given_is : (high : ℕ) (o : Option ℕ) → FairReader (given_is high o)
+unfolding given_is
+fair_given_is high none fs = four
+fair_given_is high (some v) fs = fair_if (leb v high) (fair_got (pos v) fs) four
 
-pub fair-given : (high : ℕ) → FairReader (orNotGiven high)
-unfolding orNotGiven
-fair-given high [] = three
-fair-given high (f ∷ fs) = fair-if (sameBytes f (bytes "-1")) (fair-got notGiven fs) (fair-given-is high (decimalOf f) fs)
+pub fair_given : (high : ℕ) → FairReader (or_not_given high)
+unfolding or_not_given
+fair_given high [] = three
+fair_given high (f ∷ fs) = fair_if (same_bytes f (bytes "-1")) (fair_got not_given fs) (fair_given_is high (decimal_of f) fs)
 
-pub fair-name : FairReader name
+pub fair_name : FairReader name
 unfolding name
-fair-name [] = three
-fair-name (f ∷ fs) = fair-if (isName f) (fair-got f fs) three
+fair_name [] = three
+fair_name (f ∷ fs) = fair_if (is_name f) (fair_got f fs) three
 
-pub fair-rule : (b : Bool) → FairReader (rule b)
+pub fair_rule : (b : Bool) → FairReader (rule b)
 unfolding rule
-fair-rule false fs = five
-fair-rule true fs = fair-got tt fs
+fair_rule false fs = five
+fair_rule true fs = fair_got tt fs
 
-fair-pins : (b : Bool) → FairReader (pins b)
+fair_pins : (b : Bool) → FairReader (pins b)
 unfolding pins
-fair-pins false fs = fair-seventeen
-fair-pins true fs = fair-got tt fs
+fair_pins false fs = fair_seventeen
+fair_pins true fs = fair_got tt fs
 
 module _ (w : List ℕ) where
-  pub fair-keyed : (low high : ℕ) → FairReader (keyBetween w low high)
-  fair-keyed low high = fair-then (fair-word w) (fair-between low high)
+  pub fair_keyed : (low high : ℕ) → FairReader (key_between w low high)
+  fair_keyed low high = fair_then (fair_word w) (fair_between low high)
 
-  pub fair-key-due : (n : ℕ) → FairReader (keyDue w n)
-  fair-key-due n = fair-then (fair-word w) (fair-due n)
+  pub fair_key_due : (n : ℕ) → FairReader (key_due w n)
+  fair_key_due n = fair_then (fair_word w) (fair_due n)
 
-  pub fair-key-flag : FairReader (keyFlag w)
-  fair-key-flag = fair-then (fair-word w) fair-flag
+  pub fair_key_flag : FairReader (key_flag w)
+  fair_key_flag = fair_then (fair_word w) fair_flag
 
-  pub fair-key-given : (high : ℕ) → FairReader (keyGiven w high)
-  fair-key-given high = fair-then (fair-word w) (fair-given high)
+  pub fair_key_given : (high : ℕ) → FairReader (key_given w high)
+  fair_key_given high = fair_then (fair_word w) (fair_given high)
 
 -- the lines
 
-pub name-refuses : (fs : List (List ℕ)) (c : ℕ) → whole nameLine fs ≡ refuses c → LineNumber c
-unfolding nameLine namePart
-name-refuses fs = fair-closed (nameLine fs) (fair-then (fair-word (bytes "SocName")) (fair-bind fair-name (λ f. fair-got _)) fs)
+pub name-refuses : (fs : List (List ℕ)) (c : ℕ) → whole name_line fs ≡ refuses c → LineNumber c
+unfolding name_line name_part
+name-refuses fs = fair_closed (name_line fs) (fair_then (fair_word (bytes "SocName")) (fair_bind fair_name (λ f. fair_got _)) fs)
 
-pub total-refuses : (fs : List (List ℕ)) (c : ℕ) → whole totalLine fs ≡ refuses c → LineNumber c
-unfolding totalLine
-total-refuses fs = fair-closed (totalLine fs) (fair-keyed (bytes "TotalModules") 1 modulesMax fs)
+pub total-refuses : (fs : List (List ℕ)) (c : ℕ) → whole total_line fs ≡ refuses c → LineNumber c
+unfolding total_line
+total-refuses fs = fair_closed (total_line fs) (fair_keyed (bytes "TotalModules") 1 modules_max fs)
 
-pub options-refuses : (fs : List (List ℕ)) (c : ℕ) → whole optionsLine fs ≡ refuses c → LineNumber c
-unfolding optionsLine optionsPart
-options-refuses fs =
-    fair-closed (optionsLine fs) (fair-then (fair-word (bytes "Options")) (fair-bind (fair-key-flag (bytes "Power")) (λ p. fair-bind (fair-key-flag (bytes "XY")) (λ x. fair-got _))) fs)
+pub options_refuses : (fs : List (List ℕ)) (c : ℕ) → whole options_line fs ≡ refuses c → LineNumber c
+unfolding options_line options_part
+options_refuses fs =
+    fair_closed (options_line fs) (fair_then (fair_word (bytes "Options")) (fair_bind (fair_key_flag (bytes "Power")) (λ p. fair_bind (fair_key_flag (bytes "XY")) (λ x. fair_got _))) fs)
 
-pub fair-module : (m : ℕ) → FairReader (moduleDue m)
-fair-module m = fair-key-due (bytes "Module") m
+pub fair_module : (m : ℕ) → FairReader (module_due m)
+fair_module m = fair_key_due (bytes "Module") m
 
-fair-level : (m last : ℕ) → FairReader (level m last)
+fair_level : (m last : ℕ) → FairReader (level m last)
 unfolding level
-fair-level m last = fair-then (fair-module m) (fair-bind (fair-keyed (bytes "Level") 0 levelMax) (λ v. fair-then (fair-rule (levelRule m last v)) (fair-got v)))
+fair_level m last = fair_then (fair_module m) (fair_bind (fair_keyed (bytes "Level") 0 level_max) (λ v. fair_then (fair_rule (level_rule m last v)) (fair_got v)))
 
-pub fair-terminals : FairReader terminals
+pub fair_terminals : FairReader terminals
 unfolding terminals
-fair-terminals =
-    fair-bind (fair-keyed (bytes "Inputs") 0 terminalsMax)
-    (λ i. fair-bind (fair-keyed (bytes "Outputs") 0 terminalsMax) (λ o. fair-bind (fair-keyed (bytes "Bidirs") 0 terminalsMax) (λ b. fair-got _)))
+fair_terminals =
+    fair_bind (fair_keyed (bytes "Inputs") 0 terminals_max)
+    (λ i. fair_bind (fair_keyed (bytes "Outputs") 0 terminals_max) (λ o. fair_bind (fair_keyed (bytes "Bidirs") 0 terminals_max) (λ b. fair_got _)))
 
-fair-length : FairReader chainLength
-unfolding chainLength
-fair-length = fair-bind (fair-between 1 lengthMax) (λ n. fair-got _)
+fair_length : FairReader chain_length
+unfolding chain_length
+fair_length = fair_bind (fair_between 1 length_max) (λ n. fair_got _)
 
-fair-lengths : (s v : ℕ) (t : Terminals) → FairReader (lengthsPart s v t)
-unfolding lengthsPart
-fair-lengths s v t = fair-bind (fair-each s (λ _. fair-length) 0) (λ ls. fair-got _)
+fair_lengths : (s v : ℕ) (t : Terminals) → FairReader (lengths_part s v t)
+unfolding lengths_part
+fair_lengths s v t = fair_bind (fair_each s (λ _. fair_length) 0) (λ ls. fair_got _)
 
-pub fair-chains : (v : ℕ) (t : Terminals) → FairReader (chainsPart v t)
-unfolding chainsPart
-fair-chains v t = fair-bind (fair-keyed (bytes "ScanChains") 0 chainsMax) (λ s. fair-then (fair-word (bytes ":")) (fair-lengths s v t))
+pub fair_chains : (v : ℕ) (t : Terminals) → FairReader (chains_part v t)
+unfolding chains_part
+fair_chains v t = fair_bind (fair_keyed (bytes "ScanChains") 0 chains_max) (λ s. fair_then (fair_word (bytes ":")) (fair_lengths s v t))
 
-pub level-refuses : (m last : ℕ) (fs : List (List ℕ)) (c : ℕ) → whole (levelLine m last) fs ≡ refuses c → LineNumber c
-unfolding levelLine
-level-refuses m last fs = fair-closed (levelLine m last fs) (fair-bind (fair-level m last) (λ v. fair-bind fair-terminals (λ t. fair-chains v t)) fs)
+pub level-refuses : (m last : ℕ) (fs : List (List ℕ)) (c : ℕ) → whole (level_line m last) fs ≡ refuses c → LineNumber c
+unfolding level_line
+level-refuses m last fs = fair_closed (level_line m last fs) (fair_bind (fair_level m last) (λ v. fair_bind fair_terminals (λ t. fair_chains v t)) fs)
 
-fair-position : FairReader positionPart
-unfolding positionPart
-fair-position =
-    fair-bind (fair-key-given (bytes "X") positionMax)
-    (λ x. fair-bind (fair-key-given (bytes "Y") positionMax) (λ y. fair-then (fair-rule (pairRule x y)) (fair-got _)))
+fair_position : FairReader position_part
+unfolding position_part
+fair_position =
+    fair_bind (fair_key_given (bytes "X") position_max)
+    (λ x. fair_bind (fair_key_given (bytes "Y") position_max) (λ y. fair_then (fair_rule (pair_rule x y)) (fair_got _)))
 
-fair-total-tests : FairReader totalTests
-unfolding totalTests
-fair-total-tests = fair-keyed (bytes "TotalTests") 0 testsMax
+fair_total_tests : FairReader total_tests
+unfolding total_tests
+fair_total_tests = fair_keyed (bytes "TotalTests") 0 tests_max
 
-fair-tests : FairReader testsPart
-unfolding testsPart
-fair-tests = fair-bind fair-total-tests (λ t. fair-got _)
+fair_tests : FairReader tests_part
+unfolding tests_part
+fair_tests = fair_bind fair_total_tests (λ t. fair_got _)
 
-fair-second : (xy : Bool) → FairReader (secondPart xy)
-unfolding secondPart
-fair-second false fs = fair-tests fs
-fair-second true fs = fair-if (isNext (bytes "X") fs) (fair-position fs) (fair-tests fs)
+fair_second : (xy : Bool) → FairReader (second_part xy)
+unfolding second_part
+fair_second false fs = fair_tests fs
+fair_second true fs = fair_if (is_next (bytes "X") fs) (fair_position fs) (fair_tests fs)
 
-pub second-refuses : (m : ℕ) (xy : Bool) (fs : List (List ℕ)) (c : ℕ) → whole (secondLine m xy) fs ≡ refuses c → LineNumber c
-unfolding secondLine
-second-refuses m xy fs = fair-closed (secondLine m xy fs) (fair-then (fair-module m) (fair-second xy) fs)
+pub second_refuses : (m : ℕ) (xy : Bool) (fs : List (List ℕ)) (c : ℕ) → whole (second_line m xy) fs ≡ refuses c → LineNumber c
+unfolding second_line
+second_refuses m xy fs = fair_closed (second_line m xy fs) (fair_then (fair_module m) (fair_second xy) fs)
 
-pub tests-refuses : (m : ℕ) (fs : List (List ℕ)) (c : ℕ) → whole (testsLine m) fs ≡ refuses c → LineNumber c
-unfolding testsLine
-tests-refuses m fs = fair-closed (testsLine m fs) (fair-then (fair-module m) fair-total-tests fs)
+pub tests-refuses : (m : ℕ) (fs : List (List ℕ)) (c : ℕ) → whole (tests_line m) fs ≡ refuses c → LineNumber c
+unfolding tests_line
+tests-refuses m fs = fair_closed (tests_line m fs) (fair_then (fair_module m) fair_total_tests fs)
 
-fair-power : (power : Bool) → FairReader (powerPart power)
-unfolding powerPart
-fair-power false fs = fair-got notGiven fs
-fair-power true [] = fair-got notGiven []
-fair-power true (f ∷ fs) = fair-key-given (bytes "Power") powerMax (f ∷ fs)
+fair_power : (power : Bool) → FairReader (power_part power)
+unfolding power_part
+fair_power false fs = fair_got not_given fs
+fair_power true [] = fair_got not_given []
+fair_power true (f ∷ fs) = fair_key_given (bytes "Power") power_max (f ∷ fs)
 
-fair-test-due : (m i : ℕ) → FairReader (testDue m i)
-unfolding testDue
-fair-test-due m i = fair-then (fair-module m) (fair-key-due (bytes "Test") i)
+fair_test_due : (m i : ℕ) → FairReader (test_due m i)
+unfolding test_due
+fair_test_due m i = fair_then (fair_module m) (fair_key_due (bytes "Test") i)
 
-fair-uses : (m : ℕ) → FairReader (uses m)
+fair_uses : (m : ℕ) → FairReader (uses m)
 unfolding uses
-fair-uses m =
-    fair-bind (fair-key-flag (bytes "ScanUse"))
-    (λ s. fair-bind (fair-key-flag (bytes "TamUse")) (λ t. fair-then (fair-pins (pinsRule m t)) (fair-got _)))
+fair_uses m =
+    fair_bind (fair_key_flag (bytes "ScanUse"))
+    (λ s. fair_bind (fair_key_flag (bytes "TamUse")) (λ t. fair_then (fair_pins (pins_rule m t)) (fair_got _)))
 
-fair-patterns : (power : Bool) (u : Uses) → FairReader (patternsPart power u)
-unfolding patternsPart
-fair-patterns power u = fair-bind (fair-keyed (bytes "Patterns") 1 patternsMax) (λ p. fair-bind (fair-power power) (λ w. fair-got _))
+fair_patterns : (power : Bool) (u : Uses) → FairReader (patterns_part power u)
+unfolding patterns_part
+fair_patterns power u = fair_bind (fair_keyed (bytes "Patterns") 1 patterns_max) (λ p. fair_bind (fair_power power) (λ w. fair_got _))
 
-pub test-refuses : (m i : ℕ) (power : Bool) (fs : List (List ℕ)) (c : ℕ) → whole (testLine m i power) fs ≡ refuses c → LineNumber c
-unfolding testLine
+pub test-refuses : (m i : ℕ) (power : Bool) (fs : List (List ℕ)) (c : ℕ) → whole (test_line m i power) fs ≡ refuses c → LineNumber c
+unfolding test_line
 test-refuses m i power fs =
-    fair-closed (testLine m i power fs) (fair-then (fair-test-due m i) (fair-bind (fair-uses m) (λ u. fair-patterns power u)) fs)
+    fair_closed (test_line m i power fs) (fair_then (fair_test_due m i) (fair_bind (fair_uses m) (λ u. fair_patterns power u)) fs)

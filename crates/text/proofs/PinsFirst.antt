@@ -7,15 +7,15 @@ use mathlib.Core.List.{List, ◌∷◌}
 use Rattle.fields.specs.Bytes.{bytes}
 use Rattle.fields.specs.Readers.{after}
 use Rattle.fields.specs.WrittenLines.{decimal}
-use Rattle.soc.specs.Rules.{pinsRule}
+use Rattle.soc.specs.Rules.{pins_rule}
 use Rattle.text_lines.specs.Parts.{whole, closed, refuses, pins}
-use Rattle.text_lines.specs.Kinds.{uses, testDue, testLine}
-use Rattle.text_lines.specs.LineFields.{flagField, moduleFields}
-use Rattle.text.proofs.LineBack.{word_back, due-back, flag-back}
+use Rattle.text_lines.specs.Kinds.{uses, test_due, test_line}
+use Rattle.text_lines.specs.LineFields.{flag_field, module_fields}
+use Rattle.text.proofs.LineBack.{word_back, due_back, flag_back}
 
 pub pins-first : (i : ℕ) (scan power : Bool) (behind : List (List ℕ))
-    → whole (testLine 0 i power)
-    (moduleFields 0 (bytes "Test" ∷ decimal i ∷ bytes "ScanUse" ∷ flagField scan ∷ bytes "TamUse" ∷ flagField true ∷ behind))
+    → whole (test_line 0 i power)
+    (module_fields 0 (bytes "Test" ∷ decimal i ∷ bytes "ScanUse" ∷ flag_field scan ∷ bytes "TamUse" ∷ flag_field true ∷ behind))
     ≡ refuses 17
-unfolding testLine testDue uses pins pinsRule after closed
-pins-first i scan power behind = simp (word_back, due-back, flag-back)
+unfolding test_line test_due uses pins pins_rule after closed
+pins-first i scan power behind = simp (word_back, due_back, flag_back)

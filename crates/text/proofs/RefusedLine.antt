@@ -12,42 +12,42 @@ use lib.ListN.{length}
 use Rattle.units.proofs.TestLaws.{clash}
 use Rattle.units.specs.Refusals.{refused}
 use Rattle.units.specs.declared.Refusal.{Refusal}
-use Rattle.fields.specs.Bytes.{lf, cr, lfNext, allowed, badByte}
+use Rattle.fields.specs.Bytes.{lf, cr, lf_next, allowed, bad_byte}
 use Rattle.fields.specs.Fields.{fields_of}
-use Rattle.fields.specs.Lines.{onLine, lines_of, withLine, numbered, lines_from}
+use Rattle.fields.specs.Lines.{on_line, lines_of, with_line, numbered, lines_from}
 use Rattle.fields.specs.Readers.{no, got}
 use Rattle.fields.specs.declared.byte.BadByte.{BadByte}
 use Rattle.fields.specs.declared.byte.BadByte.TheVariants.{OnLine, Nowhere}
-use Rattle.soc.specs.Limits.{textMax}
+use Rattle.soc.specs.Limits.{text_max}
 use Rattle.soc.specs.declared.record.Soc.{Soc}
 use Rattle.text_reader.specs.Lines.{LinesRead}
-use Rattle.text_reader.specs.Reading.{refusedSoc, acceptedSoc, soc, answer, unlessBad, readSoc}
+use Rattle.text_reader.specs.Reading.{refused_soc, accepted_soc, soc, answer, unless_bad, read_soc}
 use Rattle.text_reader.specs.declared.read.SocRead.{SocRead}
-use Rattle.text.specs.LineCount.{linesBehind, lineCount}
+use Rattle.text.specs.LineCount.{lines_behind, line_count}
 use Rattle.text.specs.Numbers.{NumberWithLine, TextNumber}
-use Rattle.text.proofs.Acceptance.{accepts-or-refuses}
+use Rattle.text.proofs.Acceptance.{accepts_or_refuses}
 use Rattle.text.proofs.LineRefuses.{LineNumber}
 use Rattle.text.proofs.Refused.{SameFields, none, more, Refuses, soc-refuses-so}
 
 -- a line that has begun is one, whatever byte comes next
-some : (b : ℕ) (bs : List ℕ) → 1 ≤ linesBehind true bs → (u : Bool) → 1 ≤ cond u (suc (linesBehind false bs)) (linesBehind true bs)
+some : (b : ℕ) (bs : List ℕ) → 1 ≤ lines_behind true bs → (u : Bool) → 1 ≤ cond u (suc (lines_behind false bs)) (lines_behind true bs)
 some b bs h true = omega arith
 some b bs h false = h
 
-begun-some : (t : List ℕ) → 1 ≤ linesBehind true t
-unfolding linesBehind
+begun-some : (t : List ℕ) → 1 ≤ lines_behind true t
+unfolding lines_behind
 begun-some [] = omega arith
 begun-some (b ∷ bs) = some b bs (begun-some bs) (eqb b lf)
 
 -- a bad byte stands on a line of the text
-pub bad-within : (n : ℕ) (begun : Bool) (t : List ℕ) (k : ℕ) → badByte n t ≡ OnLine k → (n ≤ k) × (k < n + linesBehind begun t)
-unfolding badByte linesBehind
-bad-within n begun [] k e = clash cc
-bad-within n begun (b ∷ bs) k e = go (allowed b bs) (eqb b lf) (λ n begun. bad-within n begun bs k) e
+pub bad_within : (n : ℕ) (begun : Bool) (t : List ℕ) (k : ℕ) → bad_byte n t ≡ OnLine k → (n ≤ k) × (k < n + lines_behind begun t)
+unfolding bad_byte lines_behind
+bad_within n begun [] k e = clash cc
+bad_within n begun (b ∷ bs) k e = go (allowed b bs) (eqb b lf) (λ n begun. bad_within n begun bs k) e
   where
-    go : (a u : Bool) → ((n : ℕ) (begun : Bool) → badByte n bs ≡ OnLine k → (n ≤ k) × (k < n + linesBehind begun bs))
-        → cond a (badByte (cond u (suc n) n) bs) (OnLine n) ≡ OnLine k
-        → (n ≤ k) × (k < n + cond u (suc (linesBehind false bs)) (linesBehind true bs))
+    go : (a u : Bool) → ((n : ℕ) (begun : Bool) → bad_byte n bs ≡ OnLine k → (n ≤ k) × (k < n + lines_behind begun bs))
+        → cond a (bad_byte (cond u (suc n) n) bs) (OnLine n) ≡ OnLine k
+        → (n ≤ k) × (k < n + cond u (suc (lines_behind false bs)) (lines_behind true bs))
     go true true f e = let i = f (suc n) false e in (omega (arith, i.0), omega (arith, i.1))
     go true false f e = f n true e
     go false u f e =
@@ -55,18 +55,18 @@ bad-within n begun (b ∷ bs) k e = go (allowed b bs) (eqb b lf) (λ n begun. ba
         (omega arith, omega (arith, some b bs (begun-some bs) u))
 
 -- there are no more lines than are counted
-pub lines-within : (begun : Bool) (t : List ℕ) → length (lines_of t) ≤ linesBehind begun t
-unfolding lines_of linesBehind onLine
+pub lines-within : (begun : Bool) (t : List ℕ) → length (lines_of t) ≤ lines_behind begun t
+unfolding lines_of lines_behind on_line
 lines-within begun [] = omega arith
-lines-within begun (b ∷ bs) = go (eqb b lf) (eqb b cr && lfNext bs) (λ begun. lines-within begun bs)
+lines-within begun (b ∷ bs) = go (eqb b lf) (eqb b cr && lf_next bs) (λ begun. lines-within begun bs)
   where
-    front : (ls : List (List ℕ)) → length ls ≤ linesBehind true bs → length (onLine b ls) ≤ linesBehind true bs
+    front : (ls : List (List ℕ)) → length ls ≤ lines_behind true bs → length (on_line b ls) ≤ lines_behind true bs
     front [] h = omega (arith, begun-some bs)
     front (l ∷ ls) h = h
 
-    go : (u v : Bool) → ((begun : Bool) → length (lines_of bs) ≤ linesBehind begun bs)
-        → length (cond u ([] ∷ lines_of bs) (cond v (lines_of bs) (onLine b (lines_of bs))))
-        ≤ cond u (suc (linesBehind false bs)) (linesBehind true bs)
+    go : (u v : Bool) → ((begun : Bool) → length (lines_of bs) ≤ lines_behind begun bs)
+        → length (cond u ([] ∷ lines_of bs) (cond v (lines_of bs) (on_line b (lines_of bs))))
+        ≤ cond u (suc (lines_behind false bs)) (lines_behind true bs)
     go true v f = omega (arith, f false)
     go false true f = f true
     go false false f = front (lines_of bs) (f true)
@@ -77,19 +77,19 @@ Between low high i j = (low ≤ i) × (i ≤ high)
 
 pub numbered_within : (low high n : ℕ) (ls : List (List ℕ)) → low ≤ n → n + length ls ≤ high + 1
     → SameFields (Between low high) (numbered n ls) (numbered n ls)
-unfolding numbered withLine
+unfolding numbered with_line
 numbered_within low high n [] h k = none
 numbered_within low high n (l ∷ ls) h k = go (fields_of l) (numbered_within low high (suc n) ls (omega arith) (omega arith))
   where
     go : (fs : List (List ℕ)) → SameFields (Between low high) (numbered (suc n) ls) (numbered (suc n) ls)
-        → SameFields (Between low high) (withLine n fs (numbered (suc n) ls)) (withLine n fs (numbered (suc n) ls))
+        → SameFields (Between low high) (with_line n fs (numbered (suc n) ls)) (with_line n fs (numbered (suc n) ls))
     go [] s = s
     go (f ∷ fs) s = more (h, omega arith) refl s
 
 -- a number and a line that go together in text t
 pub record Lined (t : List ℕ) (r : Refusal) : Type 0 where
   pub none : (r.number ≡ 1) ⊎ (r.number ≡ 6) → r.line ≡ 0
-  pub counted : NumberWithLine r.number → (1 ≤ r.line) × (r.line ≤ lineCount t)
+  pub counted : NumberWithLine r.number → (1 ≤ r.line) × (r.line ≤ line_count t)
 
 -- 0 and 1 come with no line
 pub low-none : (c : ℕ) → c ≤ 1 → NumberWithLine c → ⊥
@@ -117,63 +117,63 @@ module _ {P : ℕ → Type 0} {r : Refusal} (w : Refuses P r) where
 
 module _ (t : List ℕ) where
   abbrev Within : ℕ → Type 0
-  Within n = (1 ≤ n) × (n ≤ lineCount t)
+  Within n = (1 ≤ n) × (n ≤ line_count t)
 
-  lines-lined : (g : LinesRead Soc) → soc (lines_from 1 t 0) ≡ g → Lined t (answer g).refusal
+  lines_lined : (g : LinesRead Soc) → soc (lines_from 1 t 0) ≡ g → Lined t (answer g).refusal
   unfolding answer
-  lines-lined (got s ls) e = record { none = λ k. refl; counted = λ h. absurd (low-none 0 (omega arith) h) }
-  lines-lined (no r) e =
-      let k = numbered_within 1 (lineCount t) 1 (lines_of t) (omega arith) (omega (arith, lines-within false t)) in
+  lines_lined (got s ls) e = record { none = λ k. refl; counted = λ h. absurd (low-none 0 (omega arith) h) }
+  lines_lined (no r) e =
+      let k = numbered_within 1 (line_count t) 1 (lines_of t) (omega arith) (omega (arith, lines-within false t)) in
       let w = soc-refuses-so Within (lines_from 1 t 0) r k e in
       record { none = refuses-none w; counted = refuses-counted w }
 
-  bytes-lined : (b : BadByte) → badByte 1 t ≡ b → Lined t (unlessBad b (answer (soc (lines_from 1 t 0)))).refusal
-  unfolding unlessBad
-  bytes-lined (OnLine n) e =
-      let w = bad-within 1 false t n e in
+  bytes_lined : (b : BadByte) → bad_byte 1 t ≡ b → Lined t (unless_bad b (answer (soc (lines_from 1 t 0)))).refusal
+  unfolding unless_bad
+  bytes_lined (OnLine n) e =
+      let w = bad_within 1 false t n e in
       record { none = none_2; counted = λ h. (w.0, omega (arith, w.1)) }
     where
       none_2 : ◌⊎◌ (◌≡◌ {A = ℕ} 2 1) (◌≡◌ {A = ℕ} 2 6) → n ≡ 0
       none_2 (inl k) = absurd (omega arith)
       none_2 (inr k) = absurd (omega arith)
-  bytes-lined Nowhere e = lines-lined (soc (lines_from 1 t 0)) refl
+  bytes_lined Nowhere e = lines_lined (soc (lines_from 1 t 0)) refl
 
-  lined : Lined t (readSoc t).refusal
-  unfolding readSoc
-  lined = go (leb (length t) textMax)
+  lined : Lined t (read_soc t).refusal
+  unfolding read_soc
+  lined = go (leb (length t) text_max)
     where
       read : SocRead
-      read = unlessBad (badByte 1 t) (answer (soc (lines_from 1 t 0)))
+      read = unless_bad (bad_byte 1 t) (answer (soc (lines_from 1 t 0)))
 
-      go : (b : Bool) → Lined t (cond b read (refusedSoc (refused 1 0))).refusal
-      go true = bytes-lined (badByte 1 t) refl
+      go : (b : Bool) → Lined t (cond b read (refused_soc (refused 1 0))).refusal
+      go true = bytes_lined (bad_byte 1 t) refl
       go false = record { none = λ k. refl; counted = λ h. absurd (low-none 1 (omega arith) h) }
 
   -- "Number 1 and 6 come with line 0"
-  pub refused-line-none : ((readSoc t).refusal.number ≡ 1) ⊎ ((readSoc t).refusal.number ≡ 6) → (readSoc t).refusal.line ≡ 0
+  pub refused-line-none : ((read_soc t).refusal.number ≡ 1) ⊎ ((read_soc t).refusal.number ≡ 6) → (read_soc t).refusal.line ≡ 0
   refused-line-none = lined.none
 
   -- "2 to 5 with the line, counted from 1", and "17 with the line"
-  pub refused-line-counted : NumberWithLine (readSoc t).refusal.number
-      → (1 ≤ (readSoc t).refusal.line) × ((readSoc t).refusal.line ≤ lineCount t)
+  pub refused-line-counted : NumberWithLine (read_soc t).refusal.number
+      → (1 ≤ (read_soc t).refusal.line) × ((read_soc t).refusal.line ≤ line_count t)
   refused-line-counted = lined.counted
 
 -- a text has no more lines than bytes
-pub lines-most : (begun : Bool) (t : List ℕ) → linesBehind begun t ≤ length t + 1
-unfolding linesBehind
+pub lines-most : (begun : Bool) (t : List ℕ) → lines_behind begun t ≤ length t + 1
+unfolding lines_behind
 lines-most true [] = omega arith
 lines-most false [] = omega arith
 lines-most begun (b ∷ bs) = go (eqb b lf) (lines-most false bs) (lines-most true bs)
   where
-    go : (u : Bool) → linesBehind false bs ≤ length bs + 1 → linesBehind true bs ≤ length bs + 1
-        → cond u (suc (linesBehind false bs)) (linesBehind true bs) ≤ suc (length bs) + 1
+    go : (u : Bool) → lines_behind false bs ≤ length bs + 1 → lines_behind true bs ≤ length bs + 1
+        → cond u (suc (lines_behind false bs)) (lines_behind true bs) ≤ suc (length bs) + 1
     go true h k = omega arith
     go false h k = omega arith
 
 -- a number is 1 or 6, or has a line
-number-parts : (n : ℕ) → TextNumber n → ((n ≡ 1) ⊎ (n ≡ 6)) ⊎ NumberWithLine n
-number-parts n (inr e) = inr (inr e)
-number-parts n (inl h) = go (leb n 1) refl (leb n 5) refl
+number_parts : (n : ℕ) → TextNumber n → ((n ≡ 1) ⊎ (n ≡ 6)) ⊎ NumberWithLine n
+number_parts n (inr e) = inr (inr e)
+number_parts n (inl h) = go (leb n 1) refl (leb n 5) refl
   where
     go : (u : Bool) → leb n 1 ≡ u → (v : Bool) → leb n 5 ≡ v → ((n ≡ 1) ⊎ (n ≡ 6)) ⊎ NumberWithLine n
     go true e v f = inl (inl (omega (arith, h.0, leb-true n 1 e)))
@@ -181,37 +181,37 @@ number-parts n (inl h) = go (leb n 1) refl (leb n 5) refl
     go false e false f = inl (inr (omega (arith, h.1, leb-false n 5 f)))
 
 -- a refusal of a text that is not too long, or 1: its number and its line
-pub lined-most : (t : List ℕ) (r : Refusal) → Lined t r → TextNumber r.number → length t ≤ textMax ⊎ (r.number ≡ 1)
-    → (r.number ≤ 17) × (r.line ≤ textMax + 1)
-lined-most t r d n l = (most n, line (number-parts r.number n) l)
+pub lined_most : (t : List ℕ) (r : Refusal) → Lined t r → TextNumber r.number → length t ≤ text_max ⊎ (r.number ≡ 1)
+    → (r.number ≤ 17) × (r.line ≤ text_max + 1)
+lined_most t r d n l = (most n, line (number_parts r.number n) l)
   where
     most : TextNumber r.number → r.number ≤ 17
     most (inl h) = omega (arith, h.1)
     most (inr e) = omega arith
 
-    line : ((r.number ≡ 1) ⊎ (r.number ≡ 6)) ⊎ NumberWithLine r.number → length t ≤ textMax ⊎ (r.number ≡ 1) → r.line ≤ textMax + 1
+    line : ((r.number ≡ 1) ⊎ (r.number ≡ 6)) ⊎ NumberWithLine r.number → length t ≤ text_max ⊎ (r.number ≡ 1) → r.line ≤ text_max + 1
     line (inl h) l = omega (arith, d.none h)
     line (inr h) (inl l) = omega (arith, (d.counted h).1, lines-most false t)
     line (inr h) (inr l) = absurd (low-none r.number (omega (arith, l)) h)
 
 -- so a refusal's line is at most as many as a text may have
 module _ (t : List ℕ) where
-  long-line : length t ≤ textMax ⊎ ((readSoc t).refusal.number ≡ 1)
-  unfolding readSoc
-  long-line = go (leb (length t) textMax) refl
+  long-line : length t ≤ text_max ⊎ ((read_soc t).refusal.number ≡ 1)
+  unfolding read_soc
+  long-line = go (leb (length t) text_max) refl
     where
-      go : (b : Bool) → leb (length t) textMax ≡ b
-          → length t ≤ textMax
-          ⊎ ((cond b (unlessBad (badByte 1 t) (answer (soc (lines_from 1 t 0)))) (refusedSoc (refused 1 0))).refusal.number ≡ 1)
-      go true e = inl (leb-true (length t) textMax e)
+      go : (b : Bool) → leb (length t) text_max ≡ b
+          → length t ≤ text_max
+          ⊎ ((cond b (unless_bad (bad_byte 1 t) (answer (soc (lines_from 1 t 0)))) (refused_soc (refused 1 0))).refusal.number ≡ 1)
+      go true e = inl (leb-true (length t) text_max e)
       go false e = inr refl
 
-  pub refused-line-most : ((readSoc t).refusal.number ≤ 17) × ((readSoc t).refusal.line ≤ textMax + 1)
-  refused-line-most = go (accepts-or-refuses t)
+  pub refused-line-most : ((read_soc t).refusal.number ≤ 17) × ((read_soc t).refusal.line ≤ text_max + 1)
+  refused-line-most = go (accepts_or_refuses t)
     where
-      go : ((s : Soc) × (readSoc t ≡ acceptedSoc s)) ⊎ ((r : Refusal) × (readSoc t ≡ refusedSoc r) × TextNumber r.number)
-          → ((readSoc t).refusal.number ≤ 17) × ((readSoc t).refusal.line ≤ textMax + 1)
+      go : ((s : Soc) × (read_soc t ≡ accepted_soc s)) ⊎ ((r : Refusal) × (read_soc t ≡ refused_soc r) × TextNumber r.number)
+          → ((read_soc t).refusal.number ≤ 17) × ((read_soc t).refusal.line ≤ text_max + 1)
       go (inl (s, e)) = rw e (omega arith, omega arith)
       go (inr (r, e, k)) =
-          let n : TextNumber (readSoc t).refusal.number = subst TextNumber (ap (λ (q : SocRead). q.refusal.number) (sym e)) k in
-          lined-most t (readSoc t).refusal (lined t) n long-line
+          let n : TextNumber (read_soc t).refusal.number = subst TextNumber (ap (λ (q : SocRead). q.refusal.number) (sym e)) k in
+          lined_most t (read_soc t).refusal (lined t) n long-line

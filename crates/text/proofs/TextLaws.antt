@@ -5,31 +5,31 @@ use mathlib.Core.Bool.{true}
 use mathlib.Core.Logic.{◌↔◌}
 use mathlib.Core.List.{List}
 use lib.ListN.{length}
-use Rattle.fields.specs.Bytes.{badByte}
+use Rattle.fields.specs.Bytes.{bad_byte}
 use Rattle.fields.specs.declared.byte.BadByte.TheVariants.{Nowhere}
-use Rattle.soc.specs.Rules.{goodSoc}
+use Rattle.soc.specs.Rules.{good_soc}
 use Rattle.soc.specs.Sized.{Sized}
 use Rattle.soc.specs.declared.record.Soc.{Soc}
-use Rattle.soc.specs.Limits.{textMax}
-use Rattle.text_reader.specs.Reading.{readSoc, acceptedSoc}
-use Rattle.text_writer.specs.WrittenSoc.{writtenSoc}
+use Rattle.soc.specs.Limits.{text_max}
+use Rattle.text_reader.specs.Reading.{read_soc, accepted_soc}
+use Rattle.text_writer.specs.WrittenSoc.{written_soc}
 use Rattle.text_writer.proofs.SizeLaws.{written-short}
-use Rattle.text.specs.Describes.{Describes, fieldLines}
-use Rattle.text.proofs.Acceptance.{accepted-good, accepted-sized, accepted-describes}
+use Rattle.text.specs.Describes.{Describes, field_lines}
+use Rattle.text.proofs.Acceptance.{accepted-good, accepted-sized, accepted_describes}
 use Rattle.text.proofs.RoundTrip as back
 
 -- a good record, written and read, is that record
-pub round_trip : (s : Soc) → Sized s → goodSoc s ≡ true → readSoc (writtenSoc s) ≡ acceptedSoc s
+pub round_trip : (s : Soc) → Sized s → good_soc s ≡ true → read_soc (written_soc s) ≡ accepted_soc s
 round_trip s sized good = back.round_trip s sized good (written-short s good)
 
 -- the record of an accepted text, written and read again, is the same record
-pub rewritten : (t : List ℕ) (s : Soc) → readSoc t ≡ acceptedSoc s → readSoc (writtenSoc s) ≡ acceptedSoc s
+pub rewritten : (t : List ℕ) (s : Soc) → read_soc t ≡ accepted_soc s → read_soc (written_soc s) ≡ accepted_soc s
 rewritten t s e = round_trip s (accepted-sized t s e) (accepted-good t s e)
 
 -- a text of at most 61,440 allowed bytes is accepted with record s exactly when it describes s and s is good
-pub accepted-exactly : (t : List ℕ) (s : Soc) → Sized s → length t ≤ textMax → badByte 1 t ≡ Nowhere
-    → (readSoc t ≡ acceptedSoc s) ↔ (Describes s (fieldLines t) × (goodSoc s ≡ true))
-accepted-exactly t s sized short allowed = (
-  λ e. (accepted-describes t s e, accepted-good t s e),
-  λ d. back.describes-accepted t s sized short allowed d.0 d.1,
+pub accepted_exactly : (t : List ℕ) (s : Soc) → Sized s → length t ≤ text_max → bad_byte 1 t ≡ Nowhere
+    → (read_soc t ≡ accepted_soc s) ↔ (Describes s (field_lines t) × (good_soc s ≡ true))
+accepted_exactly t s sized short allowed = (
+  λ e. (accepted_describes t s e, accepted-good t s e),
+  λ d. back.describes_accepted t s sized short allowed d.0 d.1,
 )

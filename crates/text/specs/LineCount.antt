@@ -4,9 +4,9 @@ use Rattle.std.specs.Prelude.{ℕ, suc, Bool, true, false, cond, List, [], ◌�
 use Rattle.fields.specs.Bytes.{lf}
 
 -- the lines from a place on, where a line has begun before it or not
-unfoldable pub linesBehind : Bool → List ℕ → ℕ
-linesBehind begun [] = cond begun 1 0
-linesBehind begun (b ∷ bs) = cond (eqb b lf) (suc (linesBehind false bs)) (linesBehind true bs)
+unfoldable pub lines_behind : Bool → List ℕ → ℕ
+lines_behind begun [] = cond begun 1 0
+lines_behind begun (b ∷ bs) = cond (eqb b lf) (suc (lines_behind false bs)) (lines_behind true bs)
 
-abbrev pub lineCount : List ℕ → ℕ
-lineCount t = linesBehind false t
+abbrev pub line_count : List ℕ → ℕ
+line_count t = lines_behind false t

@@ -2,7 +2,7 @@
 -- at either end of a line count for nothing."
 use Rattle.std.specs.Prelude.{ℕ, Bool, true, false, ◌&&◌, ◌||◌, List, [], ◌∷◌, eqb}
 use Rattle.units.specs.Places.{all_of}
-use Rattle.fields.specs.Bytes.{lf, cr, lfNext}
+use Rattle.fields.specs.Bytes.{lf, cr, lf_next}
 use Rattle.fields.specs.Fields.{gap}
 
 -- "spaces or tabs"
@@ -15,12 +15,12 @@ spacing [] = false
 spacing (b ∷ bs) = gap b && spaces bs
 
 -- does a line end here: "in LF or CRLF; the last may lack its end"?
-unfoldable pub lineEnds : List ℕ → Bool
-lineEnds [] = true
-lineEnds (b ∷ bs) = eqb b lf || eqb b cr && lfNext bs
+unfoldable pub line_ends : List ℕ → Bool
+line_ends [] = true
+line_ends (b ∷ bs) = eqb b lf || eqb b cr && lf_next bs
 
 -- is CR the last byte, so that an LF behind it would end the line with it?
-unfoldable pub endsInCr : List ℕ → Bool
-endsInCr [] = false
-endsInCr (b ∷ []) = eqb b cr
-endsInCr (b ∷ c ∷ bs) = endsInCr (c ∷ bs)
+unfoldable pub ends_in_cr : List ℕ → Bool
+ends_in_cr [] = false
+ends_in_cr (b ∷ []) = eqb b cr
+ends_in_cr (b ∷ c ∷ bs) = ends_in_cr (c ∷ bs)

@@ -9,15 +9,15 @@ use Rattle.text_line_reader.specs.declared.place.Due.{Due}
 use Rattle.text_line_reader.specs.declared.place.Due.TheVariants as due
 
 -- the place with a beginning and a line's number, and the place that a line reader holds
-abbrev pub placeAt : ℕ → ℕ → Place
-placeAt a n = record { at = a; line = n }
+abbrev pub place_at : ℕ → ℕ → Place
+place_at a n = record { at = a; line = n }
 
 abbrev pub place_of : LineReader → Place
-place_of r = placeAt r.at r.line
+place_of r = place_at r.at r.line
 
 -- the lines from a place on
-abbrev pub linesAt : List ℕ → Place → List Line
-linesAt t p = lines_from p.line t p.at
+abbrev pub lines_at : List ℕ → Place → List Line
+lines_at t p = lines_from p.line t p.at
 
 -- a place lies in the text, and each line before it has a byte at least
 pub record Inside (t : List ℕ) (p : Place) : Type 0 where
@@ -29,8 +29,8 @@ pub record LineIs (t : List ℕ) (p : Place) (a e n : ℕ) (q : Place) : Type 0 
   pub begin : a ≤ e
   pub end : e ≤ length t
   pub inside : Inside t q
-  pub is : linesAt t p ≡ record { number = n; fields = fields_of (part t a e) } ∷ linesAt t q
+  pub is : lines_at t p ≡ record { number = n; fields = fields_of (part t a e) } ∷ lines_at t q
 
 abbrev pub DueIs : List ℕ → Place → Due → Type 0
 DueIs t p (due.Line a e n q) = LineIs t p a e n q
-DueIs t p due.Missing = linesAt t p ≡ []
+DueIs t p due.Missing = lines_at t p ≡ []

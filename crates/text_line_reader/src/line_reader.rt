@@ -1,7 +1,7 @@
 // The line reader: it holds the text and its place in it (document 01, "The SOC text"). Its methods are few and thin: each takes the reader
 // apart, and leaves the work to a function on a slice and numbers.
 ghost use Rattle.std.specs.Prelude.{◌≡◌};
-ghost use Rattle.text_line_reader.specs.Due.{Inside, DueIs, placeAt, place_of};
+ghost use Rattle.text_line_reader.specs.Due.{Inside, DueIs, place_at, place_of};
 
 use super::place::{Due, Place};
 use fields::NextLine;
@@ -17,8 +17,8 @@ pub struct LineReader<'a> {
 
 // The next line that is not blank, from a place on.
 fn line_from(text: &[u8], at: usize, line: usize) -> Due
-    requires { Inside text.now (placeAt at line) }
-    ensures { DueIs text.now (placeAt at line) result }
+    requires { Inside text.now (place_at at line) }
+    ensures { DueIs text.now (place_at at line) result }
 {
     match fields::next_line(text, at) {
         NextLine::End => Due::Missing,

@@ -9,9 +9,9 @@ use Rattle.units.proofs.TestLaws.{clash}
 use Rattle.fields.specs.Bytes.{bytes}
 use Rattle.fields.specs.Readers.{no, got, FieldsGot, Reader, after, give}
 use Rattle.fields.proofs.ReaderLaws.{key-between-within}
-use Rattle.soc.specs.Limits.{testsMax, positionMax}
-use Rattle.text_lines.specs.Parts.{keyGiven, rule, isNext, says, closed, whole}
-use Rattle.text_lines.specs.Kinds.{Second, moduleDue, pairRule, positionPart, totalTests, testsPart, secondPart, secondLine, testsLine}
+use Rattle.soc.specs.Limits.{tests_max, position_max}
+use Rattle.text_lines.specs.Parts.{key_given, rule, is_next, says, closed, whole}
+use Rattle.text_lines.specs.Kinds.{Second, module_due, pair_rule, position_part, total_tests, tests_part, second_part, second_line, tests_line}
 
 -- what a line says was read, and nothing is left of it
 pub closed-got : {A : Type 0} (g : FieldsGot A) (a : A) → closed g ≡ says a → g ≡ got a []
@@ -28,13 +28,13 @@ after-says k b f (no c) h = clash cc
 after-says k b f (got a fs) h = f a fs h
 
 module _ (t : ℕ) where
-  pub count-within : (fs : List (List ℕ)) → whole totalTests fs ≡ says t → t ≤ testsMax
-  unfolding totalTests
-  count-within fs h = (key-between-within (bytes "TotalTests") 0 testsMax fs t [] (closed-got _ t h)).1
+  pub count-within : (fs : List (List ℕ)) → whole total_tests fs ≡ says t → t ≤ tests_max
+  unfolding total_tests
+  count-within fs h = (key-between-within (bytes "TotalTests") 0 tests_max fs t [] (closed-got _ t h)).1
 
-  pub tests-line-within : (m : ℕ) (fs : List (List ℕ)) → whole (testsLine m) fs ≡ says t → t ≤ testsMax
-  unfolding testsLine
-  tests-line-within m fs h = after-says _ t (λ _ gs. count-within gs) (moduleDue m fs) h
+  pub tests-line-within : (m : ℕ) (fs : List (List ℕ)) → whole (tests_line m) fs ≡ says t → t ≤ tests_max
+  unfolding tests_line
+  tests-line-within m fs h = after-says _ t (λ _ gs. count-within gs) (module_due m fs) h
 
   -- a line that says a position says no number of tests
   position-given : {C : Type 0} (x y : ℤ) (fs : List (List ℕ)) → closed (got (Second.position x y) fs) ≡ says (Second.tests t) → C
@@ -42,32 +42,32 @@ module _ (t : ℕ) where
       let g : got (Second.position x y) fs ≡ got (Second.tests t) [] = closed-got _ _ h in
       clash cc
 
-  position-no-tests : {C : Type 0} (fs : List (List ℕ)) → whole positionPart fs ≡ says (Second.tests t) → C
-  unfolding positionPart
+  position-no-tests : {C : Type 0} (fs : List (List ℕ)) → whole position_part fs ≡ says (Second.tests t) → C
+  unfolding position_part
   position-no-tests fs h =
-      after-says _ _ (λ x gs. after-says _ _ (λ y hs. after-says _ _ (λ _ is. position-given x y is) (rule (pairRule x y) hs)) (keyGiven (bytes "Y") positionMax gs))
-      (keyGiven (bytes "X") positionMax fs) h
+      after-says _ _ (λ x gs. after-says _ _ (λ y hs. after-says _ _ (λ _ is. position-given x y is) (rule (pair_rule x y) hs)) (key_given (bytes "Y") position_max gs))
+      (key_given (bytes "X") position_max fs) h
 
   tests-given : (u : ℕ) (fs : List (List ℕ)) → closed (got (Second.tests u) fs) ≡ says (Second.tests t) → u ≡ t
   tests-given u fs h = let g : got (Second.tests u) fs ≡ got (Second.tests t) [] = closed-got _ _ h in cc
 
-  tests-part-within : (fs : List (List ℕ)) → whole testsPart fs ≡ says (Second.tests t) → t ≤ testsMax
-  unfolding testsPart after closed totalTests
-  tests-part-within fs h = go (totalTests fs) refl h
+  tests-part-within : (fs : List (List ℕ)) → whole tests_part fs ≡ says (Second.tests t) → t ≤ tests_max
+  unfolding tests_part after closed total_tests
+  tests-part-within fs h = go (total_tests fs) refl h
     where
-      go : (g : FieldsGot ℕ) → totalTests fs ≡ g → closed (after g (λ u. give (Second.tests u))) ≡ says (Second.tests t) → t ≤ testsMax
+      go : (g : FieldsGot ℕ) → total_tests fs ≡ g → closed (after g (λ u. give (Second.tests u))) ≡ says (Second.tests t) → t ≤ tests_max
       go (no c) e k = clash cc
-      go (got u gs) e k = omega (arith, tests-given u gs k, key-between-within (bytes "TotalTests") 0 testsMax fs u gs e)
+      go (got u gs) e k = omega (arith, tests-given u gs k, key-between-within (bytes "TotalTests") 0 tests_max fs u gs e)
 
-  second-part-within : (xy : Bool) (fs : List (List ℕ)) → whole (secondPart xy) fs ≡ says (Second.tests t) → t ≤ testsMax
-  unfolding secondPart
-  second-part-within false fs h = tests-part-within fs h
-  second-part-within true fs h = go (isNext (bytes "X") fs) h
+  second_part-within : (xy : Bool) (fs : List (List ℕ)) → whole (second_part xy) fs ≡ says (Second.tests t) → t ≤ tests_max
+  unfolding second_part
+  second_part-within false fs h = tests-part-within fs h
+  second_part-within true fs h = go (is_next (bytes "X") fs) h
     where
-      go : (n : Bool) → closed (cond n (positionPart fs) (testsPart fs)) ≡ says (Second.tests t) → t ≤ testsMax
+      go : (n : Bool) → closed (cond n (position_part fs) (tests_part fs)) ≡ says (Second.tests t) → t ≤ tests_max
       go true e = position-no-tests fs e
       go false e = tests-part-within fs e
 
-  pub second-line-within : (m : ℕ) (xy : Bool) (fs : List (List ℕ)) → whole (secondLine m xy) fs ≡ says (Second.tests t) → t ≤ testsMax
-  unfolding secondLine
-  second-line-within m xy fs h = after-says _ _ (λ _ gs. second-part-within xy gs) (moduleDue m fs) h
+  pub second_line-within : (m : ℕ) (xy : Bool) (fs : List (List ℕ)) → whole (second_line m xy) fs ≡ says (Second.tests t) → t ≤ tests_max
+  unfolding second_line
+  second_line-within m xy fs h = after-says _ _ (λ _ gs. second_part-within xy gs) (module_due m fs) h

@@ -12,16 +12,16 @@ use lib.ListN.{length, get_or, take, set}
 use lib.Seq.{take-suc, length-take-le}
 use Rattle.fields.specs.Bytes.{bytes}
 use Rattle.fields.specs.Fields.{blank}
-use Rattle.fields.specs.Names.{nameMax, nameBytes, isName}
-use Rattle.fields.specs.Readers.{FieldsGot, no, got, after, keyBetween}
+use Rattle.fields.specs.Names.{name_max, name_bytes, is_name}
+use Rattle.fields.specs.Readers.{FieldsGot, no, got, after, key_between}
 use Rattle.fields.proofs.ReaderLaws.{key-between-within}
 use Rattle.units.proofs.TestLaws.{clash, and_both}
-use Rattle.soc.specs.Limits.{modulesMax}
+use Rattle.soc.specs.Limits.{modules_max}
 use Rattle.units.specs.Places.{padded}
 use Rattle.units.proofs.PlaceLaws.{padded-set}
 use Rattle.text_lines.specs.Parts.{refuses, says, closed, whole, name}
-use Rattle.text_lines.specs.Kinds.{namePart, totalLine}
-use Rattle.text_lines.specs.LineAnswers.{nameAnswer}
+use Rattle.text_lines.specs.Kinds.{name_part, total_line}
+use Rattle.text_lines.specs.LineAnswers.{name_answer}
 use Rattle.text_lines.specs.declared.part.Verdict.TheVariants.{Taken}
 
 module _ {A : Type 0} where
@@ -54,34 +54,34 @@ module _ {A : Type 0} where
       let p : length (take i xs) < n = omega arith in
       rw (add-one, take-suc xs i d) (rw e at (padded-set n z (get_or xs i d) (take i xs) p))
 
-closed-total : (fs : List (List ℕ)) (n : ℕ) (g : FieldsGot ℕ) → keyBetween (bytes "TotalModules") 1 modulesMax fs ≡ g → closed g ≡ says n → (1 ≤ n) × (n ≤ modulesMax)
+closed-total : (fs : List (List ℕ)) (n : ℕ) (g : FieldsGot ℕ) → key_between (bytes "TotalModules") 1 modules_max fs ≡ g → closed g ≡ says n → (1 ≤ n) × (n ≤ modules_max)
 unfolding closed
 closed-total fs n (no c) e h = clash cc
-closed-total fs n (got v []) e h = let q : v ≡ n = cc in rw q at (key-between-within (bytes "TotalModules") 1 modulesMax fs v [] e)
+closed-total fs n (got v []) e h = let q : v ≡ n = cc in rw q at (key-between-within (bytes "TotalModules") 1 modules_max fs v [] e)
 closed-total fs n (got v (f ∷ gs)) e h = clash cc
 
 -- a text has from 1 to 40 modules
-pub total-within : (fs : List (List ℕ)) (n : ℕ) → whole totalLine fs ≡ says n → (1 ≤ n) × (n ≤ modulesMax)
-unfolding totalLine
-total-within fs n h = closed-total fs n (keyBetween (bytes "TotalModules") 1 modulesMax fs) refl h
+pub total-within : (fs : List (List ℕ)) (n : ℕ) → whole total_line fs ≡ says n → (1 ≤ n) × (n ≤ modules_max)
+unfolding total_line
+total-within fs n h = closed-total fs n (key_between (bytes "TotalModules") 1 modules_max fs) refl h
 
 module _ (f : List ℕ) (fs : List (List ℕ)) where
-  pub name-no : isName f ≡ false → namePart (f ∷ fs) ≡ no 3
-  unfolding namePart name after
+  pub name-no : is_name f ≡ false → name_part (f ∷ fs) ≡ no 3
+  unfolding name_part name after
   name-no h = simp h
 
-  pub name-got : isName f ≡ true → namePart (f ∷ fs) ≡ got (record { len = length f; bytes = padded nameMax 0 f }) fs
-  unfolding namePart name after
+  pub name-got : is_name f ≡ true → name_part (f ∷ fs) ≡ got (record { len = length f; bytes = padded name_max 0 f }) fs
+  unfolding name_part name after
   name-got h = simp h
 
-pub name-none : namePart [] ≡ no 3
-unfolding namePart name after
+pub name-none : name_part [] ≡ no 3
+unfolding name_part name after
 name-none = refl
 
 -- a name is not too long for its places
-pub name-short : (f : List ℕ) → isName f ≡ true → length f ≤ nameMax
-name-short f h = leb-true (length f) nameMax (and_both (leb (length f) nameMax) (nameBytes f) (and_both (leb 1 (length f)) (leb (length f) nameMax && nameBytes f) h).1).0
+pub name-short : (f : List ℕ) → is_name f ≡ true → length f ≤ name_max
+name-short f h = leb-true (length f) name_max (and_both (leb (length f) name_max) (name_bytes f) (and_both (leb 1 (length f)) (leb (length f) name_max && name_bytes f) h).1).0
 
-pub name-says : (f b : List ℕ) (n : ℕ) → length f ≡ n → b ≡ padded nameMax 0 f → nameAnswer (says (record { len = length f; bytes = padded nameMax 0 f })) ≡ record { verdict = Taken; len = n; name = b }
-unfolding nameAnswer
+pub name-says : (f b : List ℕ) (n : ℕ) → length f ≡ n → b ≡ padded name_max 0 f → name_answer (says (record { len = length f; bytes = padded name_max 0 f })) ≡ record { verdict = Taken; len = n; name = b }
+unfolding name_answer
 name-says f b n p q = rw (p, q)

@@ -13,11 +13,11 @@ use lib.Dec.{leb}
 use Rattle.fields.specs.Readers.{Got, Reads, no, got, after, between}
 use Rattle.fields.specs.Bytes.{bytes}
 use Rattle.fields.proofs.ReaderLaws.{after-no, after-got, key-between-within}
-use Rattle.soc.specs.Limits.{modulesMax, levelMax, lengthMax}
+use Rattle.soc.specs.Limits.{modules_max, level_max, length_max}
 use Rattle.units.specs.Places.{padded}
-use Rattle.soc.specs.Record.{flipFlops}
+use Rattle.soc.specs.Record.{flip_flops}
 use Rattle.text_lines.specs.Parts.{rule, says, whole}
-use Rattle.text_lines.specs.Kinds.{BlockStart, level, chainLength, blockNumber, block_line}
+use Rattle.text_lines.specs.Kinds.{BlockStart, level, chain_length, block_number, block_line}
 use Rattle.text_lines.proofs.BoundLaws.{closed-got}
 
 module _ {A : Type 0} (n : ℕ) (z : A) where
@@ -47,13 +47,13 @@ module _ {A : Type 0} (n : ℕ) (z : A) (xs : List A) (i : ℕ) (spare : drop i 
 
 -- a chain's length is a number
 module _ (fs : List (List ℕ)) where
-  pub chain-no : (c : ℕ) → between 1 lengthMax fs ≡ no c → chainLength fs ≡ no c
-  unfolding chainLength
-  chain-no c e = after-no (between 1 lengthMax fs) _ c e
+  pub chain_no : (c : ℕ) → between 1 length_max fs ≡ no c → chain_length fs ≡ no c
+  unfolding chain_length
+  chain_no c e = after-no (between 1 length_max fs) _ c e
 
-  pub chain-got : (n : ℕ) (gs : List (List ℕ)) → between 1 lengthMax fs ≡ got n gs → chainLength fs ≡ got (flipFlops n) gs
-  unfolding chainLength
-  chain-got n gs e = after-got (between 1 lengthMax fs) _ n gs e
+  pub chain_got : (n : ℕ) (gs : List (List ℕ)) → between 1 length_max fs ≡ got n gs → chain_length fs ≡ got (flip_flops n) gs
+  unfolding chain_length
+  chain_got n gs e = after-got (between 1 length_max fs) _ n gs e
 
 -- what stands behind a value that two readings gave: the first gave one, with which the second went on
 record Came {E S A B : Type 0} (g : Got E S A) (k : A → Reads E S B) (b : B) (t : S) : Type 0 where
@@ -68,14 +68,14 @@ came (no c) k b t h = clash cc
 came (got a s) k b t h = record { value = a; left = s; first = refl; behind = h }
 
 -- a level that was read is within its limit
-pub level-within : (m last : ℕ) (fs : List (List ℕ)) (v : ℕ) (gs : List (List ℕ)) → level m last fs ≡ got v gs → v ≤ levelMax
+pub level-within : (m last : ℕ) (fs : List (List ℕ)) (v : ℕ) (gs : List (List ℕ)) → level m last fs ≡ got v gs → v ≤ level_max
 unfolding level
 level-within m last fs v gs h =
     let due = came _ _ v gs h in
     let key = came _ _ v gs due.behind in
     let kept = came _ _ v gs key.behind in
     let e : key.value ≡ v = let q = kept.behind in cc in
-    rw e at (key-between-within (bytes "Level") 0 levelMax due.left key.value key.left key.first).1
+    rw e at (key-between-within (bytes "Level") 0 level_max due.left key.value key.left key.first).1
 
 -- a rule behind which reading goes on is kept
 rule-holds : (t : Bool) (fs : List (List ℕ)) (a : Unit {0}) (gs : List (List ℕ)) → rule t fs ≡ got a gs → t ≡ true
@@ -84,17 +84,17 @@ rule-holds false fs a gs h = clash cc
 rule-holds true fs a gs h = refl
 
 -- a block's number that was read ascends, and is within its limit
-pub number-within : (low : ℕ) (fs : List (List ℕ)) (m : ℕ) (gs : List (List ℕ)) → blockNumber low fs ≡ got m gs → (low ≤ m) × (m ≤ modulesMax - 1)
-unfolding blockNumber
+pub number-within : (low : ℕ) (fs : List (List ℕ)) (m : ℕ) (gs : List (List ℕ)) → block_number low fs ≡ got m gs → (low ≤ m) × (m ≤ modules_max - 1)
+unfolding block_number
 number-within low fs m gs h =
     let key = came _ _ m gs h in
     let kept = came _ _ m gs key.behind in
     let e : key.value ≡ m = let q = kept.behind in cc in
-    let b = key-between-within (bytes "Module") 0 (modulesMax - 1) fs key.value key.left key.first in
+    let b = key-between-within (bytes "Module") 0 (modules_max - 1) fs key.value key.left key.first in
     let r = leb-true low key.value (rule-holds (leb low key.value) key.left kept.value kept.left kept.first) in
     (omega (arith, r, e), omega (arith, b, e))
 
-pub start-within : (low : ℕ) (fs : List (List ℕ)) (s : BlockStart) → whole (block_line low) fs ≡ says s → (low ≤ s.number) × (s.number ≤ modulesMax - 1)
+pub start-within : (low : ℕ) (fs : List (List ℕ)) (s : BlockStart) → whole (block_line low) fs ≡ says s → (low ≤ s.number) × (s.number ≤ modules_max - 1)
 unfolding block_line
 start-within low fs s h =
     let m = came _ _ s [] (closed-got _ s h) in

@@ -13,47 +13,47 @@ use Rattle.fields.specs.Fields.{blank}
 use Rattle.fields.specs.Numbers.{cap, cut}
 use Rattle.fields.specs.Readers.{no, got}
 use Rattle.fields.specs.declared.number.Number.TheVariants.{Bad, Value}
-use Rattle.text_lines.specs.Parts.{dueIs, givenIs, rule, pins, refuses, says, closed}
+use Rattle.text_lines.specs.Parts.{due_is, given_is, rule, pins, refuses, says, closed}
 
 -- the field is no number
 module _ (n : ℕ) (fs : List (List ℕ)) where
-  pub due-bad : (o : Option ℕ) → cut o ≡ Bad → dueIs n o fs ≡ no 4
-  unfolding dueIs cut
-  due-bad none h = refl
-  due-bad (some m) h = clash cc
+  pub due_bad : (o : Option ℕ) → cut o ≡ Bad → due_is n o fs ≡ no 4
+  unfolding due_is cut
+  due_bad none h = refl
+  due_bad (some m) h = clash cc
 
-  pub given-bad : (o : Option ℕ) → cut o ≡ Bad → givenIs n o fs ≡ no 4
-  unfolding givenIs cut
-  given-bad none h = refl
-  given-bad (some m) h = clash cc
+  pub given_bad : (o : Option ℕ) → cut o ≡ Bad → given_is n o fs ≡ no 4
+  unfolding given_is cut
+  given_bad none h = refl
+  given_bad (some m) h = clash cc
 
 -- the field is the number v, or where v is the cap, some number from there on
 module _ (n v : ℕ) (fs : List (List ℕ)) where
-  pub due-got : (o : Option ℕ) → cut o ≡ Value v → v ≡ n → n < cap → dueIs n o fs ≡ got tt fs
-  unfolding dueIs cut
+  pub due-got : (o : Option ℕ) → cut o ≡ Value v → v ≡ n → n < cap → due_is n o fs ≡ got tt fs
+  unfolding due_is cut
   due-got none h k l = clash cc
   due-got (some m) h k l =
       let q : min m cap ≡ v = cc in
       let e : m ≡ n = omega arith in
       simp (eq-eqb m n e)
 
-  pub due-other : (o : Option ℕ) → cut o ≡ Value v → (v ≡ n → ⊥) → n < cap → dueIs n o fs ≡ no 5
-  unfolding dueIs cut
-  due-other none h k l = clash cc
-  due-other (some m) h k l =
+  pub due_other : (o : Option ℕ) → cut o ≡ Value v → (v ≡ n → ⊥) → n < cap → due_is n o fs ≡ no 5
+  unfolding due_is cut
+  due_other none h k l = clash cc
+  due_other (some m) h k l =
       let q : min m cap ≡ v = cc in
       simp (ne_eqb m n (λ e. k (omega arith)))
 
-  pub given-got : (o : Option ℕ) → cut o ≡ Value v → v ≤ n → n < cap → givenIs n o fs ≡ got (pos v) fs
-  unfolding givenIs cut
+  pub given-got : (o : Option ℕ) → cut o ≡ Value v → v ≤ n → n < cap → given_is n o fs ≡ got (pos v) fs
+  unfolding given_is cut
   given-got none h k l = clash cc
   given-got (some m) h k l =
       let q : min m cap ≡ v = cc in
       let e : m ≡ v = omega arith in
       simp (e, le-leb v n k)
 
-  pub given_above : (o : Option ℕ) → cut o ≡ Value v → n < v → givenIs n o fs ≡ no 4
-  unfolding givenIs cut
+  pub given_above : (o : Option ℕ) → cut o ≡ Value v → n < v → given_is n o fs ≡ no 4
+  unfolding given_is cut
   given_above none h k = clash cc
   given_above (some m) h k =
       let q : min m cap ≡ v = cc in
@@ -61,17 +61,17 @@ module _ (n v : ℕ) (fs : List (List ℕ)) where
       simp (lt-leb m n b)
 
 module _ (t : Bool) (fs : List (List ℕ)) where
-  pub rule-broken : t ≡ false → rule t fs ≡ no 5
+  pub rule_broken : t ≡ false → rule t fs ≡ no 5
   unfolding rule
-  rule-broken e = rw e
+  rule_broken e = rw e
 
   pub rule-kept : t ≡ true → rule t fs ≡ got tt fs
   unfolding rule
   rule-kept e = rw e
 
-  pub pins-broken : t ≡ false → pins t fs ≡ no 17
+  pub pins_broken : t ≡ false → pins t fs ≡ no 17
   unfolding pins
-  pins-broken e = rw e
+  pins_broken e = rw e
 
   pub pins-kept : t ≡ true → pins t fs ≡ got tt fs
   unfolding pins

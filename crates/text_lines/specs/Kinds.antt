@@ -2,74 +2,74 @@
 use Rattle.std.specs.Prelude.{ℕ, ◌-◌, Bool, true, false, cond, not, List, [], ◌∷◌, length, leb, ℤ}
 use Rattle.units.specs.declared.FlipFlops.{FlipFlops}
 use Rattle.fields.specs.Bytes.{bytes}
-use Rattle.fields.specs.Names.{nameMax}
-use Rattle.fields.specs.Readers.{Reader, got, ◌>>=◌, ◌>>◌, give, each, word, bytesDue, between}
-use Rattle.soc.specs.Limits.{modulesMax, levelMax, terminalsMax, chainsMax, lengthMax, testsMax, patternsMax, positionMax, powerMax}
+use Rattle.fields.specs.Names.{name_max}
+use Rattle.fields.specs.Readers.{Reader, got, ◌>>=◌, ◌>>◌, give, each, word, bytes_due, between}
+use Rattle.soc.specs.Limits.{modules_max, level_max, terminals_max, chains_max, length_max, tests_max, patterns_max, position_max, power_max}
 use Rattle.units.specs.Places.{padded}
-use Rattle.soc.specs.Record.{flipFlops, notGiven}
-use Rattle.soc.specs.Rules.{levelRule, pinsRule, isNotGiven}
+use Rattle.soc.specs.Record.{flip_flops, not_given}
+use Rattle.soc.specs.Rules.{level_rule, pins_rule, is_not_given}
 use Rattle.soc.specs.declared.record.Test.{Test}
-use Rattle.text_lines.specs.Parts.{keyed, keyDue, keyFlag, keyGiven, name, rule, pins, isNext}
+use Rattle.text_lines.specs.Parts.{keyed, key_due, key_flag, key_given, name, rule, pins, is_next}
 
 -- "`SocName` name"
 pub record Name : Type 0 where
   pub len : ℕ
   pub bytes : List ℕ
 
-unfoldable pub namePart : Reader Name
-namePart = do
+unfoldable pub name_part : Reader Name
+name_part = do
   f ← name
-  give (record { len = length f; bytes = padded nameMax 0 f })
+  give (record { len = length f; bytes = padded name_max 0 f })
 
 -- the keyword w, and then a name
-abbrev pub keyName : List ℕ → Reader Name
-keyName w = bytesDue w >> namePart
+abbrev pub key_name : List ℕ → Reader Name
+key_name w = bytes_due w >> name_part
 
-unfoldable pub nameLine : Reader Name
-nameLine = do
+unfoldable pub name_line : Reader Name
+name_line = do
   word "SocName"
-  namePart
+  name_part
 
 -- "An overlay is a text: `Overlay` and the SOC's name"
-unfoldable pub overlayLine : Reader Name
-overlayLine = do
+unfoldable pub overlay_line : Reader Name
+overlay_line = do
   word "Overlay"
-  namePart
+  name_part
 
 -- "`TotalModules` n, 1 to 40"
-unfoldable pub totalLine : Reader ℕ
-totalLine = keyed "TotalModules" 1 modulesMax
+unfoldable pub total_line : Reader ℕ
+total_line = keyed "TotalModules" 1 modules_max
 
 -- "`Options Power` 0/1 `XY` 0/1"
 pub record Options : Type 0 where
   pub power : Bool
   pub xy : Bool
 
-unfoldable pub optionsPart : Reader Options
-optionsPart = do
-  p ← keyFlag (bytes "Power")
-  x ← keyFlag (bytes "XY")
+unfoldable pub options_part : Reader Options
+options_part = do
+  p ← key_flag (bytes "Power")
+  x ← key_flag (bytes "XY")
   give (record { power = p; xy = x })
 
-unfoldable pub optionsLine : Reader Options
-optionsLine = do
+unfoldable pub options_line : Reader Options
+options_line = do
   word "Options"
-  optionsPart
+  options_part
 
 -- "`Module` m", with which each line of module m begins
-abbrev pub moduleDue : ℕ → Reader (Unit {0})
-moduleDue m = keyDue (bytes "Module") m
+abbrev pub module_due : ℕ → Reader (Unit {0})
+module_due m = key_due (bytes "Module") m
 
 -- "`Level` v"
-abbrev pub levelKey : Reader ℕ
-levelKey = keyed "Level" 0 levelMax
+abbrev pub level_key : Reader ℕ
+level_key = keyed "Level" 0 level_max
 
 -- "`Module` m `Level` v", where the previous module has level last
 unfoldable pub level : ℕ → ℕ → Reader ℕ
 level m last = do
-  moduleDue m
-  v ← levelKey
-  rule (levelRule m last v)
+  module_due m
+  v ← level_key
+  rule (level_rule m last v)
   give v
 
 -- "`Inputs` n `Outputs` n `Bidirs` n"
@@ -80,16 +80,16 @@ pub record Terminals : Type 0 where
 
 unfoldable pub terminals : Reader Terminals
 terminals = do
-  i ← keyed "Inputs" 0 terminalsMax
-  o ← keyed "Outputs" 0 terminalsMax
-  b ← keyed "Bidirs" 0 terminalsMax
+  i ← keyed "Inputs" 0 terminals_max
+  o ← keyed "Outputs" 0 terminals_max
+  b ← keyed "Bidirs" 0 terminals_max
   give (record { inputs = i; outputs = o; bidirs = b })
 
 -- "lengths 1 to 4,096"
-unfoldable pub chainLength : Reader FlipFlops
-chainLength = do
-  n ← between 1 lengthMax
-  give (flipFlops n)
+unfoldable pub chain_length : Reader FlipFlops
+chain_length = do
+  n ← between 1 length_max
+  give (flip_flops n)
 
 -- how many there are, and the places for them
 pub record Chains : Type 0 where
@@ -103,27 +103,27 @@ pub record Shape : Type 0 where
   pub chains : Chains
 
 -- "`ScanChains` s `:` then s lengths"
-unfoldable pub lengthsPart : ℕ → ℕ → Terminals → Reader Shape
-lengthsPart s v t = do
-  fs ← each s (λ _. chainLength) 0
-  give (record { level = v; terminals = t; chains = record { count = s; lengths = padded chainsMax (flipFlops 0) fs } })
+unfoldable pub lengths_part : ℕ → ℕ → Terminals → Reader Shape
+lengths_part s v t = do
+  fs ← each s (λ _. chain_length) 0
+  give (record { level = v; terminals = t; chains = record { count = s; lengths = padded chains_max (flip_flops 0) fs } })
 
-unfoldable pub chainsPart : ℕ → Terminals → Reader Shape
-chainsPart v t = do
-  s ← keyed "ScanChains" 0 chainsMax
+unfoldable pub chains_part : ℕ → Terminals → Reader Shape
+chains_part v t = do
+  s ← keyed "ScanChains" 0 chains_max
   word ":"
-  lengthsPart s v t
+  lengths_part s v t
 
 -- a module's first line behind its level
-abbrev pub shapePart : ℕ → Reader Shape
-shapePart v = do
+abbrev pub shape_part : ℕ → Reader Shape
+shape_part v = do
   t ← terminals
-  chainsPart v t
+  chains_part v t
 
-unfoldable pub levelLine : ℕ → ℕ → Reader Shape
-levelLine m last = do
+unfoldable pub level_line : ℕ → ℕ → Reader Shape
+level_line m last = do
   v ← level m last
-  shapePart v
+  shape_part v
 
 -- a block of an overlay by its first line: the module's number, and the rest of the line
 pub record BlockStart : Type 0 where
@@ -131,69 +131,69 @@ pub record BlockStart : Type 0 where
   pub shape : Shape
 
 -- "5 when module numbers don't ascend; a block's number over 39 is 4": a number from low on
-unfoldable pub blockNumber : ℕ → Reader ℕ
-blockNumber low = do
-  m ← keyed "Module" 0 (modulesMax - 1)
+unfoldable pub block_number : ℕ → Reader ℕ
+block_number low = do
+  m ← keyed "Module" 0 (modules_max - 1)
   rule (leb low m)
   give m
 
 -- "no level rule is tested there"
-unfoldable pub blockShape : Reader Shape
-blockShape = do
-  v ← levelKey
-  shapePart v
+unfoldable pub block_shape : Reader Shape
+block_shape = do
+  v ← level_key
+  shape_part v
 
 unfoldable pub block_line : ℕ → Reader BlockStart
 block_line low = do
-  m ← blockNumber low
-  s ← blockShape
+  m ← block_number low
+  s ← block_shape
   give (record { number = m; shape = s })
 
 -- "X and Y are both -1 or neither"
-abbrev pub pairRule : ℤ → ℤ → Bool
-pairRule x y = cond (isNotGiven x) (isNotGiven y) (not (isNotGiven y))
+abbrev pub pair_rule : ℤ → ℤ → Bool
+pair_rule x y = cond (is_not_given x) (is_not_given y) (not (is_not_given y))
 
 -- the line behind it: "`X` x `Y` y", or "`TotalTests` t"
 pub data Second : Type 0 where
   position : ℤ → ℤ → Second
   tests : ℕ → Second
 
-unfoldable pub positionPart : Reader Second
-positionPart = do
-  x ← keyGiven (bytes "X") positionMax
-  y ← keyGiven (bytes "Y") positionMax
-  rule (pairRule x y)
+unfoldable pub position_part : Reader Second
+position_part = do
+  x ← key_given (bytes "X") position_max
+  y ← key_given (bytes "Y") position_max
+  rule (pair_rule x y)
   give (position x y)
 
-unfoldable pub totalTests : Reader ℕ
-totalTests = keyed "TotalTests" 0 testsMax
+unfoldable pub total_tests : Reader ℕ
+total_tests = keyed "TotalTests" 0 tests_max
 
-unfoldable pub testsPart : Reader Second
-testsPart = do
-  t ← totalTests
+unfoldable pub tests_part : Reader Second
+tests_part = do
+  t ← total_tests
   give (tests t)
 
 -- "with XY 1, optionally `Module` m `X` x `Y` y": what stands behind the module's number decides
-unfoldable pub secondPart : Bool → Reader Second
-secondPart false fs = testsPart fs
-secondPart true fs = cond (isNext (bytes "X") fs) (positionPart fs) (testsPart fs)
+unfoldable pub second_part : Bool → Reader Second
+second_part false fs = tests_part fs
+second_part true fs = cond (is_next (bytes "X") fs) (position_part fs) (tests_part fs)
 
-unfoldable pub secondLine : ℕ → Bool → Reader Second
-secondLine m xy = do
-  moduleDue m
-  secondPart xy
+unfoldable pub second_line : ℕ → Bool → Reader Second
+second_line m xy = do
+  module_due m
+  second_part xy
 
 -- "`Module` m `TotalTests` t", behind a position
-unfoldable pub testsLine : ℕ → Reader ℕ
-testsLine m = do
-  moduleDue m
-  totalTests
+unfoldable pub tests_line : ℕ → Reader ℕ
+tests_line m = do
+  module_due m
+  total_tests
 
 -- "with Power 1 optionally `Power` w"
-unfoldable pub powerPart : Bool → Reader ℤ
-powerPart false fs = got notGiven fs
-powerPart true [] = got notGiven []
-powerPart true (f ∷ fs) = keyGiven (bytes "Power") powerMax (f ∷ fs)
+unfoldable pub power_part : Bool → Reader ℤ
+power_part false fs = got not_given fs
+power_part true [] = got not_given []
+power_part true (f ∷ fs) = key_given (bytes "Power") power_max (f ∷ fs)
 
 -- "`ScanUse` 0/1 `TamUse` 0/1"
 pub record Uses : Type 0 where
@@ -203,26 +203,26 @@ pub record Uses : Type 0 where
 -- of a test of module m: "17 .. once TamUse has passed 3 on that line and before Patterns is looked at"
 unfoldable pub uses : ℕ → Reader Uses
 uses m = do
-  s ← keyFlag (bytes "ScanUse")
-  t ← keyFlag (bytes "TamUse")
-  pins (pinsRule m t)
+  s ← key_flag (bytes "ScanUse")
+  t ← key_flag (bytes "TamUse")
+  pins (pins_rule m t)
   give (record { scan = s; tam = t })
 
 -- "`Module` m `Test` i"
-unfoldable pub testDue : ℕ → ℕ → Reader (Unit {0})
-testDue m i = do
-  moduleDue m
-  keyDue (bytes "Test") i
+unfoldable pub test_due : ℕ → ℕ → Reader (Unit {0})
+test_due m i = do
+  module_due m
+  key_due (bytes "Test") i
 
 -- "`Module` m `Test` i `ScanUse` 0/1 `TamUse` 0/1 `Patterns` p, and with Power 1 optionally `Power` w"
-unfoldable pub patternsPart : Bool → Uses → Reader Test
-patternsPart power u = do
-  p ← keyed "Patterns" 1 patternsMax
-  w ← powerPart power
+unfoldable pub patterns_part : Bool → Uses → Reader Test
+patterns_part power u = do
+  p ← keyed "Patterns" 1 patterns_max
+  w ← power_part power
   give (record { scan_use = u.scan; tam_use = u.tam; patterns = p; power = w })
 
-unfoldable pub testLine : ℕ → ℕ → Bool → Reader Test
-testLine m i power = do
-  testDue m i
+unfoldable pub test_line : ℕ → ℕ → Bool → Reader Test
+test_line m i power = do
+  test_due m i
   u ← uses m
-  patternsPart power u
+  patterns_part power u

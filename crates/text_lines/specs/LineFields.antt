@@ -3,44 +3,44 @@ use Rattle.std.specs.Prelude.{ℕ, Bool, true, false, List, [], ◌∷◌, map, 
 use Rattle.units.specs.declared.FlipFlops.{FlipFlops}
 use Rattle.fields.specs.Bytes.{bytes}
 use Rattle.fields.specs.WrittenLines.{decimal}
-use Rattle.soc.specs.Record.{name_of, chainsOf}
+use Rattle.soc.specs.Record.{name_of, chains_of}
 use Rattle.soc.specs.declared.record.Test.{Test}
 use Rattle.soc.specs.declared.record.Module.{Module}
 use Rattle.soc.specs.declared.record.Soc.{Soc}
 
 -- "0/1"
-unfoldable pub flagField : Bool → List ℕ
-flagField false = bytes "0"
-flagField true = bytes "1"
+unfoldable pub flag_field : Bool → List ℕ
+flag_field false = bytes "0"
+flag_field true = bytes "1"
 
 -- X, Y or Power: "-1 when not given"
-unfoldable pub givenField : ℤ → List ℕ
-givenField (pos n) = decimal n
-givenField (negsuc n) = bytes "-1"
+unfoldable pub given_field : ℤ → List ℕ
+given_field (pos n) = decimal n
+given_field (negsuc n) = bytes "-1"
 
-unfoldable pub lengthField : FlipFlops → List ℕ
-lengthField f = decimal f.0
+unfoldable pub length_field : FlipFlops → List ℕ
+length_field f = decimal f.0
 
 -- "`SocName` name"
-unfoldable pub nameFields : Soc → List (List ℕ)
-nameFields s = bytes "SocName" ∷ name_of s ∷ []
+unfoldable pub name_fields : Soc → List (List ℕ)
+name_fields s = bytes "SocName" ∷ name_of s ∷ []
 
 -- "`TotalModules` n"
-unfoldable pub totalFields : Soc → List (List ℕ)
-totalFields s = bytes "TotalModules" ∷ decimal s.module_count ∷ []
+unfoldable pub total_fields : Soc → List (List ℕ)
+total_fields s = bytes "TotalModules" ∷ decimal s.module_count ∷ []
 
 -- "`Options Power` 0/1 `XY` 0/1"
-unfoldable pub optionsFields : Soc → List (List ℕ)
-optionsFields s = bytes "Options" ∷ bytes "Power" ∷ flagField s.power ∷ bytes "XY" ∷ flagField s.xy ∷ []
+unfoldable pub options_fields : Soc → List (List ℕ)
+options_fields s = bytes "Options" ∷ bytes "Power" ∷ flag_field s.power ∷ bytes "XY" ∷ flag_field s.xy ∷ []
 
 -- "`Module` m", and what stands behind it
-abbrev pub moduleFields : ℕ → List (List ℕ) → List (List ℕ)
-moduleFields m fs = bytes "Module" ∷ decimal m ∷ fs
+abbrev pub module_fields : ℕ → List (List ℕ) → List (List ℕ)
+module_fields m fs = bytes "Module" ∷ decimal m ∷ fs
 
 -- "`Level` v `Inputs` n `Outputs` n `Bidirs` n `ScanChains` s `:` then s lengths"
-unfoldable pub levelFields : ℕ → Module → List (List ℕ)
-levelFields m d =
-    moduleFields m
+unfoldable pub level_fields : ℕ → Module → List (List ℕ)
+level_fields m d =
+    module_fields m
     (bytes "Level"
     ∷ decimal d.level
     ∷ bytes "Inputs"
@@ -52,30 +52,30 @@ levelFields m d =
     ∷ bytes "ScanChains"
     ∷ decimal d.chain_count
     ∷ bytes ":"
-    ∷ map lengthField (chainsOf d))
+    ∷ map length_field (chains_of d))
 
 -- "`X` x `Y` y"
-unfoldable pub positionFields : ℕ → Module → List (List ℕ)
-positionFields m d = moduleFields m (bytes "X" ∷ givenField d.x ∷ bytes "Y" ∷ givenField d.y ∷ [])
+unfoldable pub position_fields : ℕ → Module → List (List ℕ)
+position_fields m d = module_fields m (bytes "X" ∷ given_field d.x ∷ bytes "Y" ∷ given_field d.y ∷ [])
 
 -- "`TotalTests` t"
-unfoldable pub testsFields : ℕ → Module → List (List ℕ)
-testsFields m d = moduleFields m (bytes "TotalTests" ∷ decimal d.test_count ∷ [])
+unfoldable pub tests_fields : ℕ → Module → List (List ℕ)
+tests_fields m d = module_fields m (bytes "TotalTests" ∷ decimal d.test_count ∷ [])
 
 -- "`Power` w"
-unfoldable pub powerFields : Test → List (List ℕ)
-powerFields t = bytes "Power" ∷ givenField t.power ∷ []
+unfoldable pub power_fields : Test → List (List ℕ)
+power_fields t = bytes "Power" ∷ given_field t.power ∷ []
 
 -- "`Test` i `ScanUse` 0/1 `TamUse` 0/1 `Patterns` p", and what stands behind it
-unfoldable pub testFields : ℕ → ℕ → Test → List (List ℕ) → List (List ℕ)
-testFields m i t fs =
-    moduleFields m
+unfoldable pub test_fields : ℕ → ℕ → Test → List (List ℕ) → List (List ℕ)
+test_fields m i t fs =
+    module_fields m
     (bytes "Test"
     ∷ decimal i
     ∷ bytes "ScanUse"
-    ∷ flagField t.scan_use
+    ∷ flag_field t.scan_use
     ∷ bytes "TamUse"
-    ∷ flagField t.tam_use
+    ∷ flag_field t.tam_use
     ∷ bytes "Patterns"
     ∷ decimal t.patterns
     ∷ fs)

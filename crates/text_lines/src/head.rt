@@ -1,11 +1,11 @@
 // The first three lines of a SOC text: its name, how many modules it has, its options.
 ghost use Rattle.std.specs.Prelude.{◌≡◌, ◌≤◌, ◌∷◌, length, drop};
 ghost use Rattle.fields.specs.Fields.{fields_of, part};
-ghost use Rattle.fields.specs.Names.{nameMax};
+ghost use Rattle.fields.specs.Names.{name_max};
 ghost use Rattle.units.specs.Places.{padded};
 ghost use Rattle.text_lines.specs.Parts.{refuses, whole};
-ghost use Rattle.text_lines.specs.Kinds.{namePart, keyName, nameLine, totalLine, optionsPart, optionsLine};
-ghost use Rattle.text_lines.specs.LineAnswers.{nameAnswer, countAnswer, optionsAnswer};
+ghost use Rattle.text_lines.specs.Kinds.{name_part, key_name, name_line, total_line, options_part, options_line};
+ghost use Rattle.text_lines.specs.LineAnswers.{name_answer, count_answer, options_answer};
 
 use super::part::{Flag, Verdict};
 use fields::{Figure, NAME_MAX, Next, Past};
@@ -30,7 +30,7 @@ pub enum OptionsLine {
 }
 
 fn no_name(c: u8) -> NameLine
-    ensures { result ≡ nameAnswer (refuses c) }
+    ensures { result ≡ name_answer (refuses c) }
 {
     NameLine {
         verdict: Verdict::Refused(c),
@@ -41,8 +41,8 @@ fn no_name(c: u8) -> NameLine
 
 // A name at the front of the places for one.
 fn placed_name(f: &[u8]) -> [u8; NAME_MAX]
-    requires { length f.now ≤ nameMax }
-    ensures { result ≡ padded nameMax 0 f.now }
+    requires { length f.now ≤ name_max }
+    ensures { result ≡ padded name_max 0 f.now }
 {
     let mut name = [0u8; NAME_MAX];
     let mut i: usize = 0;
@@ -56,7 +56,7 @@ fn placed_name(f: &[u8]) -> [u8; NAME_MAX]
 // A line whose field from a to e is due to be a name.
 fn name_at(l: &[u8], a: usize, e: usize) -> NameLine
     requires { (a ≤ e) × (e ≤ length l.now) }
-    ensures { result ≡ nameAnswer (whole namePart (part l.now a e ∷ fields_of (drop e l.now))) }
+    ensures { result ≡ name_answer (whole name_part (part l.now a e ∷ fields_of (drop e l.now))) }
 {
     if !fields::is_name(&l[a..e]) {
         return no_name(3);
@@ -73,7 +73,7 @@ fn name_at(l: &[u8], a: usize, e: usize) -> NameLine
 
 // The keyword w, and then a name.
 pub fn key_name(l: &[u8], w: &[u8]) -> NameLine
-    ensures { result ≡ nameAnswer (whole (keyName w.now) (fields_of l.now)) }
+    ensures { result ≡ name_answer (whole (key_name w.now) (fields_of l.now)) }
 {
     match fields::past_word(l, 0, w) {
         Past::No(c) => no_name(c),
@@ -86,14 +86,14 @@ pub fn key_name(l: &[u8], w: &[u8]) -> NameLine
 
 // `SocName` name.
 pub fn name_line(l: &[u8]) -> NameLine
-    ensures { result ≡ nameAnswer (whole nameLine (fields_of l.now)) }
+    ensures { result ≡ name_answer (whole name_line (fields_of l.now)) }
 {
     key_name(l, b"SocName")
 }
 
 // `TotalModules` n.
 pub fn total_line(l: &[u8]) -> Count
-    ensures { result ≡ countAnswer (whole totalLine (fields_of l.now)) }
+    ensures { result ≡ count_answer (whole total_line (fields_of l.now)) }
 {
     match fields::key_figure(l, 0, b"TotalModules", 1, soc::MODULES_MAX as u32) {
         Figure::No(c) => Count::No(c),
@@ -109,7 +109,7 @@ pub fn total_line(l: &[u8]) -> Count
 
 // The options from a place on, to the line's end.
 fn options_at(l: &[u8], at: usize) -> OptionsLine
-    ensures { result ≡ optionsAnswer (whole optionsPart (fields_of (drop at l.now))) }
+    ensures { result ≡ options_answer (whole options_part (fields_of (drop at l.now))) }
 {
     match super::part::key_flag(l, at, b"Power") {
         Flag::No(c) => OptionsLine::No(c),
@@ -128,7 +128,7 @@ fn options_at(l: &[u8], at: usize) -> OptionsLine
 
 // `Options Power` 0/1 `XY` 0/1.
 pub fn options_line(l: &[u8]) -> OptionsLine
-    ensures { result ≡ optionsAnswer (whole optionsLine (fields_of l.now)) }
+    ensures { result ≡ options_answer (whole options_line (fields_of l.now)) }
 {
     match fields::past_word(l, 0, b"Options") {
         Past::No(c) => OptionsLine::No(c),

@@ -1,11 +1,11 @@
 // The first line of a module: its number, its level, its terminals and its chains.
 ghost use Rattle.std.specs.Prelude.{◌≡◌, ◌≤◌, drop};
 ghost use Rattle.fields.specs.Fields.{fields_of};
-ghost use Rattle.fields.specs.Readers.{each, figureIs};
+ghost use Rattle.fields.specs.Readers.{each, figure_is};
 ghost use Rattle.text_lines.specs.Parts.{refuses, whole};
-ghost use Rattle.text_lines.specs.Kinds.{level, terminals, chainLength, chainsPart, lengthsPart, shapePart, levelLine};
-ghost use Rattle.soc.specs.Limits.{chainsMax};
-ghost use Rattle.text_lines.specs.LineAnswers.{levelAnswer, termsIs, lengthsIs, SpareBehind};
+ghost use Rattle.text_lines.specs.Kinds.{level, terminals, chain_length, chains_part, lengths_part, shape_part, level_line};
+ghost use Rattle.soc.specs.Limits.{chains_max};
+ghost use Rattle.text_lines.specs.LineAnswers.{level_answer, terms_is, lengths_is, SpareBehind};
 
 use super::part::Verdict;
 use fields::{Figure, Past};
@@ -37,7 +37,7 @@ pub struct Lengths {
 
 // A line that is refused.
 pub fn no_level(c: u8) -> LevelLine
-    ensures { result ≡ levelAnswer (refuses c) }
+    ensures { result ≡ level_answer (refuses c) }
 {
     LevelLine {
         verdict: Verdict::Refused(c),
@@ -52,7 +52,7 @@ pub fn no_level(c: u8) -> LevelLine
 
 // `Module` m `Level` v.
 fn level_part(l: &[u8], m: u32, last: u32) -> Figure
-    ensures { figureIs l.now result ≡ level m last (fields_of l.now) }
+    ensures { figure_is l.now result ≡ level m last (fields_of l.now) }
 {
     match super::part::key_due(l, 0, b"Module", m) {
         Past::No(c) => Figure::No(c),
@@ -71,7 +71,7 @@ fn level_part(l: &[u8], m: u32, last: u32) -> Figure
 
 // `Inputs` n `Outputs` n `Bidirs` n.
 fn terminals_at(l: &[u8], at: usize) -> Terms
-    ensures { termsIs l.now result ≡ terminals (fields_of (drop at l.now)) }
+    ensures { terms_is l.now result ≡ terminals (fields_of (drop at l.now)) }
 {
     match fields::key_figure(l, at, b"Inputs", 0, TERMINALS_MAX) {
         Figure::No(c) => Terms::No(c),
@@ -87,8 +87,8 @@ fn terminals_at(l: &[u8], at: usize) -> Terms
 
 // n lengths, at the front of the places for chains.
 fn lengths_at(l: &[u8], from: usize, n: usize) -> Lengths
-    requires { n ≤ chainsMax }
-    ensures { (lengthsIs l.now n result ≡ each n (λ _. chainLength) 0 (fields_of (drop from l.now))) × SpareBehind n result }
+    requires { n ≤ chains_max }
+    ensures { (lengths_is l.now n result ≡ each n (λ _. chain_length) 0 (fields_of (drop from l.now))) × SpareBehind n result }
 {
     let mut chains = [FlipFlops(0); CHAINS_MAX];
     let mut at = from;
@@ -116,8 +116,8 @@ fn lengths_at(l: &[u8], from: usize, n: usize) -> Lengths
 
 // The s lengths from a place on, to the line's end; v is the module's level, and i, o and b are its terminals.
 fn lengths_to_end(l: &[u8], at: usize, s: usize, v: u32, i: u32, o: u32, b: u32) -> LevelLine
-    requires { s ≤ chainsMax }
-    ensures { result ≡ levelAnswer (whole (lengthsPart s v (record { inputs = i; outputs = o; bidirs = b })) (fields_of (drop at l.now))) }
+    requires { s ≤ chains_max }
+    ensures { result ≡ level_answer (whole (lengths_part s v (record { inputs = i; outputs = o; bidirs = b })) (fields_of (drop at l.now))) }
 {
     let read = lengths_at(l, at, s);
     let past = read.past;
@@ -143,7 +143,7 @@ fn lengths_to_end(l: &[u8], at: usize, s: usize, v: u32, i: u32, o: u32, b: u32)
 
 // `ScanChains` s `:` then s lengths, to the line's end.
 fn chains_to_end(l: &[u8], at: usize, v: u32, i: u32, o: u32, b: u32) -> LevelLine
-    ensures { result ≡ levelAnswer (whole (chainsPart v (record { inputs = i; outputs = o; bidirs = b })) (fields_of (drop at l.now))) }
+    ensures { result ≡ level_answer (whole (chains_part v (record { inputs = i; outputs = o; bidirs = b })) (fields_of (drop at l.now))) }
 {
     match fields::key_figure(l, at, b"ScanChains", 0, CHAINS_MAX as u32) {
         Figure::No(c) => no_level(c),
@@ -156,7 +156,7 @@ fn chains_to_end(l: &[u8], at: usize, v: u32, i: u32, o: u32, b: u32) -> LevelLi
 
 // A module's first line behind its level v, to the line's end.
 pub fn shape_to_end(l: &[u8], at: usize, v: u32) -> LevelLine
-    ensures { result ≡ levelAnswer (whole (shapePart v) (fields_of (drop at l.now))) }
+    ensures { result ≡ level_answer (whole (shape_part v) (fields_of (drop at l.now))) }
 {
     match terminals_at(l, at) {
         Terms::No(c) => no_level(c),
@@ -166,7 +166,7 @@ pub fn shape_to_end(l: &[u8], at: usize, v: u32) -> LevelLine
 
 // The line of module m, where the previous module has level last.
 pub fn level_line(l: &[u8], m: u32, last: u32) -> LevelLine
-    ensures { result ≡ levelAnswer (whole (levelLine m last) (fields_of l.now)) }
+    ensures { result ≡ level_answer (whole (level_line m last) (fields_of l.now)) }
 {
     match level_part(l, m, last) {
         Figure::No(c) => no_level(c),

@@ -2,9 +2,9 @@
 // the refusal's number, or what was read and the place behind it.
 ghost use Rattle.std.specs.Prelude.{◌≡◌, ◌≤◌, length, drop};
 ghost use Rattle.fields.specs.Fields.{fields_of, part};
-ghost use Rattle.fields.specs.Numbers.{decimalOf};
-ghost use Rattle.fields.specs.Readers.{pastIs};
-ghost use Rattle.text_lines.specs.Parts.{due, keyDue, flag, keyFlag, givenIs, orNotGiven, keyGiven, isNext, flagIs, givenFigure};
+ghost use Rattle.fields.specs.Numbers.{decimal_of};
+ghost use Rattle.fields.specs.Readers.{past_is};
+ghost use Rattle.text_lines.specs.Parts.{due, key_due, flag, key_flag, given_is, or_not_given, key_given, is_next, flag_is, given_figure};
 
 use fields::{Next, Number, Past};
 use soc::NOT_GIVEN;
@@ -30,7 +30,7 @@ pub enum Given {
 
 // The number n, which is due: below 4,294,967,296.
 fn due_at(l: &[u8], at: usize, n: u32) -> Past
-    ensures { pastIs l.now result ≡ due n (fields_of (drop at l.now)) }
+    ensures { past_is l.now result ≡ due n (fields_of (drop at l.now)) }
 {
     match fields::next_field(l, at) {
         Next::Nothing => Past::No(3),
@@ -48,7 +48,7 @@ fn due_at(l: &[u8], at: usize, n: u32) -> Past
 }
 
 pub fn key_due(l: &[u8], at: usize, w: &[u8], n: u32) -> Past
-    ensures { pastIs l.now result ≡ keyDue w.now n (fields_of (drop at l.now)) }
+    ensures { past_is l.now result ≡ key_due w.now n (fields_of (drop at l.now)) }
 {
     match fields::past_word(l, at, w) {
         Past::No(c) => Past::No(c),
@@ -57,7 +57,7 @@ pub fn key_due(l: &[u8], at: usize, w: &[u8], n: u32) -> Past
 }
 
 fn flag_at(l: &[u8], at: usize) -> Flag
-    ensures { flagIs l.now result ≡ flag (fields_of (drop at l.now)) }
+    ensures { flag_is l.now result ≡ flag (fields_of (drop at l.now)) }
 {
     match fields::next_field(l, at) {
         Next::Nothing => Flag::No(3),
@@ -74,7 +74,7 @@ fn flag_at(l: &[u8], at: usize) -> Flag
 }
 
 pub(crate) fn key_flag(l: &[u8], at: usize, w: &[u8]) -> Flag
-    ensures { flagIs l.now result ≡ keyFlag w.now (fields_of (drop at l.now)) }
+    ensures { flag_is l.now result ≡ key_flag w.now (fields_of (drop at l.now)) }
 {
     match fields::past_word(l, at, w) {
         Past::No(c) => Flag::No(c),
@@ -85,7 +85,7 @@ pub(crate) fn key_flag(l: &[u8], at: usize, w: &[u8]) -> Flag
 // A number from 0 to high, in the field from a to e.
 fn given_number(l: &[u8], a: usize, e: usize, high: u32) -> Given
     requires { (a ≤ e) × (e ≤ length l.now) × (high ≤ 16777215) }
-    ensures { givenFigure l.now result ≡ givenIs high (decimalOf (part l.now a e)) (fields_of (drop e l.now)) }
+    ensures { given_figure l.now result ≡ given_is high (decimal_of (part l.now a e)) (fields_of (drop e l.now)) }
 {
     match fields::number_of(&l[a..e]) {
         Number::Bad => Given::No(4),
@@ -102,7 +102,7 @@ fn given_number(l: &[u8], a: usize, e: usize, high: u32) -> Given
 // A number from 0 to high, or -1.
 fn given_at(l: &[u8], at: usize, high: u32) -> Given
     requires { high ≤ 16777215 }
-    ensures { givenFigure l.now result ≡ orNotGiven high (fields_of (drop at l.now)) }
+    ensures { given_figure l.now result ≡ or_not_given high (fields_of (drop at l.now)) }
 {
     match fields::next_field(l, at) {
         Next::Nothing => Given::No(3),
@@ -117,7 +117,7 @@ fn given_at(l: &[u8], at: usize, high: u32) -> Given
 
 pub(crate) fn key_given(l: &[u8], at: usize, w: &[u8], high: u32) -> Given
     requires { high ≤ 16777215 }
-    ensures { givenFigure l.now result ≡ keyGiven w.now high (fields_of (drop at l.now)) }
+    ensures { given_figure l.now result ≡ key_given w.now high (fields_of (drop at l.now)) }
 {
     match fields::past_word(l, at, w) {
         Past::No(c) => Given::No(c),
@@ -126,7 +126,7 @@ pub(crate) fn key_given(l: &[u8], at: usize, w: &[u8], high: u32) -> Given
 }
 
 pub(crate) fn is_next(l: &[u8], at: usize, w: &[u8]) -> bool
-    ensures { result ≡ isNext w.now (fields_of (drop at l.now)) }
+    ensures { result ≡ is_next w.now (fields_of (drop at l.now)) }
 {
     match fields::next_field(l, at) {
         Next::Nothing => false,

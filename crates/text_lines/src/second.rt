@@ -2,8 +2,8 @@
 ghost use Rattle.std.specs.Prelude.{◌≡◌, drop};
 ghost use Rattle.fields.specs.Fields.{fields_of};
 ghost use Rattle.text_lines.specs.Parts.{whole};
-ghost use Rattle.text_lines.specs.Kinds.{pairRule, positionPart, totalTests, testsPart, secondPart, secondLine, testsLine};
-ghost use Rattle.text_lines.specs.LineAnswers.{countAnswer, secondAnswer};
+ghost use Rattle.text_lines.specs.Kinds.{pair_rule, position_part, total_tests, tests_part, second_part, second_line, tests_line};
+ghost use Rattle.text_lines.specs.LineAnswers.{count_answer, second_answer};
 
 use super::head::Count;
 use super::part::Given;
@@ -19,7 +19,7 @@ pub enum SecondLine {
 
 // Both not given, or both given.
 fn is_pair(x: i32, y: i32) -> bool
-    ensures { result ≡ pairRule x y }
+    ensures { result ≡ pair_rule x y }
 {
     if x == NOT_GIVEN {
         y == NOT_GIVEN
@@ -30,7 +30,7 @@ fn is_pair(x: i32, y: i32) -> bool
 
 // `X` x `Y` y, to the line's end.
 fn position_to_end(l: &[u8], at: usize) -> SecondLine
-    ensures { result ≡ secondAnswer (whole positionPart (fields_of (drop at l.now))) }
+    ensures { result ≡ second_answer (whole position_part (fields_of (drop at l.now))) }
 {
     match super::part::key_given(l, at, b"X", POSITION_MAX as u32) {
         Given::No(c) => SecondLine::No(c),
@@ -52,7 +52,7 @@ fn position_to_end(l: &[u8], at: usize) -> SecondLine
 
 // `TotalTests` t, to the line's end.
 fn tests_to_end(l: &[u8], at: usize) -> Count
-    ensures { result ≡ countAnswer (whole totalTests (fields_of (drop at l.now))) }
+    ensures { result ≡ count_answer (whole total_tests (fields_of (drop at l.now))) }
 {
     match fields::key_figure(l, at, b"TotalTests", 0, TESTS_MAX as u32) {
         Figure::No(c) => Count::No(c),
@@ -67,7 +67,7 @@ fn tests_to_end(l: &[u8], at: usize) -> Count
 }
 
 fn second_to_end(l: &[u8], at: usize, xy: bool) -> SecondLine
-    ensures { result ≡ secondAnswer (whole (secondPart xy) (fields_of (drop at l.now))) }
+    ensures { result ≡ second_answer (whole (second_part xy) (fields_of (drop at l.now))) }
 {
     if xy {
         if super::part::is_next(l, at, b"X") {
@@ -82,7 +82,7 @@ fn second_to_end(l: &[u8], at: usize, xy: bool) -> SecondLine
 
 // The second line of module m.
 pub fn second_line(l: &[u8], m: u32, xy: bool) -> SecondLine
-    ensures { result ≡ secondAnswer (whole (secondLine m xy) (fields_of l.now)) }
+    ensures { result ≡ second_answer (whole (second_line m xy) (fields_of l.now)) }
 {
     match super::part::key_due(l, 0, b"Module", m) {
         Past::No(c) => SecondLine::No(c),
@@ -92,7 +92,7 @@ pub fn second_line(l: &[u8], m: u32, xy: bool) -> SecondLine
 
 // The line of module m behind its position.
 pub fn tests_line(l: &[u8], m: u32) -> Count
-    ensures { result ≡ countAnswer (whole (testsLine m) (fields_of l.now)) }
+    ensures { result ≡ count_answer (whole (tests_line m) (fields_of l.now)) }
 {
     match super::part::key_due(l, 0, b"Module", m) {
         Past::No(c) => Count::No(c),

@@ -1,10 +1,10 @@
 // The line of one test of a module.
 ghost use Rattle.std.specs.Prelude.{◌≡◌, drop};
 ghost use Rattle.fields.specs.Fields.{fields_of};
-ghost use Rattle.fields.specs.Readers.{pastIs};
-ghost use Rattle.text_lines.specs.Parts.{whole, givenFigure};
-ghost use Rattle.text_lines.specs.Kinds.{testDue, uses, powerPart, patternsPart, testLine};
-ghost use Rattle.text_lines.specs.LineAnswers.{usesIs, testAnswer};
+ghost use Rattle.fields.specs.Readers.{past_is};
+ghost use Rattle.text_lines.specs.Parts.{whole, given_figure};
+ghost use Rattle.text_lines.specs.Kinds.{test_due, uses, power_part, patterns_part, test_line};
+ghost use Rattle.text_lines.specs.LineAnswers.{uses_is, test_answer};
 
 use super::part::{Flag, Given};
 use fields::{Figure, Past};
@@ -24,7 +24,7 @@ pub enum Used {
 
 // `Module` m `Test` i.
 fn test_due(l: &[u8], m: u32, i: u32) -> Past
-    ensures { pastIs l.now result ≡ testDue m i (fields_of l.now) }
+    ensures { past_is l.now result ≡ test_due m i (fields_of l.now) }
 {
     match super::part::key_due(l, 0, b"Module", m) {
         Past::No(c) => Past::No(c),
@@ -34,7 +34,7 @@ fn test_due(l: &[u8], m: u32, i: u32) -> Past
 
 // `ScanUse` 0/1 `TamUse` 0/1 of a test of module m.
 fn uses_at(l: &[u8], at: usize, m: u32) -> Used
-    ensures { usesIs l.now result ≡ uses m (fields_of (drop at l.now)) }
+    ensures { uses_is l.now result ≡ uses m (fields_of (drop at l.now)) }
 {
     match super::part::key_flag(l, at, b"ScanUse") {
         Flag::No(c) => Used::No(c),
@@ -53,7 +53,7 @@ fn uses_at(l: &[u8], at: usize, m: u32) -> Used
 
 // With Power 1, `Power` w where a field is left.
 fn power_at(l: &[u8], at: usize, power: bool) -> Given
-    ensures { givenFigure l.now result ≡ powerPart power (fields_of (drop at l.now)) }
+    ensures { given_figure l.now result ≡ power_part power (fields_of (drop at l.now)) }
 {
     if !power {
         return Given::Is(NOT_GIVEN, at);
@@ -66,7 +66,7 @@ fn power_at(l: &[u8], at: usize, power: bool) -> Given
 
 // `Patterns` p and what may follow, to the line's end.
 fn patterns_to_end(l: &[u8], at: usize, power: bool, scan: bool, tam: bool) -> TestLine
-    ensures { result ≡ testAnswer (whole (patternsPart power (record { scan = scan; tam = tam })) (fields_of (drop at l.now))) }
+    ensures { result ≡ test_answer (whole (patterns_part power (record { scan = scan; tam = tam })) (fields_of (drop at l.now))) }
 {
     match fields::key_figure(l, at, b"Patterns", 1, PATTERNS_MAX) {
         Figure::No(c) => TestLine::No(c),
@@ -89,7 +89,7 @@ fn patterns_to_end(l: &[u8], at: usize, power: bool, scan: bool, tam: bool) -> T
 
 // The line of test i of module m.
 pub fn test_line(l: &[u8], m: u32, i: u32, power: bool) -> TestLine
-    ensures { result ≡ testAnswer (whole (testLine m i power) (fields_of l.now)) }
+    ensures { result ≡ test_answer (whole (test_line m i power) (fields_of l.now)) }
 {
     match test_due(l, m, i) {
         Past::No(c) => TestLine::No(c),

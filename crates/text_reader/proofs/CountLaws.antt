@@ -7,11 +7,11 @@ use mathlib.Core.List.{List, [], ◌∷◌}
 use Rattle.units.proofs.TestLaws.{clash}
 use Rattle.fields.specs.Lines.{Line}
 use Rattle.fields.specs.Readers.{Got, no, got, Reads, Reader, after}
-use Rattle.soc.specs.Limits.{modulesMax, testsMax}
-use Rattle.soc.specs.Record.{notGiven}
-use Rattle.text_lines.specs.Kinds.{Second, totalLine, secondLine, testsLine}
+use Rattle.soc.specs.Limits.{modules_max, tests_max}
+use Rattle.soc.specs.Record.{not_given}
+use Rattle.text_lines.specs.Kinds.{Second, total_line, second_line, tests_line}
 use Rattle.text_lines.specs.Parts.{Whole, refuses, says, whole}
-use Rattle.text_lines.proofs.BoundLaws.{tests-line-within, second-line-within}
+use Rattle.text_lines.proofs.BoundLaws.{tests-line-within, second_line-within}
 use Rattle.text_lines.proofs.HeadLaws.{total-within}
 use Rattle.text_reader.specs.Lines.{LinesRead, judged, line}
 use Rattle.text_reader.specs.Reading.{Body, behind, body}
@@ -27,28 +27,28 @@ line-got {A = A} {C = C} r a f (l ∷ ls) ms h = go (whole r l.fields) refl h
     go (says b) e k = f l.fields (cc)
 
 -- a value of two readings is of the second, behind a value of the first
-pub after-gives : {E S A B C : Type 0} (k : A → Reads E S B) (b : B) (t : S) → (g : Got E S A) → ((a : A) (s : S) → g ≡ got a s → k a s ≡ got b t → C) → after g k ≡ got b t → C
+pub after_gives : {E S A B C : Type 0} (k : A → Reads E S B) (b : B) (t : S) → (g : Got E S A) → ((a : A) (s : S) → g ≡ got a s → k a s ≡ got b t → C) → after g k ≡ got b t → C
 unfolding after
-after-gives k b t (no c) f h = clash cc
-after-gives k b t (got a s) f h = f a s refl h
+after_gives k b t (no c) f h = clash cc
+after_gives k b t (got a s) f h = f a s refl h
 
-pub total-count : (n : ℕ) (ls ms : List Line) → line totalLine ls ≡ got n ms → n ≤ modulesMax
-total-count n ls ms h = line-got totalLine n (λ fs e. (total-within fs n e).1) ls ms h
+pub total-count : (n : ℕ) (ls ms : List Line) → line total_line ls ≡ got n ms → n ≤ modules_max
+total-count n ls ms h = line-got total_line n (λ fs e. (total-within fs n e).1) ls ms h
 
-behind-count : (m : ℕ) (xy : Bool) (b : Body) (ls ms ns : List Line) (s : Second) → line (secondLine m xy) ls ≡ got s ms → behind m s ms ≡ got b ns → b.tests ≤ testsMax
+behind-count : (m : ℕ) (xy : Bool) (b : Body) (ls ms ns : List Line) (s : Second) → line (second_line m xy) ls ≡ got s ms → behind m s ms ≡ got b ns → b.tests ≤ tests_max
 unfolding behind
 behind-count m xy b ls ms ns (Second.tests t) e h =
-    let k : t ≤ testsMax = line-got (secondLine m xy) (Second.tests t) (second-line-within t m xy) ls ms e in
-    let q : record { x = notGiven; y = notGiven; tests = t } ≡ b = cc in
+    let k : t ≤ tests_max = line-got (second_line m xy) (Second.tests t) (second_line-within t m xy) ls ms e in
+    let q : record { x = not_given; y = not_given; tests = t } ≡ b = cc in
     rw (← q) k
-behind-count m xy b ls ms ns (Second.position x y) e h = after-gives _ b ns (line (testsLine m) ms) go h
+behind-count m xy b ls ms ns (Second.position x y) e h = after_gives _ b ns (line (tests_line m) ms) go h
   where
-    go : (t : ℕ) (ks : List Line) → line (testsLine m) ms ≡ got t ks → ◌≡◌ {A = LinesRead Body} (got (record { x = x; y = y; tests = t }) ks) (got b ns) → b.tests ≤ testsMax
+    go : (t : ℕ) (ks : List Line) → line (tests_line m) ms ≡ got t ks → ◌≡◌ {A = LinesRead Body} (got (record { x = x; y = y; tests = t }) ks) (got b ns) → b.tests ≤ tests_max
     go t ks i j =
-        let k : t ≤ testsMax = line-got (testsLine m) t (tests-line-within t m) ms ks i in
+        let k : t ≤ tests_max = line-got (tests_line m) t (tests-line-within t m) ms ks i in
         let q : record { x = x; y = y; tests = t } ≡ b = cc in
         rw (← q) k
 
-pub body-count : (m : ℕ) (xy : Bool) (b : Body) (ls ns : List Line) → body m xy ls ≡ got b ns → b.tests ≤ testsMax
+pub body-count : (m : ℕ) (xy : Bool) (b : Body) (ls ns : List Line) → body m xy ls ≡ got b ns → b.tests ≤ tests_max
 unfolding body
-body-count m xy b ls ns h = after-gives (behind m) b ns (line (secondLine m xy) ls) (λ s ms e k. behind-count m xy b ls ms ns s e k) h
+body-count m xy b ls ns h = after_gives (behind m) b ns (line (second_line m xy) ls) (λ s ms e k. behind-count m xy b ls ms ns s e k) h

@@ -11,18 +11,18 @@ use Rattle.fields.specs.Lines.{Line}
 use Rattle.fields.specs.Readers.{got, Reader}
 use Rattle.soc.specs.declared.record.Soc.{Soc}
 use Rattle.text_lines.specs.Parts.{says, whole}
-use Rattle.text_line_reader.specs.Due.{linesAt}
+use Rattle.text_line_reader.specs.Due.{lines_at}
 use Rattle.text_line_reader.specs.declared.place.Place.{Place}
 use Rattle.text_reader.specs.Lines.{line}
-use Rattle.text_reader.specs.Reading.{refusedSoc, acceptedSoc}
-use Rattle.text_reader.specs.Marks.{Of, Other, Passes, LinesOf, Marked, newMarks, StepMarked}
-use Rattle.text_reader.specs.Marks.{refusedMarked, acceptedMarked, ReadMarked}
+use Rattle.text_reader.specs.Reading.{refused_soc, accepted_soc}
+use Rattle.text_reader.specs.Marks.{Of, Other, Passes, LinesOf, Marked, new_marks, StepMarked}
+use Rattle.text_reader.specs.Marks.{refused_marked, accepted_marked, ReadMarked}
 use Rattle.text_reader.specs.declared.marks.Marks.{Marks}
 use Rattle.text_reader.specs.declared.read.SocMarked.{SocMarked}
 use Rattle.text_reader.specs.declared.read.SocRead.{SocRead}
 use Rattle.text_reader.specs.declared.step.Step.{Step}
 use Rattle.text_reader.specs.declared.step.Step.TheVariants as step
-use Rattle.text_reader.proofs.LinesOfLaws.{line_first, passes-one, passes-both, passes-as, of_other}
+use Rattle.text_reader.proofs.LinesOfLaws.{line_first, passes-one, passes_both, passes_as, of_other}
 
 -- modules with numbers below low are read, from ls up to ms; module m is among them or not
 pub record Marking (m low : ℕ) (has : Bool) (t : List ℕ) (ls ms : List Line) (s : Marks) : Type 0 where
@@ -30,32 +30,32 @@ pub record Marking (m low : ℕ) (has : Bool) (t : List ℕ) (ls ms : List Line)
   pub absent : low ≤ m → has ≡ false
   pub marks : has ≡ true → Marked m t ls ms s.from s.to
 
-pub marking-start : (m : ℕ) (has : Bool) (t : List ℕ) (ls : List Line) (s : Marks) → has ≡ false → Marking m 0 has t ls ls s
-marking-start m has t ls s e =
+pub marking_start : (m : ℕ) (has : Bool) (t : List ℕ) (ls : List Line) (s : Marks) → has ≡ false → Marking m 0 has t ls ls s
+marking_start m has t ls s e =
     record { before = λ _. Passes.none; absent = λ _. e; marks = λ h. absurd (true≢false (sym h ∙ e)) }
 
-lines-pass : (m : ℕ) {ls ms : List Line} → LinesOf m ls ms → Passes (Of m) ls ms
-lines-pass m {ls} {ms} r = rw r.lines (Passes.more r.begins r.goes_on)
+lines_pass : (m : ℕ) {ls ms : List Line} → LinesOf m ls ms → Passes (Of m) ls ms
+lines_pass m {ls} {ms} r = rw r.lines (Passes.more r.begins r.goes_on)
 
 -- more lines that are not of the module, behind the others and before them
-marked-on : {m : ℕ} {t : List ℕ} {ls ms ns : List Line} {from to : ℕ} → Marked m t ls ms from to → Passes (Other m) ms ns
+marked_on : {m : ℕ} {t : List ℕ} {ls ms ns : List Line} {from to : ℕ} → Marked m t ls ms from to → Passes (Other m) ms ns
     → Marked m t ls ns from to
-marked-on r p =
-    record { from-line = r.from-line; to-line = r.to-line; before = r.before; lines = r.lines; behind = passes-both r.behind p }
+marked_on r p =
+    record { from-line = r.from-line; to-line = r.to-line; before = r.before; lines = r.lines; behind = passes_both r.behind p }
 
-marked-before : {m : ℕ} {t : List ℕ} {ks ls ms : List Line} {from to : ℕ} → Passes (Other m) ks ls → Marked m t ls ms from to
+marked_before : {m : ℕ} {t : List ℕ} {ks ls ms : List Line} {from to : ℕ} → Passes (Other m) ks ls → Marked m t ls ms from to
     → Marked m t ks ms from to
-marked-before p r =
-    record { from-line = r.from-line; to-line = r.to-line; before = passes-both p r.before; lines = r.lines; behind = r.behind }
+marked_before p r =
+    record { from-line = r.from-line; to-line = r.to-line; before = passes_both p r.before; lines = r.lines; behind = r.behind }
 
 -- the lines of module k come, from low on
 module _ (m low k : ℕ) (has had : Bool) (t : List ℕ) (ls : List Line) (p q : Place) (s r : Marks) where
-  pub marking-next : Marking m low had t ls (linesAt t p) s → low ≤ k → LinesOf k (linesAt t p) (linesAt t q) → ((k ≡ m → ⊥) → has ≡ had)
-      → r ≡ newMarks s m k p.at q.at
-      → Marking m (k + 1) has t ls (linesAt t q) r
-  marking-next a h l f e = go (eqb k m) refl e
+  pub marking_next : Marking m low had t ls (lines_at t p) s → low ≤ k → LinesOf k (lines_at t p) (lines_at t q) → ((k ≡ m → ⊥) → has ≡ had)
+      → r ≡ new_marks s m k p.at q.at
+      → Marking m (k + 1) has t ls (lines_at t q) r
+  marking_next a h l f e = go (eqb k m) refl e
     where
-      go : (u : Bool) → eqb k m ≡ u → r ≡ cond u (record { from = p.at; to = q.at }) s → Marking m (k + 1) has t ls (linesAt t q) r
+      go : (u : Bool) → eqb k m ≡ u → r ≡ cond u (record { from = p.at; to = q.at }) s → Marking m (k + 1) has t ls (lines_at t q) r
       go true i e =
           let z : k ≡ m = eqb-true k m i in
           rw e (record {
@@ -72,11 +72,11 @@ module _ (m low k : ℕ) (has had : Bool) (t : List ℕ) (ls : List Line) (p q :
           })
       go false i e =
           let n = eqb-false k m i in
-          let o = passes-as (λ x y. of_other k m x n y) (lines-pass k l) in
+          let o = passes_as (λ x y. of_other k m x n y) (lines_pass k l) in
           rw e (record {
-            before = λ j. passes-both (a.before (omega (arith, h, j))) o;
+            before = λ j. passes_both (a.before (omega (arith, h, j))) o;
             absent = λ j. f n ∙ a.absent (omega (arith, h, j));
-            marks = λ j. marked-on (a.marks (sym (f n) ∙ j)) o;
+            marks = λ j. marked_on (a.marks (sym (f n) ∙ j)) o;
           })
 
 -- in a SOC text the modules come in order
@@ -95,27 +95,27 @@ next-number m i n = go (ltb m i) refl
     go false e = le-ltb m (i + 1) (go_on (ltb-false m i e))
 
 -- what a step says of the marks
-pub step-marked : (m : ℕ) (t : List ℕ) (has : Bool) (ls : List Line) (a : Step) (s : Marks) (q : Place) → StepMarked m t has ls a s
-    → a ≡ step.Next q → has ≡ true → linesAt t q ≡ [] → Marked m t ls [] s.from s.to
-step-marked m t has ls a s q is e h z =
+pub step_marked : (m : ℕ) (t : List ℕ) (has : Bool) (ls : List Line) (a : Step) (s : Marks) (q : Place) → StepMarked m t has ls a s
+    → a ≡ step.Next q → has ≡ true → lines_at t q ≡ [] → Marked m t ls [] s.from s.to
+step_marked m t has ls a s q is e h z =
     let k : StepMarked m t has ls (step.Next q) s = rw e at is in
     rw z at (k h)
 
 -- a text that is refused, or accepted
 module _ (m : ℕ) (t : List ℕ) (ls : List Line) (a : SocRead) (r : SocMarked) where
-  pub refused-marked : (f : Refusal) → r ≡ refusedMarked f → refusedSoc f ≡ a → ReadMarked m t ls a r
-  refused-marked f e h = rw e (record { read = h; marks = λ k. absurd (omega (arith, k)) })
+  pub refused_marked_lem : (f : Refusal) → r ≡ refused_marked f → refused_soc f ≡ a → ReadMarked m t ls a r
+  refused_marked_lem f e h = rw e (record { read = h; marks = λ k. absurd (omega (arith, k)) })
 
-  pub accepted-marked : (s : Soc) (marks : Marks) → r ≡ acceptedMarked s marks → acceptedSoc s ≡ a
+  pub accepted_marked_lem : (s : Soc) (marks : Marks) → r ≡ accepted_marked s marks → accepted_soc s ≡ a
       → (ltb m s.module_count ≡ true → Marked m t ls [] marks.from marks.to)
       → ReadMarked m t ls a r
-  accepted-marked s marks e h f = rw e (record { read = h; marks = λ k. f (lt-ltb m s.module_count k) })
+  accepted_marked_lem s marks e h f = rw e (record { read = h; marks = λ k. f (lt-ltb m s.module_count k) })
 
 -- a line of no module before the others
 module _ {A : Type 0} (m : ℕ) (t : List ℕ) (r : Reader A) (v : A) (ls ms : List Line) (is : line r ls ≡ got v ms)
     (other : (l : Line) → whole r l.fields ≡ says v → Other m l) where
-  pub marked-line : {ns : List Line} {from to : ℕ} → Marked m t ms ns from to → Marked m t ls ns from to
-  marked-line k = marked-before (line_first r v ls ms (λ l i w. passes-one l ls ms i (other l w)) is) k
+  pub marked_line : {ns : List Line} {from to : ℕ} → Marked m t ms ns from to → Marked m t ls ns from to
+  marked_line k = marked_before (line_first r v ls ms (λ l i w. passes-one l ls ms i (other l w)) is) k
 
-  pub marked-behind : (a b : SocRead) (s : SocMarked) → a ≡ b → ReadMarked m t ms a s → ReadMarked m t ls b s
-  marked-behind a b s e k = record { read = k.read ∙ e; marks = λ h. marked-line (k.marks h) }
+  pub marked_behind : (a b : SocRead) (s : SocMarked) → a ≡ b → ReadMarked m t ms a s → ReadMarked m t ls b s
+  marked_behind a b s e k = record { read = k.read ∙ e; marks = λ h. marked_line (k.marks h) }

@@ -3,18 +3,18 @@
 use Rattle.std.specs.Prelude.{ℕ, ◌<◌, ◌≡◌, Bool, true, cond, List, [], ◌∷◌, ltb, eqb, take}
 use Rattle.fields.specs.Lines.{Line, lines_from}
 use Rattle.fields.specs.Readers.{got}
-use Rattle.soc.specs.Limits.{modulesMax}
-use Rattle.soc.specs.Record.{noModule}
+use Rattle.soc.specs.Limits.{modules_max}
+use Rattle.soc.specs.Record.{no_module}
 use Rattle.soc.specs.declared.record.Module.{Module}
 use Rattle.soc.specs.declared.record.Soc.{Soc}
 use Rattle.units.specs.Places.{padded}
 use Rattle.units.specs.declared.Refusal.{Refusal}
-use Rattle.text_line_reader.specs.Due.{placeAt, linesAt}
+use Rattle.text_line_reader.specs.Due.{place_at, lines_at}
 use Rattle.text_line_reader.specs.declared.place.Place.{Place}
-use Rattle.text_lines.specs.Kinds.{Options, moduleDue}
+use Rattle.text_lines.specs.Kinds.{Options, module_due}
 use Rattle.text_lines.specs.declared.head.NameLine.{NameLine}
 use Rattle.text_reader.specs.Lines.{LinesReader}
-use Rattle.text_reader.specs.Reading.{modules, refusedSoc, acceptedSoc, answer, readSoc}
+use Rattle.text_reader.specs.Reading.{modules, refused_soc, accepted_soc, answer, read_soc}
 use Rattle.text_reader.specs.Steps.{StepMeans}
 use Rattle.text_reader.specs.declared.marks.Marks.{Marks}
 use Rattle.text_reader.specs.declared.read.ModulesStep.{ModulesStep}
@@ -26,11 +26,11 @@ use Rattle.text_reader.specs.declared.step.Step.TheVariants as step
 -- a line of module m
 pub record Of (m : ℕ) (l : Line) : Type 0 where
   pub left : List (List ℕ)
-  pub begins : moduleDue m l.fields ≡ got tt left
+  pub begins : module_due m l.fields ≡ got tt left
 
 -- any other line
 abbrev pub Other : ℕ → Line → Type 0
-Other m l = (fs : List (List ℕ)) → moduleDue m l.fields ≡ got tt fs → ⊥
+Other m l = (fs : List (List ℕ)) → module_due m l.fields ≡ got tt fs → ⊥
 
 -- the lines from ls on up to ms are of one kind
 pub data Passes (P : Line → Type 0) : List Line → List Line → Type 0 where
@@ -43,7 +43,7 @@ pub record LinesOf (m : ℕ) (ls ms : List Line) : Type 0 where
   pub rest : List Line
   pub lines : ls ≡ first ∷ rest
   pub begins : Of m first
-  pub goes_on : Passes (Of m) rest ms
+  pub goes_on_lem : Passes (Of m) rest ms
 
 -- among the lines from ls up to ms those of module m stand between two places of the text t, and no others
 pub record Marked (m : ℕ) (t : List ℕ) (ls ms : List Line) (from to : ℕ) : Type 0 where
@@ -53,33 +53,33 @@ pub record Marked (m : ℕ) (t : List ℕ) (ls ms : List Line) (from to : ℕ) :
   pub lines : LinesOf m (lines_from from-line t from) (lines_from to-line t to)
   pub behind : Passes (Other m) (lines_from to-line t to) ms
 
-abbrev pub noMarks : Marks
-noMarks = record { from = 0; to = 0 }
+abbrev pub no_marks : Marks
+no_marks = record { from = 0; to = 0 }
 
 -- the marks of module m, where they were s before the lines of module i were read from a place to a place
-abbrev pub newMarks : Marks → ℕ → ℕ → ℕ → ℕ → Marks
-newMarks s m i from to = cond (eqb i m) (record { from = from; to = to }) s
+abbrev pub new_marks : Marks → ℕ → ℕ → ℕ → ℕ → Marks
+new_marks s m i from to = cond (eqb i m) (record { from = from; to = to }) s
 
 -- the marks at the end of a step over lines from ls on that has module m or not
 abbrev pub StepMarked : ℕ → List ℕ → Bool → List Line → Step → Marks → Type 0
 StepMarked m t has ls (step.No r) s = Unit {0}
-StepMarked m t has ls (step.Next q) s = has ≡ true → Marked m t ls (linesAt t q) s.from s.to
+StepMarked m t has ls (step.Next q) s = has ≡ true → Marked m t ls (lines_at t q) s.from s.to
 
 -- n modules were read from a place on, and module m has its marks
 abbrev pub ModulesMean : List ℕ → Place → ℕ → Options → ℕ → ModulesStep → Type 0
 ModulesMean t p n o m r =
-    StepMeans t (take n r.modules) r.step (modules o n 0 0 (linesAt t p))
-    × (r.modules ≡ padded modulesMax noModule (take n r.modules))
-    × StepMarked m t (ltb m n) (linesAt t p) r.step r.marks
+    StepMeans t (take n r.modules) r.step (modules o n 0 0 (lines_at t p))
+    × (r.modules ≡ padded modules_max no_module (take n r.modules))
+    × StepMarked m t (ltb m n) (lines_at t p) r.step r.marks
 
-abbrev pub refusedMarked : Refusal → SocMarked
-refusedMarked r = record { read = refusedSoc r; marks = noMarks }
+abbrev pub refused_marked : Refusal → SocMarked
+refused_marked r = record { read = refused_soc r; marks = no_marks }
 
-abbrev pub acceptedMarked : Soc → Marks → SocMarked
-acceptedMarked s marks = record { read = acceptedSoc s; marks = marks }
+abbrev pub accepted_marked : Soc → Marks → SocMarked
+accepted_marked s marks = record { read = accepted_soc s; marks = marks }
 
-abbrev pub socIn : NameLine → ℕ → Bool → Bool → List Module → Soc
-socIn l n p x ds =
+abbrev pub soc_in : NameLine → ℕ → Bool → Bool → List Module → Soc
+soc_in l n p x ds =
     record {
       name_len = l.len;
       name = l.name;
@@ -96,7 +96,7 @@ pub record ReadMarked (m : ℕ) (t : List ℕ) (ls : List Line) (a : SocRead) (r
 
 -- the same of the lines from a place on
 abbrev pub ReadsMarked : ℕ → List ℕ → Place → LinesReader Soc → SocMarked → Type 0
-ReadsMarked m t p g r = ReadMarked m t (linesAt t p) (answer (g (linesAt t p))) r
+ReadsMarked m t p g r = ReadMarked m t (lines_at t p) (answer (g (lines_at t p))) r
 
 abbrev pub TextMarked : ℕ → List ℕ → SocMarked → Type 0
-TextMarked m t r = ReadMarked m t (linesAt t (placeAt 0 1)) (readSoc t) r
+TextMarked m t r = ReadMarked m t (lines_at t (place_at 0 1)) (read_soc t) r

@@ -1,13 +1,13 @@
 // The lines of one module.
 ghost use Rattle.std.specs.Prelude.{◌≡◌, ◌≤◌, take};
-ghost use Rattle.text_lines.specs.Kinds.{levelLine, testsLine, testLine};
-ghost use Rattle.soc.specs.Limits.{testsMax};
+ghost use Rattle.text_lines.specs.Kinds.{level_line, tests_line, test_line};
+ghost use Rattle.soc.specs.Limits.{tests_max};
 ghost use Rattle.units.specs.Places.{padded};
-ghost use Rattle.soc.specs.Record.{noTest};
+ghost use Rattle.soc.specs.Record.{no_test};
 ghost use Rattle.text_reader.specs.Lines.{line};
-ghost use Rattle.text_reader.specs.Reading.{body, tests, moduleTests, moduleRest, moduleLines};
-ghost use Rattle.text_line_reader.specs.Due.{Inside, linesAt};
-ghost use Rattle.text_reader.specs.Steps.{StepMeans, shapeIn, CountMeans, BodyMeans, TestMeans};
+ghost use Rattle.text_reader.specs.Reading.{body, tests, module_tests, module_rest, module_lines};
+ghost use Rattle.text_line_reader.specs.Due.{Inside, lines_at};
+ghost use Rattle.text_reader.specs.Steps.{StepMeans, shape_in, CountMeans, BodyMeans, TestMeans};
 
 use super::head::CountStep;
 use super::step::{Step, missing};
@@ -48,7 +48,7 @@ pub struct ModuleStep {
 
 fn level_step(text: &[u8], p: Place, m: u32, last: u32) -> LevelStep
     requires { Inside text.now p }
-    ensures { StepMeans text.now (shapeIn result.line) result.step (line (levelLine m last) (linesAt text.now p)) }
+    ensures { StepMeans text.now (shape_in result.line) result.step (line (level_line m last) (lines_at text.now p)) }
 {
     match due_line(text, p) {
         Due::Missing => LevelStep {
@@ -75,7 +75,7 @@ fn level_step(text: &[u8], p: Place, m: u32, last: u32) -> LevelStep
 // The line with the number of tests, behind a position.
 fn tests_count_step(text: &[u8], p: Place, m: u32) -> CountStep
     requires { Inside text.now p }
-    ensures { CountMeans text.now result (line (testsLine m) (linesAt text.now p)) }
+    ensures { CountMeans text.now result (line (tests_line m) (lines_at text.now p)) }
 {
     match due_line(text, p) {
         Due::Missing => CountStep::No(missing()),
@@ -89,7 +89,7 @@ fn tests_count_step(text: &[u8], p: Place, m: u32) -> CountStep
 // The position, where it is given, and the number of tests.
 fn body_step(text: &[u8], p: Place, m: u32, xy: bool) -> BodyStep
     requires { Inside text.now p }
-    ensures { BodyMeans text.now result (body m xy (linesAt text.now p)) }
+    ensures { BodyMeans text.now result (body m xy (lines_at text.now p)) }
 {
     match due_line(text, p) {
         Due::Missing => BodyStep::No(missing()),
@@ -106,7 +106,7 @@ fn body_step(text: &[u8], p: Place, m: u32, xy: bool) -> BodyStep
 
 fn test_step(text: &[u8], p: Place, m: u32, i: u32, power: bool) -> TestStep
     requires { Inside text.now p }
-    ensures { TestMeans text.now result (line (testLine m i power) (linesAt text.now p)) }
+    ensures { TestMeans text.now result (line (test_line m i power) (lines_at text.now p)) }
 {
     match due_line(text, p) {
         Due::Missing => TestStep::No(missing()),
@@ -119,8 +119,8 @@ fn test_step(text: &[u8], p: Place, m: u32, i: u32, power: bool) -> TestStep
 
 // The lines of n tests, at the front of the places for tests.
 fn tests_step(text: &[u8], p: Place, m: u32, n: usize, power: bool) -> TestsStep
-    requires { Inside text.now p × (n ≤ testsMax) }
-    ensures { StepMeans text.now (take n result.tests) result.step (tests n m power (linesAt text.now p)) × (result.tests ≡ padded testsMax noTest (take n result.tests)) }
+    requires { Inside text.now p × (n ≤ tests_max) }
+    ensures { StepMeans text.now (take n result.tests) result.step (tests n m power (lines_at text.now p)) × (result.tests ≡ padded tests_max no_test (take n result.tests)) }
 {
     let mut list = [soc::no_test(); TESTS_MAX];
     let mut place = p;
@@ -167,8 +167,8 @@ fn module_tests(
     power: bool,
     xy: bool,
 ) -> ModuleStep
-    requires { Inside text.now p × (n ≤ testsMax) }
-    ensures { StepMeans text.now result.module result.step (moduleTests (record { power = power; xy = xy }) m (shapeIn line) (record { x = x; y = y; tests = n }) (linesAt text.now p)) }
+    requires { Inside text.now p × (n ≤ tests_max) }
+    ensures { StepMeans text.now result.module result.step (module_tests (record { power = power; xy = xy }) m (shape_in line) (record { x = x; y = y; tests = n }) (lines_at text.now p)) }
 {
     let read = tests_step(text, p, m, n, power);
     let step = read.step;
@@ -201,7 +201,7 @@ pub fn module_rest(
     xy: bool,
 ) -> ModuleStep
     requires { Inside text.now p }
-    ensures { StepMeans text.now result.module result.step (moduleRest (record { power = power; xy = xy }) m (shapeIn line) (linesAt text.now p)) }
+    ensures { StepMeans text.now result.module result.step (module_rest (record { power = power; xy = xy }) m (shape_in line) (lines_at text.now p)) }
 {
     match body_step(text, p, m, xy) {
         BodyStep::No(f) => refused_module(f),
@@ -219,7 +219,7 @@ pub(crate) fn module_step(
     xy: bool,
 ) -> ModuleStep
     requires { Inside text.now p }
-    ensures { StepMeans text.now result.module result.step (moduleLines (record { power = power; xy = xy }) m last (linesAt text.now p)) }
+    ensures { StepMeans text.now result.module result.step (module_lines (record { power = power; xy = xy }) m last (lines_at text.now p)) }
 {
     let read = level_step(text, p, m, last);
     let step = read.step;

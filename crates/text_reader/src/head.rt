@@ -1,9 +1,9 @@
 // The first three lines of a text.
 ghost use Rattle.std.specs.Prelude.{◌≡◌};
-ghost use Rattle.text_lines.specs.Kinds.{nameLine, totalLine, optionsLine};
+ghost use Rattle.text_lines.specs.Kinds.{name_line, total_line, options_line};
 ghost use Rattle.text_reader.specs.Lines.{line};
-ghost use Rattle.text_line_reader.specs.Due.{Inside, linesAt};
-ghost use Rattle.text_reader.specs.Steps.{StepMeans, nameIn, CountMeans, OptionsMeans};
+ghost use Rattle.text_line_reader.specs.Due.{Inside, lines_at};
+ghost use Rattle.text_reader.specs.Steps.{StepMeans, name_in, CountMeans, OptionsMeans};
 
 use super::step::{Step, missing};
 use text_line_reader::{Due, Place, due_line};
@@ -30,7 +30,7 @@ pub enum OptionsStep {
 
 pub(crate) fn name_step(text: &[u8], p: Place) -> NameStep
     requires { Inside text.now p }
-    ensures { StepMeans text.now (nameIn result.line) result.step (line nameLine (linesAt text.now p)) }
+    ensures { StepMeans text.now (name_in result.line) result.step (line name_line (lines_at text.now p)) }
 {
     match due_line(text, p) {
         Due::Missing => NameStep {
@@ -56,7 +56,7 @@ pub(crate) fn name_step(text: &[u8], p: Place) -> NameStep
 
 pub(crate) fn total_step(text: &[u8], p: Place) -> CountStep
     requires { Inside text.now p }
-    ensures { CountMeans text.now result (line totalLine (linesAt text.now p)) }
+    ensures { CountMeans text.now result (line total_line (lines_at text.now p)) }
 {
     match due_line(text, p) {
         Due::Missing => CountStep::No(missing()),
@@ -69,7 +69,7 @@ pub(crate) fn total_step(text: &[u8], p: Place) -> CountStep
 
 pub fn options_step(text: &[u8], p: Place) -> OptionsStep
     requires { Inside text.now p }
-    ensures { OptionsMeans text.now result (line optionsLine (linesAt text.now p)) }
+    ensures { OptionsMeans text.now result (line options_line (lines_at text.now p)) }
 {
     match due_line(text, p) {
         Due::Missing => OptionsStep::No(missing()),

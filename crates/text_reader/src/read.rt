@@ -1,10 +1,10 @@
 // A SOC text read to its record, or to its first refusal: 1, then 2 anywhere, then the lines from the top.
 ghost use Rattle.std.specs.Prelude.{◌≡◌, ◌≤◌};
-ghost use Rattle.soc.specs.Limits.{modulesMax};
-ghost use Rattle.text_reader.specs.Reading.{rest, behindName, soc, readSoc};
-ghost use Rattle.text_line_reader.specs.Due.{Inside, placeAt};
-ghost use Rattle.text_reader.specs.Steps.{nameIn};
-ghost use Rattle.text_reader.specs.Marks.{ModulesMean, socIn, refusedMarked, acceptedMarked, ReadsMarked, TextMarked};
+ghost use Rattle.soc.specs.Limits.{modules_max};
+ghost use Rattle.text_reader.specs.Reading.{rest, behind_name, soc, read_soc};
+ghost use Rattle.text_line_reader.specs.Due.{Inside, place_at};
+ghost use Rattle.text_reader.specs.Steps.{name_in};
+ghost use Rattle.text_reader.specs.Marks.{ModulesMean, soc_in, refused_marked, accepted_marked, ReadsMarked, TextMarked};
 
 use super::block::module_step;
 use super::head::{CountStep, OptionsStep, name_step, options_step, total_step};
@@ -38,7 +38,7 @@ pub struct ModulesStep {
 }
 
 fn refused_soc(f: Refusal) -> SocMarked
-    ensures { result ≡ refusedMarked f }
+    ensures { result ≡ refused_marked f }
 {
     SocMarked {
         read: SocRead {
@@ -51,7 +51,7 @@ fn refused_soc(f: Refusal) -> SocMarked
 
 // The lines of n modules, at the front of the places for modules, and the marks of module m.
 fn modules_step(text: &[u8], p: Place, n: usize, power: bool, xy: bool, m: u32) -> ModulesStep
-    requires { Inside text.now p × (n ≤ modulesMax) }
+    requires { Inside text.now p × (n ≤ modules_max) }
     ensures { ModulesMean text.now p n (record { power = power; xy = xy }) m result }
 {
     let mut list = [soc::no_module(); MODULES_MAX];
@@ -96,7 +96,7 @@ fn accepted_soc(
     modules: [Module; MODULES_MAX],
     marks: Marks,
 ) -> SocMarked
-    ensures { result ≡ acceptedMarked (socIn name n power xy modules) marks }
+    ensures { result ≡ accepted_marked (soc_in name n power xy modules) marks }
 {
     let bytes = name.name;
     SocMarked {
@@ -125,8 +125,8 @@ fn modules_to_end(
     xy: bool,
     m: u32,
 ) -> SocMarked
-    requires { Inside text.now p × (n ≤ modulesMax) }
-    ensures { ReadsMarked m text.now p (rest (nameIn name) n (record { power = power; xy = xy })) result }
+    requires { Inside text.now p × (n ≤ modules_max) }
+    ensures { ReadsMarked m text.now p (rest (name_in name) n (record { power = power; xy = xy })) result }
 {
     let read = modules_step(text, p, n, power, xy, m);
     let step = read.step;
@@ -146,7 +146,7 @@ fn modules_to_end(
 // The lines of a text from the second on.
 fn read_behind_name(text: &[u8], p: Place, name: NameLine, m: u32) -> SocMarked
     requires { Inside text.now p }
-    ensures { ReadsMarked m text.now p (behindName (nameIn name)) result }
+    ensures { ReadsMarked m text.now p (behind_name (name_in name)) result }
 {
     match total_step(text, p) {
         CountStep::No(f) => refused_soc(f),
@@ -158,7 +158,7 @@ fn read_behind_name(text: &[u8], p: Place, name: NameLine, m: u32) -> SocMarked
 }
 
 fn read_lines(text: &[u8], m: u32) -> SocMarked
-    ensures { ReadsMarked m text.now (placeAt 0 1) soc result }
+    ensures { ReadsMarked m text.now (place_at 0 1) soc result }
 {
     let read = name_step(text, Place { at: 0, line: 1 });
     let step = read.step;
@@ -185,7 +185,7 @@ pub fn read_soc_marked(text: &[u8], m: u32) -> SocMarked
 }
 
 pub fn read_soc(text: &[u8]) -> SocRead
-    ensures { result ≡ readSoc text.now }
+    ensures { result ≡ read_soc text.now }
 {
     read_soc_marked(text, 0).read
 }

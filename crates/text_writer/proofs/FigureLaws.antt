@@ -11,31 +11,31 @@ use lib.Signed.{lt_z, non_neg}
 use mir.Syntax.{w32, w64}
 use mir.Val.{Fits, SFits, bool_byte}
 use Rattle.fields.specs.Bytes.{bytes}
-use Rattle.fields.specs.WrittenLines.{digitsOf, decimal}
-use Rattle.text_lines.specs.LineFields.{flagField, givenField}
+use Rattle.fields.specs.WrittenLines.{digits_of, decimal}
+use Rattle.text_lines.specs.LineFields.{flag_field, given_field}
 
-pub flag-length : (b : Bool) → length (flagField b) ≡ 1
-unfolding flagField
+pub flag-length : (b : Bool) → length (flag_field b) ≡ 1
+unfolding flag_field
 flag-length true = refl
 flag-length false = refl
 
 -- a flag is written as its number
-pub flag-number : (b : Bool) → decimal (bool_byte b) ≡ flagField b
-unfolding flagField decimal digitsOf
+pub flag-number : (b : Bool) → decimal (bool_byte b) ≡ flag_field b
+unfolding flag_field decimal digits_of
 flag-number true = refl
 flag-number false = refl
 
-pub given_below : (z : ℤ) → lt_z z (pos 0) ≡ true → givenField z ≡ bytes "-1"
-unfolding givenField
+pub given_below : (z : ℤ) → lt_z z (pos 0) ≡ true → given_field z ≡ bytes "-1"
+unfolding given_field
 given_below (pos n) e = absurd (omega (arith, ltb-true n 0 e))
 given_below (negsuc n) e = refl
 
-pub given_above : (z : ℤ) → lt_z z (pos 0) ≡ false → givenField z ≡ decimal (nat_abs z)
-unfolding givenField
+pub given_above : (z : ℤ) → lt_z z (pos 0) ≡ false → given_field z ≡ decimal (nat_abs z)
+unfolding given_field
 given_above (pos n) e = refl
 given_above (negsuc n) e = absurd (true≢false e)
 
 -- such a figure that is given is a number without sign
-pub given-cast : (z : ℤ) → SFits w32 z → lt_z z (pos 0) ≡ false → T (non_neg z) × Fits w64 (nat_abs z)
-given-cast (pos n) f e = (Prim.tt, record { fits = let h : n < 2147483648 = f.sfits in omega arith })
-given-cast (negsuc n) f e = absurd (true≢false e)
+pub given_cast : (z : ℤ) → SFits w32 z → lt_z z (pos 0) ≡ false → T (non_neg z) × Fits w64 (nat_abs z)
+given_cast (pos n) f e = (Prim.tt, record { fits = let h : n < 2147483648 = f.sfits in omega arith })
+given_cast (negsuc n) f e = absurd (true≢false e)

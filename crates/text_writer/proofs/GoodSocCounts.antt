@@ -6,19 +6,19 @@ use mathlib.Core.List.{List, [], ◌∷◌}
 use native.Mathlib.Omega.{arith}
 use lib.ListN.{length, get_or}
 use lib.Seq.{get_or-take}
-use Rattle.soc.specs.Record.{noModule, modulesOf}
-use Rattle.soc.specs.Rules.{goodSoc}
+use Rattle.soc.specs.Record.{no_module, modules_of}
+use Rattle.soc.specs.Rules.{good_soc}
 use Rattle.soc.specs.declared.record.Soc.{Soc}
 use Rattle.soc.proofs.GoodSocLaws.{soc-figures, modules-counts}
 use Rattle.text_writer.specs.WrittenSoc.{Countable}
 
-pub good-countable : (s : Soc) → goodSoc s ≡ true → Countable s
-good-countable s h i k =
-    let e = modules-counts s.power s.xy 0 0 (modulesOf s) (soc-figures s h).modules i in
-    rw (get_or-take s.module_count s.modules i noModule k) at e
+pub good_countable : (s : Soc) → good_soc s ≡ true → Countable s
+good_countable s h i k =
+    let e = modules-counts s.power s.xy 0 0 (modules_of s) (soc-figures s h).modules i in
+    rw (get_or-take s.module_count s.modules i no_module k) at e
 
 -- an element that is there is read whatever is taken for one that is not
-pub getD-same : {A : Type 0} (l : List A) (i : ℕ) (y z : A) → i < length l → get_or l i y ≡ get_or l i z
-getD-same [] i y z h = absurd (omega arith)
-getD-same (x ∷ l) zero y z h = refl
-getD-same (x ∷ l) (suc i) y z h = getD-same l i y z (omega arith)
+pub get_d_same : {A : Type 0} (l : List A) (i : ℕ) (y z : A) → i < length l → get_or l i y ≡ get_or l i z
+get_d_same [] i y z h = absurd (omega arith)
+get_d_same (x ∷ l) zero y z h = refl
+get_d_same (x ∷ l) (suc i) y z h = get_d_same l i y z (omega arith)

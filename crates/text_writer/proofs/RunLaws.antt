@@ -10,14 +10,14 @@ use lib.ListN.{length, get_or, take, drop, length-take, drop_of_length-le}
 use lib.Seq.{drop-cons, get_or-take}
 use Rattle.units.specs.declared.FlipFlops.{FlipFlops}
 use Rattle.fields.specs.Bytes.{bytes}
-use Rattle.fields.specs.WrittenLines.{decimal, writtenLines}
+use Rattle.fields.specs.WrittenLines.{decimal, written_lines}
 use Rattle.fields.proofs.LinesWritten.{written-append}
-use Rattle.soc.specs.Record.{modulesOf, testsOf}
+use Rattle.soc.specs.Record.{modules_of, tests_of}
 use Rattle.soc.specs.declared.record.Test.{Test}
 use Rattle.soc.specs.declared.record.Module.{Module}
 use Rattle.soc.specs.declared.record.Soc.{Soc}
-use Rattle.text_lines.specs.LineFields.{lengthField, nameFields, totalFields, optionsFields, levelFields, testsFields, powerFields, testFields}
-use Rattle.text_writer.specs.WrittenSoc.{testLines, positionLines, moduleLinesOf, moduleLinesFrom, socLines, writtenSoc, spacedLengths}
+use Rattle.text_lines.specs.LineFields.{length_field, name_fields, total_fields, options_fields, level_fields, tests_fields, power_fields, test_fields}
+use Rattle.text_writer.specs.WrittenSoc.{test_lines, position_lines, module_lines_of, module_lines_from, soc_lines, written_soc, spaced_lengths}
 
 -- of the first n of a list, those from i on: the next before the others, and none at the end
 module _ {A : Type 0} (n : ℕ) (l : List A) (i : ℕ) where
@@ -29,55 +29,55 @@ module _ {A : Type 0} (n : ℕ) (l : List A) (i : ℕ) where
   pub rest-none : n ≤ i → drop i (take n l) ≡ []
   rest-none h = drop_of_length-le (take n l) {i = i} (rw length-take (omega arith))
 
-pub spaced-more : (n : ℕ) (l : List FlipFlops) (i : ℕ) (z : FlipFlops) → i < n → n ≤ length l
-    → spacedLengths (drop i (take n l)) ≡ bytes " " ++ decimal (get_or l i z).0 ++ spacedLengths (drop (i + 1) (take n l))
-unfolding spacedLengths lengthField
-spaced-more n l i z h k = ap spacedLengths (rest_more n l i z h k)
+pub spaced_more : (n : ℕ) (l : List FlipFlops) (i : ℕ) (z : FlipFlops) → i < n → n ≤ length l
+    → spaced_lengths (drop i (take n l)) ≡ bytes " " ++ decimal (get_or l i z).0 ++ spaced_lengths (drop (i + 1) (take n l))
+unfolding spaced_lengths length_field
+spaced_more n l i z h k = ap spaced_lengths (rest_more n l i z h k)
 
 -- the text of tests, the first of which has number i
 module _ (power : Bool) (m : ℕ) where
-  abbrev pub testsText : ℕ → List Test → List ℕ
-  testsText i ts = writtenLines (testLines power m i ts)
+  abbrev pub tests_text : ℕ → List Test → List ℕ
+  tests_text i ts = written_lines (test_lines power m i ts)
 
-  abbrev pub testText : ℕ → Test → List ℕ
-  testText i t = writtenLines (testFields m i t (cond power (powerFields t) []) ∷ [])
+  abbrev pub test_text : ℕ → Test → List ℕ
+  test_text i t = written_lines (test_fields m i t (cond power (power_fields t) []) ∷ [])
 
   pub tests-more : (n : ℕ) (l : List Test) (i : ℕ) (z : Test) → i < n → n ≤ length l
-      → testsText (i + 1) (drop i (take n l)) ≡ testText (i + 1) (get_or l i z) ++ testsText (i + 1 + 1) (drop (i + 1) (take n l))
-  unfolding testLines
+      → tests_text (i + 1) (drop i (take n l)) ≡ test_text (i + 1) (get_or l i z) ++ tests_text (i + 1 + 1) (drop (i + 1) (take n l))
+  unfolding test_lines
   tests-more n l i z h k =
       let t = get_or l i z in
       let e : suc (i + 1) ≡ i + 1 + 1 = omega arith in
-      ap (testsText (i + 1)) (rest_more n l i z h k)
-      ∙ written-append (testFields m (i + 1) t _ ∷ []) (testLines power m (suc (i + 1)) (drop (i + 1) (take n l)))
-      ∙ ap (λ j. testText (i + 1) t ++ testsText j (drop (i + 1) (take n l))) e
+      ap (tests_text (i + 1)) (rest_more n l i z h k)
+      ∙ written-append (test_fields m (i + 1) t _ ∷ []) (test_lines power m (suc (i + 1)) (drop (i + 1) (take n l)))
+      ∙ ap (λ j. test_text (i + 1) t ++ tests_text j (drop (i + 1) (take n l))) e
 
 -- the text of modules, the first of which has number m
 module _ (power xy : Bool) where
-  abbrev pub modulesText : ℕ → List Module → List ℕ
-  modulesText m ds = writtenLines (moduleLinesFrom power xy m ds)
+  abbrev pub modules_text : ℕ → List Module → List ℕ
+  modules_text m ds = written_lines (module_lines_from power xy m ds)
 
   pub modules-more : (n : ℕ) (l : List Module) (i : ℕ) (z : Module) → i < n → n ≤ length l
-      → modulesText i (drop i (take n l))
-      ≡ writtenLines (moduleLinesOf power xy i (get_or l i z)) ++ modulesText (i + 1) (drop (i + 1) (take n l))
-  unfolding moduleLinesFrom
+      → modules_text i (drop i (take n l))
+      ≡ written_lines (module_lines_of power xy i (get_or l i z)) ++ modules_text (i + 1) (drop (i + 1) (take n l))
+  unfolding module_lines_from
   modules-more n l i z h k =
       let d = get_or l i z in
       let e : suc i ≡ i + 1 = omega arith in
-      ap (modulesText i) (rest_more n l i z h k)
-      ∙ written-append (moduleLinesOf power xy i d) (moduleLinesFrom power xy (suc i) (drop (i + 1) (take n l)))
-      ∙ ap (λ j. writtenLines (moduleLinesOf power xy i d) ++ modulesText j (drop (i + 1) (take n l))) e
+      ap (modules_text i) (rest_more n l i z h k)
+      ∙ written-append (module_lines_of power xy i d) (module_lines_from power xy (suc i) (drop (i + 1) (take n l)))
+      ∙ ap (λ j. written_lines (module_lines_of power xy i d) ++ modules_text j (drop (i + 1) (take n l))) e
 
 -- the text of a module, and of the whole record, part by part
-pub module-text : (power xy : Bool) (m : ℕ) (d : Module) → writtenLines (moduleLinesOf power xy m d)
-    ≡ writtenLines (levelFields m d ∷ []) ++ (writtenLines (positionLines xy m d) ++ (writtenLines (testsFields m d ∷ []) ++ testsText power m 1 (testsOf d)))
-unfolding moduleLinesOf
-module-text power xy m d =
-    written-append (levelFields m d ∷ positionLines xy m d) (testsFields m d ∷ testLines power m 1 (testsOf d))
-    ∙ ap (λ t. t ++ writtenLines (testsFields m d ∷ testLines power m 1 (testsOf d))) (written-append (levelFields m d ∷ []) (positionLines xy m d))
-    ∙ append_assoc (writtenLines (levelFields m d ∷ [])) (writtenLines (positionLines xy m d)) (writtenLines (testsFields m d ∷ testLines power m 1 (testsOf d)))
-    ∙ ap (λ t. writtenLines (levelFields m d ∷ []) ++ (writtenLines (positionLines xy m d) ++ t)) (written-append (testsFields m d ∷ []) (testLines power m 1 (testsOf d)))
+pub module_text : (power xy : Bool) (m : ℕ) (d : Module) → written_lines (module_lines_of power xy m d)
+    ≡ written_lines (level_fields m d ∷ []) ++ (written_lines (position_lines xy m d) ++ (written_lines (tests_fields m d ∷ []) ++ tests_text power m 1 (tests_of d)))
+unfolding module_lines_of
+module_text power xy m d =
+    written-append (level_fields m d ∷ position_lines xy m d) (tests_fields m d ∷ test_lines power m 1 (tests_of d))
+    ∙ ap (λ t. t ++ written_lines (tests_fields m d ∷ test_lines power m 1 (tests_of d))) (written-append (level_fields m d ∷ []) (position_lines xy m d))
+    ∙ append_assoc (written_lines (level_fields m d ∷ [])) (written_lines (position_lines xy m d)) (written_lines (tests_fields m d ∷ test_lines power m 1 (tests_of d)))
+    ∙ ap (λ t. written_lines (level_fields m d ∷ []) ++ (written_lines (position_lines xy m d) ++ t)) (written-append (tests_fields m d ∷ []) (test_lines power m 1 (tests_of d)))
 
-pub soc-text : (s : Soc) → writtenSoc s ≡ writtenLines (nameFields s ∷ totalFields s ∷ optionsFields s ∷ []) ++ modulesText s.power s.xy 0 (modulesOf s)
-unfolding writtenSoc socLines
-soc-text s = written-append (nameFields s ∷ totalFields s ∷ optionsFields s ∷ []) (moduleLinesFrom s.power s.xy 0 (modulesOf s))
+pub soc-text : (s : Soc) → written_soc s ≡ written_lines (name_fields s ∷ total_fields s ∷ options_fields s ∷ []) ++ modules_text s.power s.xy 0 (modules_of s)
+unfolding written_soc soc_lines
+soc-text s = written-append (name_fields s ∷ total_fields s ∷ options_fields s ∷ []) (module_lines_from s.power s.xy 0 (modules_of s))

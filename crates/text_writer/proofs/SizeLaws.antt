@@ -10,171 +10,171 @@ use lib.IntN.{ℤ, pos, negsuc}
 use lib.ListN.{length, take, length-append, length-take}
 use Rattle.units.specs.declared.FlipFlops.{FlipFlops}
 use Rattle.units.proofs.TestLaws.{and_both}
-use Rattle.fields.proofs.SizeLaws.{size, decimal-size, joined-size, name-size}
-use Rattle.soc.specs.Limits.{textMax, lengthMax, positionMax, powerMax}
+use Rattle.fields.proofs.SizeLaws.{size, decimal_size, joined_size, name_size}
+use Rattle.soc.specs.Limits.{text_max, length_max, position_max, power_max}
 use Rattle.units.specs.Places.{all_of}
-use Rattle.soc.specs.Record.{name_of, modulesOf, chainsOf, testsOf}
-use Rattle.soc.specs.Rules.{isNotGiven, up_to, goodLength, goodPower, goodPosition, goodTest, goodModule, goodModules, goodSoc}
+use Rattle.soc.specs.Record.{name_of, modules_of, chains_of, tests_of}
+use Rattle.soc.specs.Rules.{is_not_given, up_to, good_length, good_power, good_position, good_test, good_module, good_modules, good_soc}
 use Rattle.soc.specs.declared.record.Test.{Test}
 use Rattle.soc.specs.declared.record.Module.{Module}
 use Rattle.soc.specs.declared.record.Soc.{Soc}
-use Rattle.text_lines.specs.LineFields.{givenField, lengthField, nameFields, totalFields, optionsFields, levelFields, positionFields, testsFields, powerFields, testFields}
-use Rattle.fields.specs.WrittenLines.{writtenLines}
-use Rattle.text_writer.specs.WrittenSoc.{testLines, positionLines, moduleLinesOf, moduleLinesFrom, socLines, writtenSoc}
+use Rattle.text_lines.specs.LineFields.{given_field, length_field, name_fields, total_fields, options_fields, level_fields, position_fields, tests_fields, power_fields, test_fields}
+use Rattle.fields.specs.WrittenLines.{written_lines}
+use Rattle.text_writer.specs.WrittenSoc.{test_lines, position_lines, module_lines_of, module_lines_from, soc_lines, written_soc}
 use Rattle.text_writer.proofs.FigureLaws.{flag-length}
-use Rattle.soc.proofs.GoodSocLaws.{TestFigures, test-figures, ModuleFigures, module-figures, SocFigures, soc-figures}
+use Rattle.soc.proofs.GoodSocLaws.{TestFigures, test-figures, ModuleFigures, module_figures, SocFigures, soc-figures}
 
 -- each line with two bytes for its end
-unfoldable pub linesSize : List (List (List ℕ)) → ℕ
-linesSize [] = 0
-linesSize (l ∷ ls) = size l + 1 + linesSize ls
+unfoldable pub lines_size : List (List (List ℕ)) → ℕ
+lines_size [] = 0
+lines_size (l ∷ ls) = size l + 1 + lines_size ls
 
-pub lines-size-append : (xs ys : List (List (List ℕ))) → linesSize (xs ++ ys) ≡ linesSize xs + linesSize ys
-unfolding linesSize
-lines-size-append [] ys = omega arith
-lines-size-append (l ∷ xs) ys = omega (arith, lines-size-append xs ys)
+pub lines_size_append : (xs ys : List (List (List ℕ))) → lines_size (xs ++ ys) ≡ lines_size xs + lines_size ys
+unfolding lines_size
+lines_size_append [] ys = omega arith
+lines_size_append (l ∷ xs) ys = omega (arith, lines_size_append xs ys)
 
-pub written-size : (ls : List (List (List ℕ))) → length (writtenLines ls) ≤ linesSize ls
-unfolding linesSize writtenLines
-written-size [] = omega arith
-written-size (l ∷ ls) = rw length-append (omega (arith, joined-size l, written-size ls))
+pub written_size : (ls : List (List (List ℕ))) → length (written_lines ls) ≤ lines_size ls
+unfolding lines_size written_lines
+written_size [] = omega arith
+written_size (l ∷ ls) = rw length-append (omega (arith, joined_size l, written_size ls))
 
 -- a figure that may be not given
-up-to-size : (k high : ℕ) (z : ℤ) → high < 10 ^ suc k → up_to high z ≡ true → length (givenField z) ≤ suc k
-unfolding givenField
-up-to-size k high (pos n) h e = decimal-size k n (omega (arith, leb-true n high e))
-up-to-size k high (negsuc n) h e = absurd (false≢true e)
+up_to_size : (k high : ℕ) (z : ℤ) → high < 10 ^ suc k → up_to high z ≡ true → length (given_field z) ≤ suc k
+unfolding given_field
+up_to_size k high (pos n) h e = decimal_size k n (omega (arith, leb-true n high e))
+up_to_size k high (negsuc n) h e = absurd (false≢true e)
 
-not-given-size : (z : ℤ) → isNotGiven z ≡ true → length (givenField z) ≤ 2
-unfolding givenField
-not-given-size (pos n) e = absurd (false≢true e)
-not-given-size (negsuc n) e = omega arith
+not_given_size : (z : ℤ) → is_not_given z ≡ true → length (given_field z) ≤ 2
+unfolding given_field
+not_given_size (pos n) e = absurd (false≢true e)
+not_given_size (negsuc n) e = omega arith
 
-power_size : (power : Bool) (w : ℤ) → goodPower power w ≡ true → length (givenField w) ≤ 8
-unfolding goodPower
-power_size power w h = go (isNotGiven w) power refl h
+power_size : (power : Bool) (w : ℤ) → good_power power w ≡ true → length (given_field w) ≤ 8
+unfolding good_power
+power_size power w h = go (is_not_given w) power refl h
   where
-    go : (t p : Bool) → isNotGiven w ≡ t → (t || p && up_to powerMax w) ≡ true → length (givenField w) ≤ 8
-    go true p e h = omega (arith, not-given-size w e)
-    go false p e h = up-to-size 7 powerMax w (omega arith) (and_both p (up_to powerMax w) h).1
+    go : (t p : Bool) → is_not_given w ≡ t → (t || p && up_to power_max w) ≡ true → length (given_field w) ≤ 8
+    go true p e h = omega (arith, not_given_size w e)
+    go false p e h = up_to_size 7 power_max w (omega arith) (and_both p (up_to power_max w) h).1
 
-position-size : (xy : Bool) (x y : ℤ) → goodPosition xy x y ≡ true → (length (givenField x) ≤ 7) × (length (givenField y) ≤ 7)
-unfolding goodPosition
-position-size xy x y h = go (isNotGiven x && isNotGiven y) refl h
+position_size : (xy : Bool) (x y : ℤ) → good_position xy x y ≡ true → (length (given_field x) ≤ 7) × (length (given_field y) ≤ 7)
+unfolding good_position
+position_size xy x y h = go (is_not_given x && is_not_given y) refl h
   where
-    go : (t : Bool) → (isNotGiven x && isNotGiven y) ≡ t → (t || xy && (up_to positionMax x && up_to positionMax y)) ≡ true → (length (givenField x) ≤ 7) × (length (givenField y) ≤ 7)
+    go : (t : Bool) → (is_not_given x && is_not_given y) ≡ t → (t || xy && (up_to position_max x && up_to position_max y)) ≡ true → (length (given_field x) ≤ 7) × (length (given_field y) ≤ 7)
     go true e h =
-        let n = and_both (isNotGiven x) (isNotGiven y) e in
-        (omega (arith, not-given-size x n.0), omega (arith, not-given-size y n.1))
+        let n = and_both (is_not_given x) (is_not_given y) e in
+        (omega (arith, not_given_size x n.0), omega (arith, not_given_size y n.1))
     go false e h =
-        let u = and_both (up_to positionMax x) (up_to positionMax y) (and_both xy (up_to positionMax x && up_to positionMax y) h).1 in
-        (up-to-size 6 positionMax x (omega arith) u.0, up-to-size 6 positionMax y (omega arith) u.1)
+        let u = and_both (up_to position_max x) (up_to position_max y) (and_both xy (up_to position_max x && up_to position_max y) h).1 in
+        (up_to_size 6 position_max x (omega arith) u.0, up_to_size 6 position_max y (omega arith) u.1)
 
-lengths-size : (fs : List FlipFlops) → all_of goodLength fs ≡ true → size (map lengthField fs) ≤ 5 * length fs
-unfolding size lengthField all_of
-lengths-size [] h = omega arith
-lengths-size (f ∷ fs) h =
-    let a = and_both (goodLength f) (all_of goodLength fs) h in
-    let n = leb-true f.0 lengthMax (and_both (leb 1 f.0) (leb f.0 lengthMax) a.0).1 in
-    omega (arith, decimal-size 3 f.0 (omega arith), lengths-size fs a.1)
+lengths_size : (fs : List FlipFlops) → all_of good_length fs ≡ true → size (map length_field fs) ≤ 5 * length fs
+unfolding size length_field all_of
+lengths_size [] h = omega arith
+lengths_size (f ∷ fs) h =
+    let a = and_both (good_length f) (all_of good_length fs) h in
+    let n = leb-true f.0 length_max (and_both (leb 1 f.0) (leb f.0 length_max) a.0).1 in
+    omega (arith, decimal_size 3 f.0 (omega arith), lengths_size fs a.1)
 
 front_length : {A : Type 0} (n : ℕ) (xs : List A) → length (take n xs) ≤ n
 front_length n xs = rw length-take (omega arith)
 
 -- the lines of a module
-level-size : (power xy : Bool) (m : ℕ) (d : Module) → m < 100 → ModuleFigures power xy m d → size (levelFields m d) ≤ 392
-unfolding levelFields size
-level-size power xy m d h f =
+level_size : (power xy : Bool) (m : ℕ) (d : Module) → m < 100 → ModuleFigures power xy m d → size (level_fields m d) ≤ 392
+unfolding level_fields size
+level_size power xy m d h f =
     omega (
       arith,
-      decimal-size 1 m (omega arith),
-      decimal-size 1 d.level (omega arith),
-      decimal-size 3 d.inputs (omega arith),
-      decimal-size 3 d.outputs (omega arith),
-      decimal-size 3 d.bidirs (omega arith),
-      decimal-size 1 d.chain_count (omega arith),
-      lengths-size (chainsOf d) f.lengths,
+      decimal_size 1 m (omega arith),
+      decimal_size 1 d.level (omega arith),
+      decimal_size 3 d.inputs (omega arith),
+      decimal_size 3 d.outputs (omega arith),
+      decimal_size 3 d.bidirs (omega arith),
+      decimal_size 1 d.chain_count (omega arith),
+      lengths_size (chains_of d) f.lengths,
       front_length d.chain_count d.chains,
     )
 
-position-lines-size : (power xy : Bool) (m : ℕ) (d : Module) → m < 100 → ModuleFigures power xy m d → linesSize (positionLines xy m d) ≤ 31
-unfolding positionLines positionFields linesSize size
-position-lines-size power true m d h f =
-    let p = position-size true d.x d.y f.position in
-    omega (arith, decimal-size 1 m (omega arith))
-position-lines-size power false m d h f = omega arith
+position-lines_size : (power xy : Bool) (m : ℕ) (d : Module) → m < 100 → ModuleFigures power xy m d → lines_size (position_lines xy m d) ≤ 31
+unfolding position_lines position_fields lines_size size
+position-lines_size power true m d h f =
+    let p = position_size true d.x d.y f.position in
+    omega (arith, decimal_size 1 m (omega arith))
+position-lines_size power false m d h f = omega arith
 
-tests-size : (power xy : Bool) (m : ℕ) (d : Module) → m < 100 → ModuleFigures power xy m d → size (testsFields m d) ≤ 23
-unfolding testsFields size
-tests-size power xy m d h f = omega (arith, decimal-size 1 m (omega arith), decimal-size 0 d.test_count (omega arith))
+tests_size : (power xy : Bool) (m : ℕ) (d : Module) → m < 100 → ModuleFigures power xy m d → size (tests_fields m d) ≤ 23
+unfolding tests_fields size
+tests_size power xy m d h f = omega (arith, decimal_size 1 m (omega arith), decimal_size 0 d.test_count (omega arith))
 
-power-fields-size : (power : Bool) (t : Test) → TestFigures power t → size (cond power (powerFields t) []) ≤ 15
-unfolding powerFields size
-power-fields-size true t f = omega (arith, power_size true t.power f.power-kept)
-power-fields-size false t f = omega arith
+power-fields_size : (power : Bool) (t : Test) → TestFigures power t → size (cond power (power_fields t) []) ≤ 15
+unfolding power_fields size
+power-fields_size true t f = omega (arith, power_size true t.power f.power-kept)
+power-fields_size false t f = omega arith
 
-test-size : (power : Bool) (m i : ℕ) (t : Test) → m < 100 → i < 100 → TestFigures power t → size (testFields m i t (cond power (powerFields t) [])) ≤ 71
-unfolding testFields size
-test-size power m i t h k f =
+test_size : (power : Bool) (m i : ℕ) (t : Test) → m < 100 → i < 100 → TestFigures power t → size (test_fields m i t (cond power (power_fields t) [])) ≤ 71
+unfolding test_fields size
+test_size power m i t h k f =
     omega (
       arith,
-      decimal-size 1 m (omega arith),
-      decimal-size 1 i (omega arith),
+      decimal_size 1 m (omega arith),
+      decimal_size 1 i (omega arith),
       flag-length t.scan_use,
       flag-length t.tam_use,
-      decimal-size 7 t.patterns (omega arith),
-      power-fields-size power t f,
+      decimal_size 7 t.patterns (omega arith),
+      power-fields_size power t f,
     )
 
-test-lines-size : (power : Bool) (m i : ℕ) (ts : List Test) → m < 100 → i + length ts < 100 → all_of (goodTest m power) ts ≡ true → linesSize (testLines power m i ts) ≤ 72 * length ts
-unfolding testLines linesSize all_of
-test-lines-size power m i [] h k e = omega arith
-test-lines-size power m i (t ∷ ts) h k e =
-    let a = and_both (goodTest m power t) (all_of (goodTest m power) ts) e in
-    omega (arith, test-size power m i t h (omega arith) (test-figures m power t a.0), test-lines-size power m (suc i) ts h (omega arith) a.1)
+test-lines_size : (power : Bool) (m i : ℕ) (ts : List Test) → m < 100 → i + length ts < 100 → all_of (good_test m power) ts ≡ true → lines_size (test_lines power m i ts) ≤ 72 * length ts
+unfolding test_lines lines_size all_of
+test-lines_size power m i [] h k e = omega arith
+test-lines_size power m i (t ∷ ts) h k e =
+    let a = and_both (good_test m power t) (all_of (good_test m power) ts) e in
+    omega (arith, test_size power m i t h (omega arith) (test-figures m power t a.0), test-lines_size power m (suc i) ts h (omega arith) a.1)
 
-pub module-size : (power xy : Bool) (m : ℕ) (d : Module) → m < 100 → ModuleFigures power xy m d → linesSize (moduleLinesOf power xy m d) ≤ 1024
-unfolding moduleLinesOf linesSize
-module-size power xy m d h f =
+pub module_size : (power xy : Bool) (m : ℕ) (d : Module) → m < 100 → ModuleFigures power xy m d → lines_size (module_lines_of power xy m d) ≤ 1024
+unfolding module_lines_of lines_size
+module_size power xy m d h f =
     let n = front_length d.test_count d.tests in
-    rw lines-size-append (omega (
+    rw lines_size_append (omega (
       arith,
-      level-size power xy m d h f,
-      position-lines-size power xy m d h f,
-      tests-size power xy m d h f,
-      test-lines-size power m 1 (testsOf d) h (omega arith) f.tests,
+      level_size power xy m d h f,
+      position-lines_size power xy m d h f,
+      tests_size power xy m d h f,
+      test-lines_size power m 1 (tests_of d) h (omega arith) f.tests,
     ))
 
-modules-size : (power xy : Bool) (m last : ℕ) (ds : List Module) → m + length ds < 100 → goodModules power xy m last ds ≡ true → linesSize (moduleLinesFrom power xy m ds) ≤ 1024 * length ds
-unfolding moduleLinesFrom linesSize goodModules
-modules-size power xy m last [] h e = omega arith
-modules-size power xy m last (d ∷ ds) h e =
-    let a = and_both (goodModule power xy m last d) (goodModules power xy (suc m) d.level ds) e in
-    rw lines-size-append (omega (
+modules_size : (power xy : Bool) (m last : ℕ) (ds : List Module) → m + length ds < 100 → good_modules power xy m last ds ≡ true → lines_size (module_lines_from power xy m ds) ≤ 1024 * length ds
+unfolding module_lines_from lines_size good_modules
+modules_size power xy m last [] h e = omega arith
+modules_size power xy m last (d ∷ ds) h e =
+    let a = and_both (good_module power xy m last d) (good_modules power xy (suc m) d.level ds) e in
+    rw lines_size_append (omega (
       arith,
-      module-size power xy m d (omega arith) (module-figures power xy m last d a.0),
-      modules-size power xy (suc m) d.level ds (omega arith) a.1,
+      module_size power xy m d (omega arith) (module_figures power xy m last d a.0),
+      modules_size power xy (suc m) d.level ds (omega arith) a.1,
     ))
 
-head-size : (s : Soc) → SocFigures s → linesSize (nameFields s ∷ totalFields s ∷ optionsFields s ∷ []) ≤ 100
-unfolding nameFields totalFields optionsFields linesSize size
-head-size s f =
+head_size : (s : Soc) → SocFigures s → lines_size (name_fields s ∷ total_fields s ∷ options_fields s ∷ []) ≤ 100
+unfolding name_fields total_fields options_fields lines_size size
+head_size s f =
     omega (
       arith,
-      name-size (name_of s) f.name,
-      decimal-size 1 s.module_count (omega arith),
+      name_size (name_of s) f.name,
+      decimal_size 1 s.module_count (omega arith),
       flag-length s.power,
       flag-length s.xy,
     )
 
-pub written-short : (s : Soc) → goodSoc s ≡ true → length (writtenSoc s) ≤ textMax
-unfolding writtenSoc socLines linesSize
+pub written-short : (s : Soc) → good_soc s ≡ true → length (written_soc s) ≤ text_max
+unfolding written_soc soc_lines lines_size
 written-short s h =
     let f = soc-figures s h in
     let n = front_length s.module_count s.modules in
     omega (
       arith,
-      written-size (socLines s),
-      head-size s f,
-      modules-size s.power s.xy 0 0 (modulesOf s) (omega arith) f.modules,
+      written_size (soc_lines s),
+      head_size s f,
+      modules_size s.power s.xy 0 0 (modules_of s) (omega arith) f.modules,
     )

@@ -2,11 +2,11 @@
 use Prim.Native.Nat.{ℕ}
 use mathlib.Core.List.{List}
 use native.Mathlib.Omega.{arith}
-use Rattle.buffer.proofs.WriterAnswerLaws.{Fits, unless-fits}
-use Rattle.soc.specs.Rules.{goodSoc}
+use Rattle.buffer.proofs.WriterAnswerLaws.{Fits, unless_fits}
+use Rattle.soc.specs.Rules.{good_soc}
 use Rattle.soc.specs.declared.record.Soc.{Soc}
-use Rattle.text_writer.specs.WrittenSoc.{writtenSoc, writeAnswer}
+use Rattle.text_writer.specs.WrittenSoc.{written_soc, write_answer}
 
-pub write-fits : (s : Soc) (buf : List ℕ) → Fits buf (writeAnswer s buf)
-unfolding writeAnswer
-write-fits s buf = unless-fits 14 (writtenSoc s) buf (omega arith) (goodSoc s)
+pub write_fits : (s : Soc) (buf : List ℕ) → Fits buf (write_answer s buf)
+unfolding write_answer
+write_fits s buf = unless_fits 14 (written_soc s) buf (omega arith) (good_soc s)

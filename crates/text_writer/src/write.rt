@@ -1,9 +1,9 @@
 // A record's written form at the front of a lent buffer, or the refusal: 14, then 11.
 ghost use Rattle.std.specs.Prelude.{◌≡◌, true, ◌+◌, ◌≤◌, length, take};
-ghost use Rattle.soc.specs.Limits.{modulesMax, chainsMax, testsMax};
-ghost use Rattle.soc.specs.Rules.{goodSoc};
-ghost use Rattle.fields.specs.WrittenLines.{writtenLines};
-ghost use Rattle.text_writer.specs.WrittenSoc.{testLines, moduleLinesOf, moduleLinesFrom, writtenSoc, writeAnswer, writeLeaves, Countable};
+ghost use Rattle.soc.specs.Limits.{modules_max, chains_max, tests_max};
+ghost use Rattle.soc.specs.Rules.{good_soc};
+ghost use Rattle.fields.specs.WrittenLines.{written_lines};
+ghost use Rattle.text_writer.specs.WrittenSoc.{test_lines, module_lines_of, module_lines_from, written_soc, write_answer, write_leaves, Countable};
 ghost use Rattle.buffer.specs.Puts.{Put};
 
 use super::write_lines::{
@@ -14,8 +14,8 @@ use soc::{Module, Soc, TEXT_MAX};
 
 // The lines of the first n tests of module m.
 fn put_tests(buf: &mut [u8], at: usize, m: u64, d: Module, n: usize, power: bool) -> usize
-    requires { (n ≤ testsMax) × (at + length (writtenLines (testLines power m 1 (take n d.tests))) ≤ length buf.old) }
-    ensures { Put (writtenLines (testLines power m 1 (take n d.tests))) at buf.old buf.new result }
+    requires { (n ≤ tests_max) × (at + length (written_lines (test_lines power m 1 (take n d.tests))) ≤ length buf.old) }
+    ensures { Put (written_lines (test_lines power m 1 (take n d.tests))) at buf.old buf.new result }
 {
     let mut e = at;
     let mut i: usize = 0;
@@ -28,8 +28,8 @@ fn put_tests(buf: &mut [u8], at: usize, m: u64, d: Module, n: usize, power: bool
 }
 
 fn put_module(buf: &mut [u8], at: usize, m: u64, d: Module, power: bool, xy: bool) -> usize
-    requires { (d.chain_count ≤ chainsMax) × (d.test_count ≤ testsMax) × (at + length (writtenLines (moduleLinesOf power xy m d)) ≤ length buf.old) }
-    ensures { Put (writtenLines (moduleLinesOf power xy m d)) at buf.old buf.new result }
+    requires { (d.chain_count ≤ chains_max) × (d.test_count ≤ tests_max) × (at + length (written_lines (module_lines_of power xy m d)) ≤ length buf.old) }
+    ensures { Put (written_lines (module_lines_of power xy m d)) at buf.old buf.new result }
 {
     let n = d.test_count;
     let a = put_level_line(&mut *buf, at, m, d);
@@ -40,8 +40,8 @@ fn put_module(buf: &mut [u8], at: usize, m: u64, d: Module, power: bool, xy: boo
 
 // The lines of the first n modules.
 fn put_modules(buf: &mut [u8], at: usize, s: Soc, n: usize) -> usize
-    requires { (n ≤ modulesMax) × (n ≤ s.module_count) × Countable s × (at + length (writtenLines (moduleLinesFrom s.power s.xy 0 (take n s.modules))) ≤ length buf.old) }
-    ensures { Put (writtenLines (moduleLinesFrom s.power s.xy 0 (take n s.modules))) at buf.old buf.new result }
+    requires { (n ≤ modules_max) × (n ≤ s.module_count) × Countable s × (at + length (written_lines (module_lines_from s.power s.xy 0 (take n s.modules))) ≤ length buf.old) }
+    ensures { Put (written_lines (module_lines_from s.power s.xy 0 (take n s.modules))) at buf.old buf.new result }
 {
     let power = s.power;
     let xy = s.xy;
@@ -57,8 +57,8 @@ fn put_modules(buf: &mut [u8], at: usize, s: Soc, n: usize) -> usize
 
 // The written form of a good record.
 fn put_soc(buf: &mut [u8], s: Soc) -> usize
-    requires { (goodSoc s ≡ true) × (length (writtenSoc s) ≤ length buf.old) }
-    ensures { Put (writtenSoc s) 0 buf.old buf.new result }
+    requires { (good_soc s ≡ true) × (length (written_soc s) ≤ length buf.old) }
+    ensures { Put (written_soc s) 0 buf.old buf.new result }
 {
     let n = s.module_count;
     let a = put_head(&mut *buf, 0, s);
@@ -66,7 +66,7 @@ fn put_soc(buf: &mut [u8], s: Soc) -> usize
 }
 
 pub fn write_soc(s: Soc, buf: &mut [u8]) -> Written
-    ensures { (result ≡ writeAnswer s buf.old) × (buf.new ≡ writeLeaves s buf.old) }
+    ensures { (result ≡ write_answer s buf.old) × (buf.new ≡ write_leaves s buf.old) }
 {
     if !soc::is_good(s) {
         return buffer::refused_write(14);

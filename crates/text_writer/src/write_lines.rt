@@ -1,10 +1,10 @@
 // The lines of a record put into a buffer, each with its figures, single spaces and LF.
 ghost use Rattle.std.specs.Prelude.{◌+◌, ◌≤◌, cond, [], ◌∷◌, length, take};
-ghost use Rattle.soc.specs.Limits.{chainsMax};
-ghost use Rattle.text_lines.specs.LineFields.{nameFields, totalFields, optionsFields, levelFields, testsFields, powerFields, testFields};
-ghost use Rattle.fields.specs.Names.{nameMax};
-ghost use Rattle.fields.specs.WrittenLines.{writtenLines};
-ghost use Rattle.text_writer.specs.WrittenSoc.{positionLines, spacedLengths, powerEnd};
+ghost use Rattle.soc.specs.Limits.{chains_max};
+ghost use Rattle.text_lines.specs.LineFields.{name_fields, total_fields, options_fields, level_fields, tests_fields, power_fields, test_fields};
+ghost use Rattle.fields.specs.Names.{name_max};
+ghost use Rattle.fields.specs.WrittenLines.{written_lines};
+ghost use Rattle.text_writer.specs.WrittenSoc.{position_lines, spaced_lengths, power_end};
 ghost use Rattle.buffer.specs.Puts.{Put};
 
 use super::put::{put_flag, put_given};
@@ -12,8 +12,8 @@ use soc::{Module, Soc, Test};
 
 // `SocName` name, `TotalModules` n, `Options Power` 0/1 `XY` 0/1.
 pub(crate) fn put_head(buf: &mut [u8], at: usize, s: Soc) -> usize
-    requires { (s.name_len ≤ nameMax) × (at + length (writtenLines (nameFields s ∷ totalFields s ∷ optionsFields s ∷ [])) ≤ length buf.old) }
-    ensures { Put (writtenLines (nameFields s ∷ totalFields s ∷ optionsFields s ∷ [])) at buf.old buf.new result }
+    requires { (s.name_len ≤ name_max) × (at + length (written_lines (name_fields s ∷ total_fields s ∷ options_fields s ∷ [])) ≤ length buf.old) }
+    ensures { Put (written_lines (name_fields s ∷ total_fields s ∷ options_fields s ∷ [])) at buf.old buf.new result }
 {
     let n = s.name_len;
     let name = s.name;
@@ -27,8 +27,8 @@ pub(crate) fn put_head(buf: &mut [u8], at: usize, s: Soc) -> usize
 
 // The first n lengths, each behind a space.
 fn put_lengths(buf: &mut [u8], at: usize, d: Module, n: usize) -> usize
-    requires { (n ≤ chainsMax) × (at + length (spacedLengths (take n d.chains)) ≤ length buf.old) }
-    ensures { Put (spacedLengths (take n d.chains)) at buf.old buf.new result }
+    requires { (n ≤ chains_max) × (at + length (spaced_lengths (take n d.chains)) ≤ length buf.old) }
+    ensures { Put (spaced_lengths (take n d.chains)) at buf.old buf.new result }
 {
     let mut e = at;
     let mut i: usize = 0;
@@ -41,8 +41,8 @@ fn put_lengths(buf: &mut [u8], at: usize, d: Module, n: usize) -> usize
 }
 
 pub(crate) fn put_level_line(buf: &mut [u8], at: usize, m: u64, d: Module) -> usize
-    requires { (d.chain_count ≤ chainsMax) × (at + length (writtenLines (levelFields m d ∷ [])) ≤ length buf.old) }
-    ensures { Put (writtenLines (levelFields m d ∷ [])) at buf.old buf.new result }
+    requires { (d.chain_count ≤ chains_max) × (at + length (written_lines (level_fields m d ∷ [])) ≤ length buf.old) }
+    ensures { Put (written_lines (level_fields m d ∷ [])) at buf.old buf.new result }
 {
     let n = d.chain_count;
     let a = fields::put_key(&mut *buf, at, b"Module ", m);
@@ -58,8 +58,8 @@ pub(crate) fn put_level_line(buf: &mut [u8], at: usize, m: u64, d: Module) -> us
 
 // With XY 1, `Module` m `X` x `Y` y.
 pub(crate) fn put_position_line(buf: &mut [u8], at: usize, m: u64, d: Module, xy: bool) -> usize
-    requires { at + length (writtenLines (positionLines xy m d)) ≤ length buf.old }
-    ensures { Put (writtenLines (positionLines xy m d)) at buf.old buf.new result }
+    requires { at + length (written_lines (position_lines xy m d)) ≤ length buf.old }
+    ensures { Put (written_lines (position_lines xy m d)) at buf.old buf.new result }
 {
     if !xy {
         return at;
@@ -72,8 +72,8 @@ pub(crate) fn put_position_line(buf: &mut [u8], at: usize, m: u64, d: Module, xy
 
 // `Module` m `TotalTests` t.
 pub(crate) fn put_tests_line(buf: &mut [u8], at: usize, m: u64, d: Module) -> usize
-    requires { at + length (writtenLines (testsFields m d ∷ [])) ≤ length buf.old }
-    ensures { Put (writtenLines (testsFields m d ∷ [])) at buf.old buf.new result }
+    requires { at + length (written_lines (tests_fields m d ∷ [])) ≤ length buf.old }
+    ensures { Put (written_lines (tests_fields m d ∷ [])) at buf.old buf.new result }
 {
     let a = fields::put_key(&mut *buf, at, b"Module ", m);
     let b = fields::put_key(&mut *buf, a, b" TotalTests ", d.test_count as u64);
@@ -82,8 +82,8 @@ pub(crate) fn put_tests_line(buf: &mut [u8], at: usize, m: u64, d: Module) -> us
 
 // With Power 1, `Power` w; and the line's end.
 fn put_power(buf: &mut [u8], at: usize, t: Test, power: bool) -> usize
-    requires { at + length (powerEnd power t) ≤ length buf.old }
-    ensures { Put (powerEnd power t) at buf.old buf.new result }
+    requires { at + length (power_end power t) ≤ length buf.old }
+    ensures { Put (power_end power t) at buf.old buf.new result }
 {
     if !power {
         return buffer::put_bytes(&mut *buf, at, b"\n");
@@ -101,8 +101,8 @@ pub(crate) fn put_test_line(
     t: Test,
     power: bool,
 ) -> usize
-    requires { at + length (writtenLines (testFields m i t (cond power (powerFields t) []) ∷ [])) ≤ length buf.old }
-    ensures { Put (writtenLines (testFields m i t (cond power (powerFields t) []) ∷ [])) at buf.old buf.new result }
+    requires { at + length (written_lines (test_fields m i t (cond power (power_fields t) []) ∷ [])) ≤ length buf.old }
+    ensures { Put (written_lines (test_fields m i t (cond power (power_fields t) []) ∷ [])) at buf.old buf.new result }
 {
     let a = fields::put_key(&mut *buf, at, b"Module ", m);
     let b = fields::put_key(&mut *buf, a, b" Test ", i);

@@ -11,13 +11,13 @@ use lib.ListN.{length, get_or, take, drop, set, replicate, length-take, length-a
 use lib.Seq.{drop-cons, get_or-take, take-append_seam, drop-append_seam, set-append_seam}
 use Rattle.units.specs.Places.{all_of, any_of, padded}
 
-pub all-step : {A : Type 0} (p : A → Bool) (l : List A) (i : ℕ) (d : A) → i < length l → p (get_or l i d) ≡ true → all_of p (drop i l) ≡ all_of p (drop (i + 1) l)
+pub all_step : {A : Type 0} (p : A → Bool) (l : List A) (i : ℕ) (d : A) → i < length l → p (get_or l i d) ≡ true → all_of p (drop i l) ≡ all_of p (drop (i + 1) l)
 unfolding all_of
-all-step p l i d h e = rw (add-one, drop-cons l i d) (simp e)
+all_step p l i d h e = rw (add-one, drop-cons l i d) (simp e)
 
-pub all-fails : {A : Type 0} (p : A → Bool) (l : List A) (i : ℕ) (d : A) → i < length l → p (get_or l i d) ≡ false → all_of p (drop i l) ≡ false
+pub all_fails : {A : Type 0} (p : A → Bool) (l : List A) (i : ℕ) (d : A) → i < length l → p (get_or l i d) ≡ false → all_of p (drop i l) ≡ false
 unfolding all_of
-all-fails p l i d h e = rw (drop-cons l i d) (simp e)
+all_fails p l i d h e = rw (drop-cons l i d) (simp e)
 
 pub all_end : {A : Type 0} (p : A → Bool) (l : List A) (i : ℕ) → length l ≤ i → all_of p (drop i l) ≡ true
 unfolding all_of
@@ -31,11 +31,11 @@ pub front_ends : {A : Type 0} (n : ℕ) (l : List A) (i : ℕ) → (n ≤ i) ⊎
 front_ends n l i (inl h) = simp length-take (omega arith)
 front_ends n l i (inr h) = simp length-take (omega arith)
 
-pub all-front-step : {A : Type 0} (p : A → Bool) (n : ℕ) (l : List A) (i : ℕ) (d : A) → i < n → i < length l → p (get_or l i d) ≡ true → all_of p (drop i (take n l)) ≡ all_of p (drop (i + 1) (take n l))
-all-front-step p n l i d h k e = all-step p (take n l) i d (front-has n l i h k) (rw get_or-take e)
+pub all-front_step : {A : Type 0} (p : A → Bool) (n : ℕ) (l : List A) (i : ℕ) (d : A) → i < n → i < length l → p (get_or l i d) ≡ true → all_of p (drop i (take n l)) ≡ all_of p (drop (i + 1) (take n l))
+all-front_step p n l i d h k e = all_step p (take n l) i d (front-has n l i h k) (rw get_or-take e)
 
-pub all-front-fails : {A : Type 0} (p : A → Bool) (n : ℕ) (l : List A) (i : ℕ) (d : A) → i < n → i < length l → p (get_or l i d) ≡ false → all_of p (drop i (take n l)) ≡ false
-all-front-fails p n l i d h k e = all-fails p (take n l) i d (front-has n l i h k) (rw get_or-take e)
+pub all-front_fails : {A : Type 0} (p : A → Bool) (n : ℕ) (l : List A) (i : ℕ) (d : A) → i < n → i < length l → p (get_or l i d) ≡ false → all_of p (drop i (take n l)) ≡ false
+all-front_fails p n l i d h k e = all_fails p (take n l) i d (front-has n l i h k) (rw get_or-take e)
 
 pub all-front-end : {A : Type 0} (p : A → Bool) (n : ℕ) (l : List A) (i : ℕ) → (n ≤ i) ⊎ (length l ≤ i) → all_of p (drop i (take n l)) ≡ true
 all-front-end p n l i h = all_end p (take n l) i (front_ends n l i h)
@@ -53,18 +53,18 @@ pub any_found : {A : Type 0} (p : A → Bool) (l : List A) (i : ℕ) (d : A) →
 unfolding any_of
 any_found p l i d h e = rw (drop-cons l i d) (simp e)
 
-pub any-end : {A : Type 0} (p : A → Bool) (l : List A) (i : ℕ) → length l ≤ i → any_of p (drop i l) ≡ false
+pub any_end : {A : Type 0} (p : A → Bool) (l : List A) (i : ℕ) → length l ≤ i → any_of p (drop i l) ≡ false
 unfolding any_of
-any-end p l i h = rw (drop_of_length-le l h)
+any_end p l i h = rw (drop_of_length-le l h)
 
-pub any-front-step : {A : Type 0} (p : A → Bool) (n : ℕ) (l : List A) (i : ℕ) (d : A) → i < n → i < length l → p (get_or l i d) ≡ false → any_of p (drop i (take n l)) ≡ any_of p (drop (i + 1) (take n l))
-any-front-step p n l i d h k e = any_step p (take n l) i d (front-has n l i h k) (rw get_or-take e)
+pub any_front_step : {A : Type 0} (p : A → Bool) (n : ℕ) (l : List A) (i : ℕ) (d : A) → i < n → i < length l → p (get_or l i d) ≡ false → any_of p (drop i (take n l)) ≡ any_of p (drop (i + 1) (take n l))
+any_front_step p n l i d h k e = any_step p (take n l) i d (front-has n l i h k) (rw get_or-take e)
 
-pub any-front-found : {A : Type 0} (p : A → Bool) (n : ℕ) (l : List A) (i : ℕ) (d : A) → i < n → i < length l → p (get_or l i d) ≡ true → any_of p (drop i (take n l)) ≡ true
-any-front-found p n l i d h k e = any_found p (take n l) i d (front-has n l i h k) (rw get_or-take e)
+pub any_front_found : {A : Type 0} (p : A → Bool) (n : ℕ) (l : List A) (i : ℕ) (d : A) → i < n → i < length l → p (get_or l i d) ≡ true → any_of p (drop i (take n l)) ≡ true
+any_front_found p n l i d h k e = any_found p (take n l) i d (front-has n l i h k) (rw get_or-take e)
 
-pub any-front-end : {A : Type 0} (p : A → Bool) (n : ℕ) (l : List A) (i : ℕ) → (n ≤ i) ⊎ (length l ≤ i) → any_of p (drop i (take n l)) ≡ false
-any-front-end p n l i h = any-end p (take n l) i (front_ends n l i h)
+pub any_front_end : {A : Type 0} (p : A → Bool) (n : ℕ) (l : List A) (i : ℕ) → (n ≤ i) ⊎ (length l ≤ i) → any_of p (drop i (take n l)) ≡ false
+any_front_end p n l i h = any_end p (take n l) i (front_ends n l i h)
 
 pub padded-none : {A : Type 0} (n : ℕ) (z : A) → padded n z [] ≡ replicate n z
 unfolding padded

@@ -2,9 +2,9 @@
 -- Every such promise has its uniqueness by this one law, at the type of its answer. Assumes nothing.
 use mathlib.Core.Path.{◌≡◌, sym, ◌∙◌}
 
-pub answer-unique : {A : Type 0} {definition a b : A} → a ≡ definition → b ≡ definition → a ≡ b
-answer-unique p q = p ∙ sym q
+pub answer_unique : {A : Type 0} {definition a b : A} → a ≡ definition → b ≡ definition → a ≡ b
+answer_unique p q = p ∙ sym q
 
 -- the same of an answer together with the bytes that a lent buffer holds afterwards
-pub answer-and-bytes-unique : {A B : Type 0} {answer a b : A} {bytes x y : B} → (a ≡ answer) × (x ≡ bytes) → (b ≡ answer) × (y ≡ bytes) → (a ≡ b) × (x ≡ y)
-answer-and-bytes-unique p q = (answer-unique p.0 q.0, answer-unique p.1 q.1)
+pub answer_and_bytes_unique : {A B : Type 0} {answer a b : A} {bytes x y : B} → (a ≡ answer) × (x ≡ bytes) → (b ≡ answer) × (y ≡ bytes) → (a ≡ b) × (x ≡ y)
+answer_and_bytes_unique p q = (answer_unique p.0 q.0, answer_unique p.1 q.1)

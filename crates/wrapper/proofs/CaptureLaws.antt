@@ -7,85 +7,85 @@ use mathlib.Core.List.{List, [], ◌∷◌}
 use native.Mathlib.Omega.{arith}
 use native.Mathlib.Nat.{add-mul, one-mul, mul-le-mul_right}
 use lib.Dec.{leb, ltb}
-use Rattle.soc.specs.Record.{testsOf}
-use Rattle.soc.specs.Rules.{goodSoc}
+use Rattle.soc.specs.Record.{tests_of}
+use Rattle.soc.specs.Rules.{good_soc}
 use Rattle.soc.specs.declared.record.Test.{Test}
 use Rattle.soc.specs.declared.record.Module.{Module}
 use Rattle.soc.specs.declared.record.Soc.{Soc}
-use Rattle.wrapper_fit.specs.Maxima.{widthMax}
-use Rattle.wrapper_scans.specs.TestTimes.{scanIn, scanOut, testCycles, testTime}
-use Rattle.wrapper_scans.specs.Asked.{moduleAt, askedModule}
-use Rattle.wrapper_times.specs.Times.{sumTimes, figure, moduleBest}
-use Rattle.wrapper_times.specs.TimeAnswers.{moduleTimeAnswer}
+use Rattle.wrapper_fit.specs.Maxima.{width_max}
+use Rattle.wrapper_scans.specs.TestTimes.{scan_in, scan_out, test_cycles, test_time}
+use Rattle.wrapper_scans.specs.Asked.{module_at, asked_module}
+use Rattle.wrapper_times.specs.Times.{sum_times, figure, module_best}
+use Rattle.wrapper_times.specs.TimeAnswers.{module_time_answer}
 use Rattle.wrapper_times.proofs.BestLaws.{time-at, time-wires, time-least}
-use Rattle.wrapper_layout.specs.LayoutAnswers.{layoutOf, layoutAnswer}
-use Rattle.wrapper_layout.specs.Laid.{testAt}
+use Rattle.wrapper_layout.specs.LayoutAnswers.{layout_of, layout_answer}
+use Rattle.wrapper_layout.specs.Laid.{test_at}
 use Rattle.wrapper.proofs.WrapperAnswerLaws.{laid_out, timed}
 
 -- with one capture cycle, "a test of p patterns takes (1 + max(si, so)) × p + min(si, so) cycles"
-pub one-capture : (si so p : ℕ) → testCycles 1 si so p ≡ (1 + max si so) * p + min si so
-unfolding testCycles
+pub one-capture : (si so p : ℕ) → test_cycles 1 si so p ≡ (1 + max si so) * p + min si so
+unfolding test_cycles
 one-capture si so p = refl
 
 -- and "Layout and time: 14, 7, 13."
 pub one-capture-asked : {A : Type 0} (s : Soc) (m w : ℕ) (f : ℕ → A) (g : Module → A) →
-    let there = cond (ltb m s.module_count) (g (moduleAt s m)) (f 13) in
-    askedModule s m w 1 f g ≡ cond (goodSoc s) (cond (leb 1 w && leb w widthMax) there (f 7)) (f 14)
-unfolding askedModule
+    let there = cond (ltb m s.module_count) (g (module_at s m)) (f 13) in
+    asked_module s m w 1 f g ≡ cond (good_soc s) (cond (leb 1 w && leb w width_max) there (f 7)) (f 14)
+unfolding asked_module
 one-capture-asked s m w f g = refl
 
 -- one capture cycle more adds a cycle for each pattern
-cycles-more : (c si so p : ℕ) → testCycles (c + 1) si so p ≡ testCycles c si so p + p
-unfolding testCycles
+cycles-more : (c si so p : ℕ) → test_cycles (c + 1) si so p ≡ test_cycles c si so p + p
+unfolding test_cycles
 cycles-more c si so p =
     let e : c + 1 + max si so ≡ c + max si so + 1 = omega arith in
     let f : (c + 1 + max si so) * p ≡ (c + max si so) * p + p = rw e (add-mul (c + max si so) 1 p ∙ rw (one-mul p)) in
     omega arith
 
-pub test-time-more : (c : ℕ) (d : Module) (k : ℕ) (t : Test) → testTime (c + 1) d k t ≡ testTime c d k t + t.patterns
-unfolding testTime
-test-time-more c d k t = cycles-more c (scanIn d t.scan_use k) (scanOut d t.scan_use k) t.patterns
+pub test-time-more : (c : ℕ) (d : Module) (k : ℕ) (t : Test) → test_time (c + 1) d k t ≡ test_time c d k t + t.patterns
+unfolding test_time
+test-time-more c d k t = cycles-more c (scan_in d t.scan_use k) (scan_out d t.scan_use k) t.patterns
 
 -- no time falls as the capture cycles become more: of a test,
-cycles-rise : (c e si so p : ℕ) → c ≤ e → testCycles c si so p ≤ testCycles e si so p
-unfolding testCycles
-cycles-rise c e si so p h =
+cycles_rise : (c e si so p : ℕ) → c ≤ e → test_cycles c si so p ≤ test_cycles e si so p
+unfolding test_cycles
+cycles_rise c e si so p h =
     let l : (c + max si so) * p ≤ (e + max si so) * p = mul-le-mul_right p (omega arith) in
     omega arith
 
 module _ {c e : ℕ} (h : c ≤ e) (d : Module) where
-  pub test-time-rises : (k : ℕ) (t : Test) → testTime c d k t ≤ testTime e d k t
-  unfolding testTime
-  test-time-rises k t = cycles-rise c e (scanIn d t.scan_use k) (scanOut d t.scan_use k) t.patterns h
+  pub test-time_rises : (k : ℕ) (t : Test) → test_time c d k t ≤ test_time e d k t
+  unfolding test_time
+  test-time_rises k t = cycles_rise c e (scan_in d t.scan_use k) (scan_out d t.scan_use k) t.patterns h
 
-  sum-rises : (k : ℕ) (ts : List Test) → sumTimes c d k ts ≤ sumTimes e d k ts
-  unfolding sumTimes
-  sum-rises k [] = omega arith
-  sum-rises k (t ∷ ts) = go t.tam_use (test-time-rises k t) (sum-rises k ts)
+  sum_rises : (k : ℕ) (ts : List Test) → sum_times c d k ts ≤ sum_times e d k ts
+  unfolding sum_times
+  sum_rises k [] = omega arith
+  sum_rises k (t ∷ ts) = go t.tam_use (test-time_rises k t) (sum_rises k ts)
     where
-      go : (b : Bool) → testTime c d k t ≤ testTime e d k t → sumTimes c d k ts ≤ sumTimes e d k ts
-          → cond b (testTime c d k t + sumTimes c d k ts) (sumTimes c d k ts)
-          ≤ cond b (testTime e d k t + sumTimes e d k ts) (sumTimes e d k ts)
+      go : (b : Bool) → test_time c d k t ≤ test_time e d k t → sum_times c d k ts ≤ sum_times e d k ts
+          → cond b (test_time c d k t + sum_times c d k ts) (sum_times c d k ts)
+          ≤ cond b (test_time e d k t + sum_times e d k ts) (sum_times e d k ts)
       go true l m = omega arith
       go false l m = m
 
   -- of a module at one width,
-  pub figure-rises : (k : ℕ) → figure c d k ≤ figure e d k
+  pub figure_rises : (k : ℕ) → figure c d k ≤ figure e d k
   unfolding figure
-  figure-rises k = sum-rises k (testsOf d)
+  figure_rises k = sum_rises k (tests_of d)
 
   -- and of a module on a bus of width w
-  pub time-rises : (w : ℕ) → 1 ≤ w → (moduleBest c d w).cycles ≤ (moduleBest e d w).cycles
-  time-rises w l =
-      let u = (moduleBest e d w).wires in
+  pub time_rises : (w : ℕ) → 1 ≤ w → (module_best c d w).cycles ≤ (module_best e d w).cycles
+  time_rises w l =
+      let u = (module_best e d w).wires in
       let b = time-wires e d w l in
-      rw (← time-at e d w l) (omega (arith, time-least c d w l u b.0 b.1, figure-rises u))
+      rw (← time-at e d w l) (omega (arith, time-least c d w l u b.0 b.1, figure_rises u))
 
 -- of the answers that are not refused: all but the cycles is the same at each number of capture cycles,
-pub answer-layout-same : (s : Soc) (m i w c e : ℕ) → (layoutAnswer s m i w c).refusal.number ≡ 0
-    → (layoutAnswer s m i w e).refusal.number ≡ 0 →
-    let l = layoutAnswer s m i w c in
-    layoutAnswer s m i w e
+pub answer_layout_same : (s : Soc) (m i w c e : ℕ) → (layout_answer s m i w c).refusal.number ≡ 0
+    → (layout_answer s m i w e).refusal.number ≡ 0 →
+    let l = layout_answer s m i w c in
+    layout_answer s m i w e
     ≡ record {
       refusal = l.refusal;
       flip_flops = l.flip_flops;
@@ -95,29 +95,29 @@ pub answer-layout-same : (s : Soc) (m i w c e : ℕ) → (layoutAnswer s m i w c
       chain_of = l.chain_of;
       si = l.si;
       so = l.so;
-      cycles = (layoutAnswer s m i w e).cycles;
+      cycles = (layout_answer s m i w e).cycles;
     }
-unfolding layoutOf
-answer-layout-same s m i w c e h k = rw ((laid_out s m i w c h).is, (laid_out s m i w e k).is)
+unfolding layout_of
+answer_layout_same s m i w c e h k = rw ((laid_out s m i w c h).is, (laid_out s m i w e k).is)
 
 -- a test with that layout takes its patterns more with one capture cycle more,
-pub answer-capture-more : (s : Soc) (m i w c : ℕ) → (layoutAnswer s m i w c).refusal.number ≡ 0
-    → (layoutAnswer s m i w (c + 1)).refusal.number ≡ 0
-    → (layoutAnswer s m i w (c + 1)).cycles.0 ≡ (layoutAnswer s m i w c).cycles.0 + (testAt (moduleAt s m) i).patterns
-unfolding layoutOf
+pub answer-capture-more : (s : Soc) (m i w c : ℕ) → (layout_answer s m i w c).refusal.number ≡ 0
+    → (layout_answer s m i w (c + 1)).refusal.number ≡ 0
+    → (layout_answer s m i w (c + 1)).cycles.0 ≡ (layout_answer s m i w c).cycles.0 + (test_at (module_at s m) i).patterns
+unfolding layout_of
 answer-capture-more s m i w c h k =
-    rw ((laid_out s m i w c h).is, (laid_out s m i w (c + 1) k).is) (test-time-more c (moduleAt s m) w (testAt (moduleAt s m) i))
+    rw ((laid_out s m i w c h).is, (laid_out s m i w (c + 1) k).is) (test-time-more c (module_at s m) w (test_at (module_at s m) i))
 
 -- and no time falls
 module _ (s : Soc) (m : ℕ) {c e : ℕ} (l : c ≤ e) where
-  pub answer-test-rises : (i w : ℕ) → (layoutAnswer s m i w c).refusal.number ≡ 0 → (layoutAnswer s m i w e).refusal.number ≡ 0
-      → (layoutAnswer s m i w c).cycles.0 ≤ (layoutAnswer s m i w e).cycles.0
-  unfolding layoutOf
-  answer-test-rises i w h k =
-      rw ((laid_out s m i w c h).is, (laid_out s m i w e k).is) (test-time-rises l (moduleAt s m) w (testAt (moduleAt s m) i))
+  pub answer-test_rises : (i w : ℕ) → (layout_answer s m i w c).refusal.number ≡ 0 → (layout_answer s m i w e).refusal.number ≡ 0
+      → (layout_answer s m i w c).cycles.0 ≤ (layout_answer s m i w e).cycles.0
+  unfolding layout_of
+  answer-test_rises i w h k =
+      rw ((laid_out s m i w c h).is, (laid_out s m i w e k).is) (test-time_rises l (module_at s m) w (test_at (module_at s m) i))
 
-  pub answer-time-rises : (w : ℕ) → (moduleTimeAnswer s m w c).refusal.number ≡ 0 → (moduleTimeAnswer s m w e).refusal.number ≡ 0
-      → (moduleTimeAnswer s m w c).cycles.0 ≤ (moduleTimeAnswer s m w e).cycles.0
-  answer-time-rises w h k =
+  pub answer-time_rises : (w : ℕ) → (module_time_answer s m w c).refusal.number ≡ 0 → (module_time_answer s m w e).refusal.number ≡ 0
+      → (module_time_answer s m w c).cycles.0 ≤ (module_time_answer s m w e).cycles.0
+  answer-time_rises w h k =
       let a = timed s m w c h in
-      rw (a.is, (timed s m w e k).is) (time-rises l (moduleAt s m) w a.asked.low)
+      rw (a.is, (timed s m w e k).is) (time_rises l (module_at s m) w a.asked.low)

@@ -10,10 +10,10 @@ use native.Mathlib.Nat.{suc-mul, mul-suc, mul_comm, mul-le-mul_left, div-eq_of_l
 use lib.Dec.{leb}
 use lib.ListN.{length, get_or}
 use borrow.Author.Tests.{leb-true, leb-false}
-use Rattle.wrapper_fit.specs.Fit.{longest, total, goes, placed, withCells, longestAfter}
+use Rattle.wrapper_fit.specs.Fit.{longest, total, goes, placed, with_cells, longest_after}
 use Rattle.wrapper_fit.specs.Cells.{ceil, evened}
-use Rattle.wrapper_fit.proofs.FitLaws.{longest-set, none-fits, placed-length, cells-length, longest-placed, cells-longest}
-use Rattle.wrapper_fit.proofs.FitLaws.{total-placed, total-cells}
+use Rattle.wrapper_fit.proofs.FitLaws.{longest-set, none-fits, placed-length, cells_length, longest-placed, cells_longest}
+use Rattle.wrapper_fit.proofs.FitLaws.{total-placed, total_cells}
 
 -- k lengths of at most m are together at most k * m
 total-within : (m : ℕ) (l : List ℕ) → longest l ≤ m → total l ≤ length l * m
@@ -41,16 +41,16 @@ one_cell l = go (leb (get_or l (goes 1 l) 0 + 1) (longest l)) refl
         inr (total-over (longest l) l (λ j k. omega (arith, f j k)))
 
 -- n cells leave the longest as it is, or it is less than one more than an even share
-cells-tight : (n : ℕ) (l : List ℕ) → 0 < length l
-    → (longest (withCells n l) ≤ longest l) ⊎ (length l * longest (withCells n l) < total l + n + length l)
-unfolding withCells
-cells-tight zero l h = inl (omega arith)
-cells-tight (suc n) l h =
+cells_tight : (n : ℕ) (l : List ℕ) → 0 < length l
+    → (longest (with_cells n l) ≤ longest l) ⊎ (length l * longest (with_cells n l) < total l + n + length l)
+unfolding with_cells
+cells_tight zero l h = inl (omega arith)
+cells_tight (suc n) l h =
     ⊎_elim kept (λ a. inr (omega (arith, rw (placed-length 1 l, total-placed 1 l h) at a)))
-    (cells-tight n (placed 1 l) (omega (arith, placed-length 1 l)))
+    (cells_tight n (placed 1 l) (omega (arith, placed-length 1 l)))
   where
     r : ℕ
-    r = longest (withCells n (placed 1 l))
+    r = longest (with_cells n (placed 1 l))
 
     kept : r ≤ longest (placed 1 l) → (r ≤ longest l) ⊎ (length l * r < total l + suc n + length l)
     kept a =
@@ -61,8 +61,8 @@ cells-tight (suc n) l h =
         (one_cell l)
 
 -- the least number that is at least m and k times which is at least t
-evened-only : (m t k r : ℕ) → 0 < k → m ≤ r → t ≤ k * r → (r ≤ m) ⊎ (k * r < t + k) → r ≡ max m (ceil t k)
-evened-only m t k r h a b =
+evened_only : (m t k r : ℕ) → 0 < k → m ≤ r → t ≤ k * r → (r ≤ m) ⊎ (k * r < t + k) → r ≡ max m (ceil t k)
+evened_only m t k r h a b =
     ⊎_elim
     (λ c. let s : ceil t k < suc r = (div-lt_iff_lt-mul h).1 (omega (arith, suc-mul r k, mul_comm r k)) in omega arith)
     (λ c.
@@ -71,13 +71,13 @@ evened-only m t k r h a b =
 
 -- "Placing n cells of length 1 over k chains gives the larger of the longest length before and the total length plus n, divided by k,
 -- rounded up."
-pub cells-evened : (n : ℕ) (l : List ℕ) → 0 < length l → longestAfter n l ≡ evened (longest l) (total l) n (length l)
-unfolding longestAfter
-cells-evened n l h =
-    let w = rw (cells-length n l) at (total-within (longest (withCells n l)) (withCells n l) (omega arith)) in
-    evened-only (longest l) (total l + n) (length l) (longest (withCells n l)) h (cells-longest n l)
-    (omega (arith, total-cells n l h, cells-length n l, w)) (cells-tight n l h)
+pub cells_evened : (n : ℕ) (l : List ℕ) → 0 < length l → longest_after n l ≡ evened (longest l) (total l) n (length l)
+unfolding longest_after
+cells_evened n l h =
+    let w = rw (cells_length n l) at (total-within (longest (with_cells n l)) (with_cells n l) (omega arith)) in
+    evened_only (longest l) (total l + n) (length l) (longest (with_cells n l)) h (cells_longest n l)
+    (omega (arith, total_cells n l h, cells_length n l, w)) (cells_tight n l h)
 
 -- so of k lengths it is enough to know the longest and the total
-pub cells-known : (n k m t : ℕ) (l : List ℕ) → 0 < k → length l ≡ k → m ≡ longest l → t ≡ total l → evened m t n k ≡ longestAfter n l
-cells-known n k m t l h e a b = rw (a, b, ← e) (sym (cells-evened n l (omega arith)))
+pub cells_known : (n k m t : ℕ) (l : List ℕ) → 0 < k → length l ≡ k → m ≡ longest l → t ≡ total l → evened m t n k ≡ longest_after n l
+cells_known n k m t l h e a b = rw (a, b, ← e) (sym (cells_evened n l (omega arith)))

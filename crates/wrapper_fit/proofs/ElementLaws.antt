@@ -11,34 +11,34 @@ use lib.ListN.{length, get_or, take, drop, set, replicate, drop_of_length-le}
 use lib.Seq.{drop-cons, get_or-set_same}
 use borrow.Author.Tests.{leb-true, leb-false, eqb-true}
 use Rattle.wrapper_fit.specs.Fit.{longest, total, goes, placed}
-use Rattle.wrapper_fit.specs.Elements.{withChains}
-use Rattle.wrapper_fit.proofs.FitLaws.{longest-at, longest-set, set-longest, zeros-longest, goes-below, goes-shortest, none-fits}
+use Rattle.wrapper_fit.specs.Elements.{with_chains}
+use Rattle.wrapper_fit.proofs.FitLaws.{longest-at, longest-set, set-longest, zeros-longest, goes-below, goes_shortest, none-fits}
 use Rattle.wrapper_fit.proofs.FitLaws.{placed-length, total-placed}
 
 -- one after another
-pub chains-step : (ns l : List ℕ) (i : ℕ) → i < length ns → withChains (drop i ns) l ≡ withChains (drop (i + 1) ns) (placed (get_or ns i 0) l)
-unfolding withChains
-chains-step ns l i h = rw (add-one, drop-cons ns i 0 h)
+pub chains_step : (ns l : List ℕ) (i : ℕ) → i < length ns → with_chains (drop i ns) l ≡ with_chains (drop (i + 1) ns) (placed (get_or ns i 0) l)
+unfolding with_chains
+chains_step ns l i h = rw (add-one, drop-cons ns i 0 h)
 
-pub chains-end : (ns l : List ℕ) (i : ℕ) → length ns ≤ i → withChains (drop i ns) l ≡ l
-unfolding withChains
+pub chains-end : (ns l : List ℕ) (i : ℕ) → length ns ≤ i → with_chains (drop i ns) l ≡ l
+unfolding with_chains
 chains-end ns l i h = rw (drop_of_length-le ns h)
 
 -- the number of wrapper chains stays, and their total grows by the elements
-pub chains-length : (ns l : List ℕ) → length (withChains ns l) ≡ length l
-unfolding withChains
+pub chains-length : (ns l : List ℕ) → length (with_chains ns l) ≡ length l
+unfolding with_chains
 chains-length [] l = refl
 chains-length (n ∷ ns) l = chains-length ns (placed n l) ∙ placed-length n l
 
-pub chains-total : (ns l : List ℕ) → 0 < length l → total (withChains ns l) ≡ total l + total ns
-unfolding withChains total
+pub chains-total : (ns l : List ℕ) → 0 < length l → total (with_chains ns l) ≡ total l + total ns
+unfolding with_chains total
 chains-total [] l h = omega arith
 chains-total (n ∷ ns) l h = omega (arith, chains-total ns (placed n l) (omega (arith, placed-length n l)), total-placed n l h)
 
 -- the total of those passed and those to come
-pub total-step : (l : List ℕ) (i : ℕ) → i < length l → total (drop i l) ≡ get_or l i 0 + total (drop (i + 1) l)
+pub total_step : (l : List ℕ) (i : ℕ) → i < length l → total (drop i l) ≡ get_or l i 0 + total (drop (i + 1) l)
 unfolding total
-total-step l i h = rw (add-one, drop-cons l i 0 h)
+total_step l i h = rw (add-one, drop-cons l i 0 h)
 
 -- chains that start empty
 pub zeros-take : {A : Type 0} (k n : ℕ) (z : A) → k ≤ n → take k (replicate n z) ≡ replicate k z
@@ -71,15 +71,15 @@ zeros-empty zero = refl
 zeros-empty (suc k) = omega (arith, zeros-empty k)
 
 -- an element takes at most one of them
-set-empties : (l : List ℕ) (i v : ℕ) → empties l ≤ suc (empties (set l i v))
+set_empties : (l : List ℕ) (i v : ℕ) → empties l ≤ suc (empties (set l i v))
 unfolding empties
-set-empties [] i v = omega arith
-set-empties (x ∷ l) zero v = go (eqb x 0)
+set_empties [] i v = omega arith
+set_empties (x ∷ l) zero v = go (eqb x 0)
   where
     go : (t : Bool) → cond t 1 0 + empties l ≤ suc (cond (eqb v 0) 1 0 + empties l)
     go true = omega arith
     go false = omega arith
-set-empties (x ∷ l) (suc i) v = omega (arith, set-empties l i v)
+set_empties (x ∷ l) (suc i) v = omega (arith, set_empties l i v)
 
 -- the place of an empty chain
 record EmptyAt (l : List ℕ) : Type 0 where
@@ -112,16 +112,16 @@ empty-longest n l h = go (leb (get_or l (goes n l) 0 + n) (longest l)) refl
     go true q = omega (arith, leb-true (get_or l (goes n l) 0 + n) (longest l) q, longest-placed-is n l some)
     go false q =
         let over = none-fits n l (leb-false (get_or l (goes n l) 0 + n) (longest l) q) in
-        let s = (goes-shortest n l some over e.at e.below).0 in
+        let s = (goes_shortest n l some over e.at e.below).0 in
         omega (arith, s, e.none, longest-placed-is n l some)
 
-chains-longest : (ns l : List ℕ) → length ns ≤ empties l → longest (withChains ns l) ≡ max (longest l) (longest ns)
-unfolding withChains longest placed
+chains-longest : (ns l : List ℕ) → length ns ≤ empties l → longest (with_chains ns l) ≡ max (longest l) (longest ns)
+unfolding with_chains longest placed
 chains-longest [] l h = omega arith
 chains-longest (n ∷ ns) l h =
-    let k : empties l ≤ suc (empties (placed n l)) = set-empties l (goes n l) (get_or l (goes n l) 0 + n) in
+    let k : empties l ≤ suc (empties (placed n l)) = set_empties l (goes n l) (get_or l (goes n l) 0 + n) in
     omega (arith, chains-longest ns (placed n l) (omega arith), empty-longest n l (omega arith))
 
 -- no more elements than chains
-pub few-longest : (ns : List ℕ) (k : ℕ) → length ns ≤ k → longest (withChains ns (replicate k 0)) ≡ longest ns
+pub few-longest : (ns : List ℕ) (k : ℕ) → length ns ≤ k → longest (with_chains ns (replicate k 0)) ≡ longest ns
 few-longest ns k h = omega (arith, zeros-longest k, chains-longest ns (replicate k 0) (omega (arith, zeros-empty k)))

@@ -11,7 +11,7 @@ use lib.ListN.{length, get_or, drop, set, replicate, length-set, drop_of_length-
 use lib.Seq.{drop-cons}
 use borrow.Author.Count.{below_more}
 use borrow.Author.Tests.{ltb-true, ltb-false, leb-true, leb-false, lt-ltb, le-ltb, le-leb, lt-leb}
-use Rattle.wrapper_fit.specs.Fit.{longest, total, better, bestFrom, goes, placed, withCells}
+use Rattle.wrapper_fit.specs.Fit.{longest, total, better, best_from, goes, placed, with_cells}
 
 -- what both ways have, the answer has
 either : {A : Type 0} (P : A → Type 0) (t : Bool) (a b : A) → (t ≡ true → P a) → (t ≡ false → P b) → P (cond t a b)
@@ -19,9 +19,9 @@ either P true a b f g = f refl
 either P false a b f g = g refl
 
 -- the longest of those passed and those to come
-pub longest-step : (l : List ℕ) (i m : ℕ) → i < length l → max m (longest (drop i l)) ≡ max (max m (get_or l i 0)) (longest (drop (i + 1) l))
+pub longest_step : (l : List ℕ) (i m : ℕ) → i < length l → max m (longest (drop i l)) ≡ max (max m (get_or l i 0)) (longest (drop (i + 1) l))
 unfolding longest
-longest-step l i m h = rw (add-one, drop-cons l i 0 h) (omega arith)
+longest_step l i m h = rw (add-one, drop-cons l i 0 h) (omega arith)
 
 pub longest-end : (l : List ℕ) (i m : ℕ) → length l ≤ i → max m (longest (drop i l)) ≡ m
 unfolding longest
@@ -51,8 +51,8 @@ zeros-longest zero = refl
 zeros-longest (suc k) = omega (arith, zeros-longest k)
 
 -- the best is one of the numbers
-best-below : (b : ℕ → ℕ → Bool) (i x j : ℕ) (ys : List ℕ) → i < j → bestFrom b i x j ys < j + length ys
-unfolding bestFrom
+best-below : (b : ℕ → ℕ → Bool) (i x j : ℕ) (ys : List ℕ) → i < j → best_from b i x j ys < j + length ys
+unfolding best_from
 best-below b i x j [] h = omega arith
 best-below b i x j (y ∷ ys) h =
     either (λ r. r < j + suc (length ys)) (b x y) _ _
@@ -69,10 +69,10 @@ pub placed-length : (n : ℕ) (l : List ℕ) → length (placed n l) ≡ length 
 unfolding placed
 placed-length n l = length-set l (goes n l) _
 
-pub cells-length : (n : ℕ) (l : List ℕ) → length (withCells n l) ≡ length l
-unfolding withCells
-cells-length zero l = refl
-cells-length (suc n) l = cells-length n (placed 1 l) ∙ placed-length 1 l
+pub cells_length : (n : ℕ) (l : List ℕ) → length (with_cells n l) ≡ length l
+unfolding with_cells
+cells_length zero l = refl
+cells_length (suc n) l = cells_length n (placed 1 l) ∙ placed-length 1 l
 
 -- the longest grows by at most the element
 pub longest-placed : (n : ℕ) (l : List ℕ) → longest (placed n l) ≤ longest l + n
@@ -83,15 +83,15 @@ pub placed-longest : (n : ℕ) (l : List ℕ) → longest l ≤ longest (placed 
 unfolding placed
 placed-longest n l = set-longest l (goes n l) (get_or l (goes n l) 0 + n) (omega arith)
 
-pub longest-cells : (n : ℕ) (l : List ℕ) → longest (withCells n l) ≤ longest l + n
-unfolding withCells
-longest-cells zero l = omega arith
-longest-cells (suc n) l = omega (arith, longest-cells n (placed 1 l), longest-placed 1 l)
+pub longest_cells : (n : ℕ) (l : List ℕ) → longest (with_cells n l) ≤ longest l + n
+unfolding with_cells
+longest_cells zero l = omega arith
+longest_cells (suc n) l = omega (arith, longest_cells n (placed 1 l), longest-placed 1 l)
 
-pub cells-longest : (n : ℕ) (l : List ℕ) → longest l ≤ longest (withCells n l)
-unfolding withCells
-cells-longest zero l = omega arith
-cells-longest (suc n) l = omega (arith, cells-longest n (placed 1 l), placed-longest 1 l)
+pub cells_longest : (n : ℕ) (l : List ℕ) → longest l ≤ longest (with_cells n l)
+unfolding with_cells
+cells_longest zero l = omega arith
+cells_longest (suc n) l = omega (arith, cells_longest n (placed 1 l), placed-longest 1 l)
 
 -- the sum of the lengths
 total-set : (l : List ℕ) (i v : ℕ) → i < length l → total (set l i v) + get_or l i 0 ≡ total l + v
@@ -104,10 +104,10 @@ pub total-placed : (n : ℕ) (l : List ℕ) → 0 < length l → total (placed n
 unfolding placed
 total-placed n l h = omega (arith, total-set l (goes n l) (get_or l (goes n l) 0 + n) (goes-below n l h))
 
-pub total-cells : (n : ℕ) (l : List ℕ) → 0 < length l → total (withCells n l) ≡ total l + n
-unfolding withCells
-total-cells zero l h = omega arith
-total-cells (suc n) l h = omega (arith, total-cells n (placed 1 l) (omega (arith, placed-length 1 l)), total-placed 1 l h)
+pub total_cells : (n : ℕ) (l : List ℕ) → 0 < length l → total (with_cells n l) ≡ total l + n
+unfolding with_cells
+total_cells zero l h = omega arith
+total_cells (suc n) l h = omega (arith, total_cells n (placed 1 l) (omega (arith, placed-length 1 l)), total-placed 1 l h)
 
 pub total-at : (l : List ℕ) (i : ℕ) → get_or l i 0 ≤ total l
 unfolding total
@@ -121,21 +121,21 @@ longest-total [] = omega arith
 longest-total (x ∷ l) = omega (arith, longest-total l)
 
 -- each length only grows
-set-grow : (l : List ℕ) (i v j : ℕ) → get_or l i 0 ≤ v → get_or l j 0 ≤ get_or (set l i v) j 0
-set-grow [] i v j h = omega arith
-set-grow (x ∷ l) zero v zero h = h
-set-grow (x ∷ l) zero v (suc j) h = omega arith
-set-grow (x ∷ l) (suc i) v zero h = omega arith
-set-grow (x ∷ l) (suc i) v (suc j) h = set-grow l i v j h
+set_grow : (l : List ℕ) (i v j : ℕ) → get_or l i 0 ≤ v → get_or l j 0 ≤ get_or (set l i v) j 0
+set_grow [] i v j h = omega arith
+set_grow (x ∷ l) zero v zero h = h
+set_grow (x ∷ l) zero v (suc j) h = omega arith
+set_grow (x ∷ l) (suc i) v zero h = omega arith
+set_grow (x ∷ l) (suc i) v (suc j) h = set_grow l i v j h
 
-pub placed-grow : (n : ℕ) (l : List ℕ) (i : ℕ) → get_or l i 0 ≤ get_or (placed n l) i 0
+pub placed_grow : (n : ℕ) (l : List ℕ) (i : ℕ) → get_or l i 0 ≤ get_or (placed n l) i 0
 unfolding placed
-placed-grow n l i = set-grow l (goes n l) (get_or l (goes n l) 0 + n) i (omega arith)
+placed_grow n l i = set_grow l (goes n l) (get_or l (goes n l) 0 + n) i (omega arith)
 
-pub cells-grow : (n : ℕ) (l : List ℕ) (i : ℕ) → get_or l i 0 ≤ get_or (withCells n l) i 0
-unfolding withCells
-cells-grow zero l i = omega arith
-cells-grow (suc n) l i = omega (arith, placed-grow 1 l i, cells-grow n (placed 1 l) i)
+pub cells_grow : (n : ℕ) (l : List ℕ) (i : ℕ) → get_or l i 0 ≤ get_or (with_cells n l) i 0
+unfolding with_cells
+cells_grow zero l i = omega arith
+cells_grow (suc n) l i = omega (arith, placed_grow 1 l i, cells_grow n (placed 1 l) i)
 
 -- of an order by which one place is better than another: not both are, and what is better than one is better than each that is no better
 -- than it
@@ -143,8 +143,8 @@ pub record Ranks (b : ℕ → ℕ → Bool) : Type 0 where
   pub one : (x y : ℕ) → b x y ≡ true → b y x ≡ false
   pub over : (x y z : ℕ) → b x z ≡ false → b x y ≡ true → b z y ≡ true
 
-ranks-self : (b : ℕ → ℕ → Bool) → Ranks b → (x : ℕ) → b x x ≡ false
-ranks-self b r x = go (b x x) refl
+ranks_self : (b : ℕ → ℕ → Bool) → Ranks b → (x : ℕ) → b x x ≡ false
+ranks_self b r x = go (b x x) refl
   where
     go : (t : Bool) → b x x ≡ t → b x x ≡ false
     go true e = r.one x x e
@@ -164,18 +164,18 @@ module _ (b : ℕ → ℕ → Bool) (r : Ranks b) (l : List ℕ) where
       record {
         none =
             up_to (λ k. b (get_or l j 0) (get_or l k 0) ≡ false) j (λ k h. r.one (get_or l k 0) (get_or l j 0) (less k h))
-            (ranks-self b r (get_or l j 0));
+            (ranks_self b r (get_or l j 0));
         first = less;
       }
     where
       less : (k : ℕ) → k < j → b (get_or l k 0) (get_or l j 0) ≡ true
       less k h = r.over (get_or l g 0) (get_or l j 0) (get_or l k 0) (f.none k h) e
 
-  first-stays : (g j : ℕ) → FirstBest b l g j → b (get_or l g 0) (get_or l j 0) ≡ false → FirstBest b l g (suc j)
-  first-stays g j f e = record { none = up_to (λ k. b (get_or l g 0) (get_or l k 0) ≡ false) j f.none e; first = f.first }
+  first_stays : (g j : ℕ) → FirstBest b l g j → b (get_or l g 0) (get_or l j 0) ≡ false → FirstBest b l g (suc j)
+  first_stays g j f e = record { none = up_to (λ k. b (get_or l g 0) (get_or l k 0) ≡ false) j f.none e; first = f.first }
 
-  best-first : (n i j : ℕ) → j + n ≡ length l → FirstBest b l i j → FirstBest b l (bestFrom b i (get_or l i 0) j (drop j l)) (length l)
-  unfolding bestFrom
+  best-first : (n i j : ℕ) → j + n ≡ length l → FirstBest b l i j → FirstBest b l (best_from b i (get_or l i 0) j (drop j l)) (length l)
+  unfolding best_from
   best-first zero i j e f =
       let m : j ≡ length l = omega arith in
       rw (drop_of_length-le l {i = j} (omega arith)) (rw (← m) f)
@@ -185,11 +185,11 @@ module _ (b : ℕ → ℕ → Bool) (r : Ranks b) (l : List ℕ) where
       rw (drop-cons l j 0 h)
       (either (λ g. FirstBest b l g (length l)) (b (get_or l i 0) (get_or l j 0)) _ _
       (λ t. best-first n j (suc j) up (first_found i j f t))
-      (λ t. best-first n i (suc j) up (first-stays i j f t)))
+      (λ t. best-first n i (suc j) up (first_stays i j f t)))
 
-better-ranks : (n m : ℕ) → Ranks (better n m)
+better_ranks : (n m : ℕ) → Ranks (better n m)
 unfolding better
-better-ranks n m =
+better_ranks n m =
     record {
       one = λ x y. one x y (leb (x + n) m) (leb (y + n) m);
       over = λ x y z. over x y z (leb (x + n) m) (leb (y + n) m) (leb (z + n) m);
@@ -219,9 +219,9 @@ pub goes-best : (n : ℕ) (l : List ℕ) → 0 < length l → FirstBest (better 
 unfolding goes
 goes-best n [] h = let z : ⊥ = omega arith in absurd z
 goes-best n (x ∷ l) h =
-    best-first (better n (longest (x ∷ l))) (better-ranks n (longest (x ∷ l))) (x ∷ l) (length l) 0 1 (omega arith)
+    best-first (better n (longest (x ∷ l))) (better_ranks n (longest (x ∷ l))) (x ∷ l) (length l) 0 1 (omega arith)
     (record {
-      none = λ k j. let e : k ≡ 0 = omega arith in rw e (ranks-self (better n (longest (x ∷ l))) (better-ranks n (longest (x ∷ l))) x);
+      none = λ k j. let e : k ≡ 0 = omega arith in rw e (ranks_self (better n (longest (x ∷ l))) (better_ranks n (longest (x ∷ l))) x);
       first = λ k j. let z : ⊥ = omega arith in absurd z;
     })
 
@@ -243,9 +243,9 @@ unfolding better
 shorter n m x y h k = simp (lt-leb (x + n) m h, lt-leb (y + n) m k)
 
 -- "to the wrapper chain that becomes fullest without passing the longest wrapper chain of that moment", the first of several
-pub goes-fullest : (n : ℕ) (l : List ℕ) (j : ℕ) → j < length l → get_or l j 0 + n ≤ longest l
+pub goes_fullest : (n : ℕ) (l : List ℕ) (j : ℕ) → j < length l → get_or l j 0 + n ≤ longest l
     → (get_or l (goes n l) 0 + n ≤ longest l) × (get_or l j 0 ≤ get_or l (goes n l) 0) × (j < goes n l → get_or l j 0 < get_or l (goes n l) 0)
-goes-fullest n l j h k =
+goes_fullest n l j h k =
     let f = goes-best n l (omega arith) in
     let w = fits_both n (longest l) (get_or l (goes n l) 0) (get_or l j 0) k (f.none j h) in
     (w.0, w.1, λ a. fuller n (longest l) (get_or l j 0) (get_or l (goes n l) 0) k w.0 (f.first j a))
@@ -255,13 +255,13 @@ pub none-fits : (n : ℕ) (l : List ℕ) → longest l < get_or l (goes n l) 0 +
 none-fits n l h j k = go (leb (get_or l j 0 + n) (longest l)) refl
   where
     go : (t : Bool) → leb (get_or l j 0 + n) (longest l) ≡ t → longest l < get_or l j 0 + n
-    go true e = omega (arith, goes-fullest n l j k (leb-true (get_or l j 0 + n) (longest l) e))
+    go true e = omega (arith, goes_fullest n l j k (leb-true (get_or l j 0 + n) (longest l) e))
     go false e = leb-false (get_or l j 0 + n) (longest l) e
 
 -- "if none can take it so, to the shortest", the first of several
-pub goes-shortest : (n : ℕ) (l : List ℕ) → 0 < length l → ((j : ℕ) → j < length l → longest l < get_or l j 0 + n) → (j : ℕ) → j < length l
+pub goes_shortest : (n : ℕ) (l : List ℕ) → 0 < length l → ((j : ℕ) → j < length l → longest l < get_or l j 0 + n) → (j : ℕ) → j < length l
     → (get_or l (goes n l) 0 ≤ get_or l j 0) × (j < goes n l → get_or l (goes n l) 0 < get_or l j 0)
-goes-shortest n l h over j k =
+goes_shortest n l h over j k =
     let f = goes-best n l h in
     let g = over (goes n l) (goes-below n l h) in (
       ltb-false (get_or l j 0) (get_or l (goes n l) 0)

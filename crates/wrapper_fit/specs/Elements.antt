@@ -4,6 +4,6 @@ use Rattle.std.specs.Prelude.{ℕ, List, [], ◌∷◌}
 use Rattle.wrapper_fit.specs.Fit.{placed}
 
 -- the lengths of wrapper chains with elements of these lengths in their places, one after another
-unfoldable pub withChains : List ℕ → List ℕ → List ℕ
-withChains [] l = l
-withChains (n ∷ ns) l = withChains ns (placed n l)
+unfoldable pub with_chains : List ℕ → List ℕ → List ℕ
+with_chains [] l = l
+with_chains (n ∷ ns) l = with_chains ns (placed n l)

@@ -18,24 +18,24 @@ unfoldable pub better : ℕ → ℕ → ℕ → ℕ → Bool
 better n m x y = cond (leb (y + n) m) (cond (leb (x + n) m) (ltb x y) true) (cond (leb (x + n) m) false (ltb y x))
 
 -- the best place of all, the first of several: i is the best so far, of length x, and the lengths from number j on are to come
-unfoldable pub bestFrom : (ℕ → ℕ → Bool) → ℕ → ℕ → ℕ → List ℕ → ℕ
-bestFrom b i x j [] = i
-bestFrom b i x j (y ∷ ys) = cond (b x y) (bestFrom b j y (suc j) ys) (bestFrom b i x (suc j) ys)
+unfoldable pub best_from : (ℕ → ℕ → Bool) → ℕ → ℕ → ℕ → List ℕ → ℕ
+best_from b i x j [] = i
+best_from b i x j (y ∷ ys) = cond (b x y) (best_from b j y (suc j) ys) (best_from b i x (suc j) ys)
 
 -- the number, from 0, of the wrapper chain to which an element of length n goes
 unfoldable pub goes : ℕ → List ℕ → ℕ
 goes n [] = 0
-goes n (x ∷ xs) = bestFrom (better n (longest (x ∷ xs))) 0 x 1 xs
+goes n (x ∷ xs) = best_from (better n (longest (x ∷ xs))) 0 x 1 xs
 
 -- the lengths with the element in its place
 unfoldable pub placed : ℕ → List ℕ → List ℕ
 placed n l = set l (goes n l) (get_or l (goes n l) 0 + n)
 
 -- "cells, as elements of length 1, are added by the same rule": n of them
-unfoldable pub withCells : ℕ → List ℕ → List ℕ
-withCells zero l = l
-withCells (suc n) l = withCells n (placed 1 l)
+unfoldable pub with_cells : ℕ → List ℕ → List ℕ
+with_cells zero l = l
+with_cells (suc n) l = with_cells n (placed 1 l)
 
 -- the longest length after n cells
-unfoldable pub longestAfter : ℕ → List ℕ → ℕ
-longestAfter n l = longest (withCells n l)
+unfoldable pub longest_after : ℕ → List ℕ → ℕ
+longest_after n l = longest (with_cells n l)

@@ -3,16 +3,16 @@
 use Rattle.std.specs.Prelude.{ℕ}
 
 -- "width or W outside 1 to 64" is 7
-abbrev pub widthMax : ℕ
-widthMax = 64
+abbrev pub width_max : ℕ
+width_max = 64
 
 -- "c outside 1 to 4 is 16"
-abbrev pub captureMax : ℕ
-captureMax = 4
+abbrev pub capture_max : ℕ
+capture_max = 4
 
 -- "the cycle maxima of document 01 become those for c = 4": of one test, and of one module, which has eight at most
-abbrev pub testTimeMax : ℕ
-testTimeMax = 4672957972476
+abbrev pub test_time_max : ℕ
+test_time_max = 4672957972476
 
-abbrev pub moduleTimeMax : ℕ
-moduleTimeMax = 37383663779808
+abbrev pub module_time_max : ℕ
+module_time_max = 37383663779808

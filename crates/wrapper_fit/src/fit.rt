@@ -2,10 +2,10 @@
 // the shortest, ties to the lowest number; and how long the longest is after elements one after another, and after cells with none placed
 // (document 02, item 4). Lengths count flip-flops and cells.
 ghost use Rattle.std.specs.Prelude.{◌≡◌, ◌+◌, ◌≤◌, ◌<◌, length, replicate};
-ghost use Rattle.wrapper_fit.specs.Maxima.{widthMax};
+ghost use Rattle.wrapper_fit.specs.Maxima.{width_max};
 ghost use Rattle.wrapper_fit.specs.Fit.{longest, total, better, goes};
 ghost use Rattle.wrapper_fit.specs.Cells.{evened};
-ghost use Rattle.wrapper_fit.specs.Elements.{withChains};
+ghost use Rattle.wrapper_fit.specs.Elements.{with_chains};
 
 use super::maxima::WIDTH_PLACES;
 
@@ -60,8 +60,8 @@ pub fn goes_to(l: &[u64], n: u64, m: u64) -> usize
 // The longest of k wrapper chains that start empty, after elements of these lengths were put in their places, one after another. Where
 // there are no more elements than chains, an empty chain is always left, so that none passes the longest element.
 pub fn longest_with(chains: &[u64], k: usize) -> u64
-    requires { (0 < k) × (k ≤ widthMax) × (total chains.now < 18446744073709551616) }
-    ensures { result ≡ longest (withChains chains.now (replicate k 0)) }
+    requires { (0 < k) × (k ≤ width_max) × (total chains.now < 18446744073709551616) }
+    ensures { result ≡ longest (with_chains chains.now (replicate k 0)) }
 {
     if chains.len() <= k {
         return longest_of(chains);
@@ -84,7 +84,7 @@ pub fn longest_with(chains: &[u64], k: usize) -> u64
 
 // The longest of k wrapper chains after n cells, where the longest was m and the total t: m, or an even share, rounded up.
 pub fn longest_after(m: u64, t: u64, n: u64, k: u64) -> u64
-    requires { (0 < k) × (k ≤ widthMax) × (t + n + k < 18446744073709551616) }
+    requires { (0 < k) × (k ≤ width_max) × (t + n + k < 18446744073709551616) }
     ensures { result ≡ evened m t n k }
 {
     let even = (t + n + (k - 1)) / k;

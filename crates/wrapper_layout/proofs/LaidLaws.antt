@@ -8,10 +8,10 @@ use lib.ListN.{length, get_or, take, drop, replicate, length-map, length-replica
 use lib.Seq.{take_at, drop_at}
 use Rattle.units.specs.Places.{padded}
 use Rattle.soc.specs.declared.record.Module.{Module}
-use Rattle.wrapper_fit.specs.Fit.{longest, withCells}
-use Rattle.wrapper_fit.specs.Maxima.{widthMax}
-use Rattle.wrapper_fit.proofs.FitLaws.{cells-length}
-use Rattle.wrapper_scans.specs.Chains.{usedChains, thread, empty, threaded}
+use Rattle.wrapper_fit.specs.Fit.{longest, with_cells}
+use Rattle.wrapper_fit.specs.Maxima.{width_max}
+use Rattle.wrapper_fit.proofs.FitLaws.{cells_length}
+use Rattle.wrapper_scans.specs.Chains.{used_chains, thread, empty, threaded}
 use Rattle.wrapper_scans.specs.Held.{front, order_of}
 use Rattle.wrapper_scans.proofs.ChainLaws.{order-front, thread-length}
 use Rattle.wrapper_layout.specs.LayoutAnswers.{gained}
@@ -42,22 +42,22 @@ gained-zeros zero = refl
 gained-zeros (suc n) = ap (λ l. 0 ∷ l) (gained-zeros n)
 
 -- what is held past the width stays, and does not grow
-pub cells-held : (n k : ℕ) (a l : List ℕ) → a ≡ padded widthMax 0 l → length l ≡ k
-    → withCells n (take k a) ++ drop k a ≡ padded widthMax 0 (withCells n l)
+pub cells_held : (n k : ℕ) (a l : List ℕ) → a ≡ padded width_max 0 l → length l ≡ k
+    → with_cells n (take k a) ++ drop k a ≡ padded width_max 0 (with_cells n l)
 unfolding padded
-cells-held n k a l e h =
-    let z : List ℕ = replicate (widthMax - length l) 0 in
-    ap (λ x. withCells n (take k x) ++ drop k x) e
-    ∙ rw (take_at l z k h, drop_at l z k h, cells-length n l)
+cells_held n k a l e h =
+    let z : List ℕ = replicate (width_max - length l) 0 in
+    ap (λ x. with_cells n (take k x) ++ drop k x) e
+    ∙ rw (take_at l z k h, drop_at l z k h, cells_length n l)
 
-pub gained-held : (a b xs ys : List ℕ) → a ≡ padded widthMax 0 xs → b ≡ padded widthMax 0 ys → length xs ≡ length ys
-    → gained a b ≡ padded widthMax 0 (gained xs ys)
+pub gained-held : (a b xs ys : List ℕ) → a ≡ padded width_max 0 xs → b ≡ padded width_max 0 ys → length xs ≡ length ys
+    → gained a b ≡ padded width_max 0 (gained xs ys)
 unfolding padded
 gained-held a b xs ys e f h =
-    let z : List ℕ = replicate (widthMax - length xs) 0 in
-    let g : b ≡ ys ++ z = f ∙ ap (λ j. ys ++ replicate (widthMax - j) 0) (sym h) in
-    let m : gained z z ≡ replicate (widthMax - length (gained xs ys)) 0 = gained-zeros (widthMax - length xs)
-    ∙ ap (λ j. replicate (widthMax - j) 0) (sym (gained-length xs ys h)) in
+    let z : List ℕ = replicate (width_max - length xs) 0 in
+    let g : b ≡ ys ++ z = f ∙ ap (λ j. ys ++ replicate (width_max - j) 0) (sym h) in
+    let m : gained z z ≡ replicate (width_max - length (gained xs ys)) 0 = gained-zeros (width_max - length xs)
+    ∙ ap (λ j. replicate (width_max - j) 0) (sym (gained-length xs ys h)) in
     ap (λ x. gained x b) e ∙ ap (gained (xs ++ z)) g ∙ gained-append xs ys z h ∙ ap (λ x. gained xs ys ++ x) m
 
 -- each place of what is held
@@ -83,10 +83,10 @@ unfolding padded
 padded-longest n xs i = append-zeros xs (n - length xs) i
 
 -- the chains of what is held
-pub held-threaded : (d : Module) (scan : Bool) (w : ℕ) → thread (front (order_of (usedChains d scan))) (empty w) ≡ threaded d scan w
+pub held-threaded : (d : Module) (scan : Bool) (w : ℕ) → thread (front (order_of (used_chains d scan))) (empty w) ≡ threaded d scan w
 unfolding threaded
-held-threaded d scan w = ap (λ cs. thread cs (empty w)) (order-front (usedChains d scan))
+held-threaded d scan w = ap (λ cs. thread cs (empty w)) (order-front (used_chains d scan))
 
 pub threaded-length : (d : Module) (scan : Bool) (w : ℕ) → length (threaded d scan w).lengths ≡ w
 unfolding threaded
-threaded-length d scan w = thread-length (usedChains d scan) (empty w) ∙ length-replicate w 0
+threaded-length d scan w = thread-length (used_chains d scan) (empty w) ∙ length-replicate w 0

@@ -2,17 +2,17 @@
 use Rattle.std.specs.Prelude.{ℕ}
 use Rattle.units.specs.Places.{padded}
 use Rattle.soc.specs.declared.record.Module.{Module}
-use Rattle.wrapper_fit.specs.Maxima.{widthMax}
+use Rattle.wrapper_fit.specs.Maxima.{width_max}
 use Rattle.wrapper_scans.specs.Chains.{Threaded}
-use Rattle.wrapper_layout.specs.LayoutAnswers.{askedTest}
+use Rattle.wrapper_layout.specs.LayoutAnswers.{asked_test}
 use Rattle.wrapper_layout.specs.declared.places.Threading.{Threading}
 use Rattle.wrapper_layout.specs.declared.asked.AskedTest.{AskedTest}
 use Rattle.wrapper_layout.specs.declared.asked.AskedTest.TheVariants.{No, Is}
 
 -- the test that is asked for
-unfoldable pub foundTest : Module → ℕ → AskedTest
-foundTest d i = askedTest d i No Is
+unfoldable pub found_test : Module → ℕ → AskedTest
+found_test d i = asked_test d i No Is
 
 -- wrapper chains with internal chains in them
-abbrev pub threadingOf : Threaded → Threading
-threadingOf t = record { lengths = padded widthMax 0 t.lengths; places = t.places }
+abbrev pub threading_of : Threaded → Threading
+threading_of t = record { lengths = padded width_max 0 t.lengths; places = t.places }

@@ -1,6 +1,6 @@
 // The test of a module that is asked for.
 ghost use Rattle.std.specs.Prelude.{◌≡◌, ◌≤◌};
-ghost use Rattle.wrapper_layout.specs.Held.{foundTest};
+ghost use Rattle.wrapper_layout.specs.Held.{found_test};
 
 use soc::{Module, Test};
 
@@ -13,7 +13,7 @@ pub enum AskedTest {
 
 pub(crate) fn asked_test(d: Module, i: u32) -> AskedTest
     requires { d.test_count ≤ 8 }
-    ensures { result ≡ foundTest d i }
+    ensures { result ≡ found_test d i }
 {
     if i < 1 {
         return AskedTest::No(13);

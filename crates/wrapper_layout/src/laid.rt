@@ -1,12 +1,12 @@
 // A wrapper's layout for one test of a module at one width: bidirectional cells right after the internal chains (document 02, item 2),
 // then input cells and output cells, each from the lengths with these; and what the test takes with that layout (document 02, item 8).
 ghost use Rattle.std.specs.Prelude.{◌≡◌, map, ◌++◌, ℕ, ◌+◌, ◌≤◌, ◌<◌, take, drop, get_or};
-ghost use Rattle.soc.specs.Limits.{patternsMax};
-ghost use Rattle.soc.specs.Record.{flipFlops};
-ghost use Rattle.wrapper_fit.specs.Fit.{longest, withCells};
-ghost use Rattle.wrapper_fit.specs.Maxima.{widthMax, captureMax};
+ghost use Rattle.soc.specs.Limits.{patterns_max};
+ghost use Rattle.soc.specs.Record.{flip_flops};
+ghost use Rattle.wrapper_fit.specs.Fit.{longest, with_cells};
+ghost use Rattle.wrapper_fit.specs.Maxima.{width_max, capture_max};
 ghost use Rattle.wrapper_scans.specs.Scans.{Kept};
-ghost use Rattle.wrapper_layout.specs.LayoutAnswers.{gained, layoutOf, no_layout, layoutAnswer};
+ghost use Rattle.wrapper_layout.specs.LayoutAnswers.{gained, layout_of, no_layout, layout_answer};
 
 use super::asked::{AskedTest, asked_test};
 use super::places::{add_cells, thread_chains};
@@ -49,8 +49,8 @@ fn no_layout(n: u8) -> WrapperLayout
 
 // The lengths with n cells in their places in the first k wrapper chains.
 fn with_cells(lengths: [u64; WIDTH_PLACES], k: usize, n: u64) -> [u64; WIDTH_PLACES]
-    requires { (0 < k) × (k ≤ widthMax) × (longest (take k lengths) + n < 18446744073709551616) }
-    ensures { result ≡ withCells n (take k lengths) ++ drop k lengths }
+    requires { (0 < k) × (k ≤ width_max) × (longest (take k lengths) + n < 18446744073709551616) }
+    ensures { result ≡ with_cells n (take k lengths) ++ drop k lengths }
 {
     let mut after = lengths;
     add_cells(&mut after[..k], n);
@@ -74,7 +74,7 @@ fn gained_by(before: [u64; WIDTH_PLACES], after: [u64; WIDTH_PLACES]) -> [u64; W
 
 fn flip_flops_of(lengths: [u64; WIDTH_PLACES]) -> [FlipFlops; WIDTH_PLACES]
     requires { (i : ℕ) → get_or lengths i 0 < 4294967296 }
-    ensures { result ≡ map flipFlops lengths }
+    ensures { result ≡ map flip_flops lengths }
 {
     let mut f = [FlipFlops(0); WIDTH_PLACES];
     let mut i: usize = 0;
@@ -87,8 +87,8 @@ fn flip_flops_of(lengths: [u64; WIDTH_PLACES]) -> [FlipFlops; WIDTH_PLACES]
 
 // The scan lengths come from the sum (document 02, item 4), so no cell is counted again.
 fn layout_of(d: Module, t: Test, k: usize, capture: u32) -> WrapperLayout
-    requires { Kept d × (t.patterns ≤ patternsMax) × (0 < k) × (k ≤ widthMax) × (capture ≤ captureMax) }
-    ensures { result ≡ layoutOf capture d k t }
+    requires { Kept d × (t.patterns ≤ patterns_max) × (0 < k) × (k ≤ width_max) × (capture ≤ capture_max) }
+    ensures { result ≡ layout_of capture d k t }
 {
     let threads = thread_chains(order_of(d, t.scan_use), k);
     let lengths = threads.lengths;
@@ -113,7 +113,7 @@ fn layout_of(d: Module, t: Test, k: usize, capture: u32) -> WrapperLayout
 
 // The layout of one test of a module at a width, which is used as it is, with its longest scan-in and scan-out and the test's cycles.
 pub fn layout(s: Soc, module: u32, test: u32, width: Wires, capture: CaptureCycles) -> WrapperLayout
-    ensures { result ≡ layoutAnswer s «module» test width.0 capture.0 }
+    ensures { result ≡ layout_answer s «module» test width.0 capture.0 }
 {
     let asked = asked_module(s, module, width, capture);
     if asked.number != 0 {

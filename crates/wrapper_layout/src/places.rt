@@ -1,11 +1,11 @@
 // Elements in their places (document 01, "The wrapper rule"; document 02, item 2): cells one after another, and the internal chains in k
 // wrapper chains.
 ghost use Rattle.std.specs.Prelude.{◌≡◌, ◌+◌, ◌≤◌, ◌<◌, length};
-ghost use Rattle.wrapper_fit.specs.Maxima.{widthMax};
-ghost use Rattle.wrapper_fit.specs.Fit.{longest, goes, placed, withCells};
+ghost use Rattle.wrapper_fit.specs.Maxima.{width_max};
+ghost use Rattle.wrapper_fit.specs.Fit.{longest, goes, placed, with_cells};
 ghost use Rattle.wrapper_scans.specs.Chains.{thread, empty};
 ghost use Rattle.wrapper_scans.specs.Held.{front, Threadable};
-ghost use Rattle.wrapper_layout.specs.Held.{threadingOf};
+ghost use Rattle.wrapper_layout.specs.Held.{threading_of};
 
 use soc::CHAINS_MAX;
 use wrapper_fit::{WIDTH_PLACES, goes_to, longest_of};
@@ -32,7 +32,7 @@ fn place(l: &mut [u64], n: u64) -> usize
 // Puts n cells in their places, one after another.
 pub(crate) fn add_cells(l: &mut [u64], n: u64)
     requires { (0 < length l.old) × (longest l.old + n < 18446744073709551616) }
-    ensures { l.new ≡ withCells n l.old }
+    ensures { l.new ≡ with_cells n l.old }
 {
     let mut i: u64 = 0;
     while i < n {
@@ -43,8 +43,8 @@ pub(crate) fn add_cells(l: &mut [u64], n: u64)
 
 // The chains of an order in k wrapper chains.
 pub(crate) fn thread_chains(o: Order, k: usize) -> Threading
-    requires { (0 < k) × (k ≤ widthMax) × Threadable o }
-    ensures { result ≡ threadingOf (thread (front o) (empty k)) }
+    requires { (0 < k) × (k ≤ width_max) × Threadable o }
+    ensures { result ≡ threading_of (thread (front o) (empty k)) }
 {
     let count = o.count;
     let mut lengths = [0u64; WIDTH_PLACES];

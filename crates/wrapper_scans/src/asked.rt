@@ -1,6 +1,6 @@
 // The module that is asked for, with a width and capture cycles. Refusals: 14, 7, 16, 13.
 ghost use Rattle.std.specs.Prelude.{◌≡◌};
-ghost use Rattle.wrapper_scans.specs.Held.{noAsked, foundModule};
+ghost use Rattle.wrapper_scans.specs.Held.{no_asked, found_module};
 
 use soc::{Module, Soc};
 use units::{CaptureCycles, Wires};
@@ -14,7 +14,7 @@ pub struct AskedModule {
 }
 
 fn no_asked(n: u8) -> AskedModule
-    ensures { result ≡ noAsked n }
+    ensures { result ≡ no_asked n }
 {
     AskedModule {
         number: n,
@@ -23,7 +23,7 @@ fn no_asked(n: u8) -> AskedModule
 }
 
 pub fn asked_module(s: Soc, m: u32, w: Wires, capture: CaptureCycles) -> AskedModule
-    ensures { result ≡ foundModule s m w.0 capture.0 }
+    ensures { result ≡ found_module s m w.0 capture.0 }
 {
     if !soc::is_good(s) {
         return no_asked(14);

@@ -1,10 +1,10 @@
 // The scan lengths of a module at a width, and a test's time (document 01, "The wrapper rule"; document 02, items 2, 4 and 5).
 ghost use Rattle.std.specs.Prelude.{◌≡◌, ◌≤◌, ◌<◌};
-ghost use Rattle.soc.specs.Limits.{patternsMax};
-ghost use Rattle.wrapper_fit.specs.Maxima.{widthMax, captureMax};
-ghost use Rattle.wrapper_scans.specs.TestTimes.{testCycles};
+ghost use Rattle.soc.specs.Limits.{patterns_max};
+ghost use Rattle.wrapper_fit.specs.Maxima.{width_max, capture_max};
+ghost use Rattle.wrapper_scans.specs.TestTimes.{test_cycles};
 ghost use Rattle.wrapper_scans.specs.Held.{Measured};
-ghost use Rattle.wrapper_scans.specs.Scans.{scanOf, Short};
+ghost use Rattle.wrapper_scans.specs.Scans.{scan_of, Short};
 
 use super::chains::ChainLengths;
 use soc::Module;
@@ -19,8 +19,8 @@ pub struct Scan {
 
 // No cell is placed: the longest chain and the total, with the chains threaded once, give both.
 pub fn scan_at(d: Module, c: ChainLengths, k: usize) -> Scan
-    requires { (0 < k) × (k ≤ widthMax) × Measured c }
-    ensures { result ≡ scanOf d c k }
+    requires { (0 < k) × (k ≤ width_max) × Measured c }
+    ensures { result ≡ scan_of d c k }
 {
     let count = c.count;
     let lengths = c.lengths;
@@ -33,8 +33,8 @@ pub fn scan_at(d: Module, c: ChainLengths, k: usize) -> Scan
 
 // (c + max(si, so)) × p + min(si, so), where the capture cycles of all patterns stand apart.
 pub fn cycles_of(s: Scan, patterns: u32, capture: u32) -> u64
-    requires { Short s × (patterns ≤ patternsMax) × (capture ≤ captureMax) }
-    ensures { result ≡ testCycles capture s.si s.so patterns }
+    requires { Short s × (patterns ≤ patterns_max) × (capture ≤ capture_max) }
+    ensures { result ≡ test_cycles capture s.si s.so patterns }
 {
     let p = patterns as u64;
     let captured = (capture as u64) * p;

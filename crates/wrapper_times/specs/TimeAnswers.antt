@@ -6,46 +6,46 @@ use Rattle.units.specs.declared.Cycles.{Cycles}
 use Rattle.units.specs.Places.{padded}
 use Rattle.soc.specs.declared.record.Module.{Module}
 use Rattle.soc.specs.declared.record.Soc.{Soc}
-use Rattle.wrapper_fit.specs.Maxima.{widthMax}
+use Rattle.wrapper_fit.specs.Maxima.{width_max}
 use Rattle.wrapper_fit.specs.Counts.{wires, cycles}
-use Rattle.wrapper_scans.specs.Asked.{askedModule}
-use Rattle.wrapper_times.specs.Times.{Best, moduleBest}
+use Rattle.wrapper_scans.specs.Asked.{asked_module}
+use Rattle.wrapper_times.specs.Times.{Best, module_best}
 use Rattle.wrapper_times.specs.declared.asked.ModuleTime.{ModuleTime}
 use Rattle.wrapper_times.specs.declared.asked.ModuleTimes.{ModuleTimes}
 use Rattle.wrapper_times.specs.declared.times.Times.{Times}
 
-abbrev pub noModuleTime : ℕ → ModuleTime
-noModuleTime n = record { refusal = refused n 0; cycles = cycles 0; wires = wires 0 }
+abbrev pub no_module_time : ℕ → ModuleTime
+no_module_time n = record { refusal = refused n 0; cycles = cycles 0; wires = wires 0 }
 
-abbrev pub moduleTimeOf : Best → ModuleTime
-moduleTimeOf b = record { refusal = accepted; cycles = cycles b.cycles; wires = wires b.wires }
+abbrev pub module_time_of : Best → ModuleTime
+module_time_of b = record { refusal = accepted; cycles = cycles b.cycles; wires = wires b.wires }
 
-unfoldable pub moduleTimeAnswer : Soc → ℕ → ℕ → ℕ → ModuleTime
-moduleTimeAnswer s m w c = askedModule s m w c noModuleTime λ d. moduleTimeOf (moduleBest c d w)
+unfoldable pub module_time_answer : Soc → ℕ → ℕ → ℕ → ModuleTime
+module_time_answer s m w c = asked_module s m w c no_module_time λ d. module_time_of (module_best c d w)
 
 -- a module's times and wires at the widths 1 to w, where i of them are to come from width u on
-unfoldable pub bestsFrom : ℕ → Module → ℕ → ℕ → List Best
-bestsFrom c d zero u = []
-bestsFrom c d (suc i) u = moduleBest c d u ∷ bestsFrom c d i (suc u)
+unfoldable pub bests_from : ℕ → Module → ℕ → ℕ → List Best
+bests_from c d zero u = []
+bests_from c d (suc i) u = module_best c d u ∷ bests_from c d i (suc u)
 
-abbrev pub cyclesIn : Best → Cycles
-cyclesIn b = cycles b.cycles
+abbrev pub cycles_in : Best → Cycles
+cycles_in b = cycles b.cycles
 
-abbrev pub wiresIn : Best → Wires
-wiresIn b = wires b.wires
+abbrev pub wires_in : Best → Wires
+wires_in b = wires b.wires
 
-unfoldable pub timesOf : ℕ → Module → ℕ → Times
-timesOf c d w =
+unfoldable pub times_of : ℕ → Module → ℕ → Times
+times_of c d w =
     record {
-      cycles = padded widthMax (cycles 0) (map cyclesIn (bestsFrom c d w 1));
-      wires = padded widthMax (wires 0) (map wiresIn (bestsFrom c d w 1));
+      cycles = padded width_max (cycles 0) (map cycles_in (bests_from c d w 1));
+      wires = padded width_max (wires 0) (map wires_in (bests_from c d w 1));
     }
 
-abbrev pub noTimes : Times
-noTimes = record { cycles = replicate widthMax (cycles 0); wires = replicate widthMax (wires 0) }
+abbrev pub no_times : Times
+no_times = record { cycles = replicate width_max (cycles 0); wires = replicate width_max (wires 0) }
 
-abbrev pub noModuleTimes : ℕ → ModuleTimes
-noModuleTimes n = record { refusal = refused n 0; times = noTimes }
+abbrev pub no_module_times : ℕ → ModuleTimes
+no_module_times n = record { refusal = refused n 0; times = no_times }
 
-unfoldable pub moduleTimesAnswer : Soc → ℕ → ℕ → ℕ → ModuleTimes
-moduleTimesAnswer s m w c = askedModule s m w c noModuleTimes λ d. record { refusal = accepted; times = timesOf c d w }
+unfoldable pub module_times_answer : Soc → ℕ → ℕ → ℕ → ModuleTimes
+module_times_answer s m w c = asked_module s m w c no_module_times λ d. record { refusal = accepted; times = times_of c d w }

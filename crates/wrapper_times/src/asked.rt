@@ -1,6 +1,6 @@
 // What may be asked of times: a module's time, and its times at all widths. Refusals: 14, 7, 16, 13.
 ghost use Rattle.std.specs.Prelude.{◌≡◌};
-ghost use Rattle.wrapper_times.specs.TimeAnswers.{noModuleTime, moduleTimeAnswer, noModuleTimes, moduleTimesAnswer};
+ghost use Rattle.wrapper_times.specs.TimeAnswers.{no_module_time, module_time_answer, no_module_times, module_times_answer};
 
 use super::times::{Times, times_of};
 use soc::Soc;
@@ -22,7 +22,7 @@ pub struct ModuleTimes {
 }
 
 fn no_module_time(n: u8) -> ModuleTime
-    ensures { result ≡ noModuleTime n }
+    ensures { result ≡ no_module_time n }
 {
     ModuleTime {
         refusal: Refusal::at(n, 0),
@@ -33,7 +33,7 @@ fn no_module_time(n: u8) -> ModuleTime
 
 // A module's time on a bus of a width, and its wires.
 pub fn module_time(s: Soc, module: u32, width: Wires, capture: CaptureCycles) -> ModuleTime
-    ensures { result ≡ moduleTimeAnswer s «module» width.0 capture.0 }
+    ensures { result ≡ module_time_answer s «module» width.0 capture.0 }
 {
     let asked = asked_module(s, module, width, capture);
     if asked.number != 0 {
@@ -53,7 +53,7 @@ pub fn module_time(s: Soc, module: u32, width: Wires, capture: CaptureCycles) ->
 }
 
 fn no_module_times(n: u8) -> ModuleTimes
-    ensures { result ≡ noModuleTimes n }
+    ensures { result ≡ no_module_times n }
 {
     ModuleTimes {
         refusal: Refusal::at(n, 0),
@@ -66,7 +66,7 @@ fn no_module_times(n: u8) -> ModuleTimes
 
 // A module's times and wires at every width up to one, each figure computed once.
 pub fn module_times(s: Soc, module: u32, width: Wires, capture: CaptureCycles) -> ModuleTimes
-    ensures { result ≡ moduleTimesAnswer s «module» width.0 capture.0 }
+    ensures { result ≡ module_times_answer s «module» width.0 capture.0 }
 {
     let asked = asked_module(s, module, width, capture);
     if asked.number != 0 {

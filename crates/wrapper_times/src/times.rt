@@ -2,14 +2,14 @@
 // smallest such width.
 ghost use Rattle.std.specs.Prelude.{◌≡◌, true, false, ◌≤◌, ◌<◌};
 ghost use Rattle.units.specs.Places.{any_of};
-ghost use Rattle.soc.specs.Limits.{patternsMax};
-ghost use Rattle.soc.specs.Record.{testsOf};
-ghost use Rattle.wrapper_fit.specs.Maxima.{widthMax, captureMax};
+ghost use Rattle.soc.specs.Limits.{patterns_max};
+ghost use Rattle.soc.specs.Record.{tests_of};
+ghost use Rattle.wrapper_fit.specs.Maxima.{width_max, capture_max};
 ghost use Rattle.wrapper_scans.specs.Held.{Measured};
 ghost use Rattle.wrapper_scans.specs.Scans.{Short, Kept};
 ghost use Rattle.wrapper_times.specs.Times.{figure};
-ghost use Rattle.wrapper_times.specs.TimeAnswers.{timesOf};
-ghost use Rattle.wrapper_times.specs.Sums.{plannedWith, sumScans, plannedCycles, scanIf, plain_of};
+ghost use Rattle.wrapper_times.specs.TimeAnswers.{times_of};
+ghost use Rattle.wrapper_times.specs.Sums.{planned_with, sum_scans, planned_cycles, scan_if, plain_of};
 
 use soc::{Module, Test};
 use units::{Cycles, Wires};
@@ -26,7 +26,7 @@ pub struct Times {
 // Whether a test with TamUse 1 has this ScanUse.
 fn is_planned_with(d: Module, scan: bool) -> bool
     requires { Kept d }
-    ensures { result ≡ any_of (plannedWith scan) (testsOf d) }
+    ensures { result ≡ any_of (planned_with scan) (tests_of d) }
 {
     let n = d.test_count;
     let mut i: usize = 0;
@@ -44,8 +44,8 @@ fn is_planned_with(d: Module, scan: bool) -> bool
 
 // A test's cycles where the scan lengths with chains and without are known; 0 with TamUse 0.
 fn planned_cycles(t: Test, with: Scan, without: Scan, capture: u32) -> u64
-    requires { Short with × Short without × (t.patterns ≤ patternsMax) × (capture ≤ captureMax) }
-    ensures { result ≡ plannedCycles capture with without t }
+    requires { Short with × Short without × (t.patterns ≤ patterns_max) × (capture ≤ capture_max) }
+    ensures { result ≡ planned_cycles capture with without t }
 {
     if !t.tam_use {
         return 0;
@@ -58,8 +58,8 @@ fn planned_cycles(t: Test, with: Scan, without: Scan, capture: u32) -> u64
 }
 
 fn sum_of(d: Module, with: Scan, without: Scan, capture: u32) -> u64
-    requires { Kept d × Short with × Short without × (capture ≤ captureMax) }
-    ensures { result ≡ sumScans capture with without (testsOf d) }
+    requires { Kept d × Short with × Short without × (capture ≤ capture_max) }
+    ensures { result ≡ sum_scans capture with without (tests_of d) }
 {
     let n = d.test_count;
     let mut sum: u64 = 0;
@@ -74,8 +74,8 @@ fn sum_of(d: Module, with: Scan, without: Scan, capture: u32) -> u64
 
 // The scan lengths, where they are needed.
 fn scan_if(needed: bool, d: Module, c: ChainLengths, k: usize) -> Scan
-    requires { (0 < k) × (k ≤ widthMax) × Measured c }
-    ensures { result ≡ scanIf needed d c k }
+    requires { (0 < k) × (k ≤ width_max) × Measured c }
+    ensures { result ≡ scan_if needed d c k }
 {
     if needed {
         scan_at(d, c, k)
@@ -106,7 +106,7 @@ fn plain_of(d: Module) -> Plain
 }
 
 fn figure_at(d: Module, p: Plain, k: usize, capture: u32) -> u64
-    requires { Kept d × (p ≡ plain_of d) × (0 < k) × (k ≤ widthMax) × (capture ≤ captureMax) }
+    requires { Kept d × (p ≡ plain_of d) × (0 < k) × (k ≤ width_max) × (capture ≤ capture_max) }
     ensures { result ≡ figure capture d k }
 {
     let with = p.with;
@@ -118,8 +118,8 @@ fn figure_at(d: Module, p: Plain, k: usize, capture: u32) -> u64
 
 // The times and wires at the widths 1 to w, each figure computed once.
 pub(crate) fn times_of(d: Module, w: usize, capture: u32) -> Times
-    requires { Kept d × (0 < w) × (w ≤ widthMax) × (capture ≤ captureMax) }
-    ensures { result ≡ timesOf capture d w }
+    requires { Kept d × (0 < w) × (w ≤ width_max) × (capture ≤ capture_max) }
+    ensures { result ≡ times_of capture d w }
 {
     let p = plain_of(d);
     let mut cycles = [Cycles(0); WIDTH_PLACES];

@@ -1,7 +1,7 @@
 -- `c_interface::meant_number` meets its contract. Assumes nothing.
 use borrow.Author.Rules.{rules}
 use mathlib.Core.Path.{sym, ap}
-use Rattle.c_interface.specs.Codes.{meantNumber}
+use Rattle.c_interface.specs.Codes.{meant_number}
 use Rattle.c_interface.proofs.meant_number.Statement.{statement}
 use Rattle.c_interface.proofs.meant_number.Tie as tie
 
@@ -15,16 +15,16 @@ enum-told-3 : tie.Need-enum-told-3
 enum-told-3 c = search rules
 
 returns : tie.Need-returns
-unfolding meantNumber
-returns c = sym (ap meantNumber c.enum_told.given.1)
+unfolding meant_number
+returns c = sym (ap meant_number c.enum_told.given.1)
 
 returns-2 : tie.Need-returns-2
-unfolding meantNumber
-returns-2 c = sym (ap meantNumber c.enum-told2.given.1)
+unfolding meant_number
+returns-2 c = sym (ap meant_number c.enum-told2.given.1)
 
 returns-3 : tie.Need-returns-3
-unfolding meantNumber
-returns-3 c = sym (ap meantNumber c.enum-told3.given.1)
+unfolding meant_number
+returns-3 c = sym (ap meant_number c.enum-told3.given.1)
 
 pub meant-number-spec : {M : Type 1} → statement M
 meant-number-spec =

@@ -1,7 +1,7 @@
 -- `c_interface::pair_refused` meets its contract: the number of the text that is meant has its place below the line. Assumes nothing.
 use borrow.Author.Rules.{rules}
 use native.Mathlib.Omega.{arith}
-use Rattle.c_interface.specs.Codes.{pairRefused}
+use Rattle.c_interface.specs.Codes.{pair_refused}
 use Rattle.c_interface.proofs.CodeLaws.{meant-most}
 use Rattle.c_interface.proofs.pair_refused.Statement.{statement}
 use Rattle.c_interface.proofs.pair_refused.Tie as tie
@@ -19,7 +19,7 @@ above-byte-requires : tie.Need-above-byte-requires
 above-byte-requires c κs = search rules
 
 returns : tie.Need-returns
-unfolding pairRefused
+unfolding pair_refused
 returns c = rw (← c.before.meant-number.ensures) c.above-byte.ensures
 
 pub pair-refused-spec : {M : Type 1} → statement M

@@ -1,6 +1,6 @@
 -- `c_interface::part_figure` meets its contract. Assumes nothing.
 use borrow.Author.Rules.{rules}
-use Rattle.c_interface.specs.Codes.{partFigure}
+use Rattle.c_interface.specs.Codes.{part_figure}
 use Rattle.c_interface.proofs.part_figure.Statement.{statement}
 use Rattle.c_interface.proofs.part_figure.Tie as tie
 
@@ -17,14 +17,14 @@ add-result : tie.Need-overflow-add-result
 add-result c = search rules
 
 returns : tie.Need-returns
-unfolding partFigure
+unfolding part_figure
 returns c = rw c.if1.true
 
 add-result-2 : tie.Need-overflow-add-result-2
 add-result-2 c = search rules
 
 returns-2 : tie.Need-returns-2
-unfolding partFigure
+unfolding part_figure
 returns-2 c = rw c.if1.false
 
 pub part-figure-spec : {M : Type 1} → statement M

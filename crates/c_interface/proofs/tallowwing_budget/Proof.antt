@@ -3,10 +3,10 @@
 use borrow.Author.Rules.{rules}
 use native.Mathlib.Omega.{arith}
 use mathlib.Core.Path.{◌≡◌, sym, ap, ◌∙◌}
-use Rattle.budget.specs.BudgetAnswers.{budgetAnswer}
-use Rattle.c_forms.specs.SocForm.{socIn}
-use Rattle.c_forms.specs.BudgetForm.{budgetBytes}
-use Rattle.c_interface.specs.Codes.{foundBytes}
+use Rattle.budget.specs.BudgetAnswers.{budget_answer}
+use Rattle.c_forms.specs.SocForm.{soc_in}
+use Rattle.c_forms.specs.BudgetForm.{budget_bytes}
+use Rattle.c_interface.specs.Codes.{found_bytes}
 use Rattle.c_interface.proofs.CodeLaws.{refused-given, whole-given}
 use Rattle.c_interface.proofs.tallowwing_budget.Statement.{statement}
 use Rattle.c_interface.proofs.tallowwing_budget.Tie as tie
@@ -14,10 +14,10 @@ use Rattle.c_interface.proofs.tallowwing_budget.Tie as tie
 -- what the call answers, for the record in the bytes
 same : (t : tie.After-plan-within) →
     let a = t.before.before.before.before.args in
-    t.plan-within.result ≡ budgetAnswer (socIn a.soc.now) a.wires a.limit a.capture a.tries
+    t.plan-within.result ≡ budget_answer (soc_in a.soc.now) a.wires a.limit a.capture a.tries
 same t =
     let a = t.before.before.before.before.args in
-    t.plan-within.ensures ∙ ap (λ d. budgetAnswer d a.wires a.limit a.capture a.tries) t.before.soc-in.ensures
+    t.plan-within.ensures ∙ ap (λ d. budget_answer d a.wires a.limit a.capture a.tries) t.before.soc-in.ensures
 
 soc-in-requires : tie.Need-soc-in-requires
 soc-in-requires c κs = search rules
@@ -55,8 +55,8 @@ returns-2 c =
     let t = i.before.before in
     let s = t.before.before.before.before in
     let e = same t in
-    let w = ap (λ x. budgetBytes x t.plan-within.result.known t.plan-within.result.tries t.plan-within.result.plan)
-    f.is-finished.ensures ∙ ap foundBytes e in
+    let w = ap (λ x. budget_bytes x t.plan-within.result.known t.plan-within.result.tries t.plan-within.result.plan)
+    f.is-finished.ensures ∙ ap found_bytes e in
     whole-given (ap (λ a. a.refusal) e) s.args.into.now w (omega arith) i.if1.false k.budget-bytes.ensures
     c.code-of-bytes.ensures
 

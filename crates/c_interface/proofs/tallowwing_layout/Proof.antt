@@ -2,9 +2,9 @@
 use borrow.Author.Rules.{rules}
 use native.Mathlib.Omega.{arith}
 use mathlib.Core.Path.{◌≡◌, ap, ◌∙◌}
-use Rattle.wrapper_layout.specs.LayoutAnswers.{layoutAnswer}
-use Rattle.c_forms.specs.SocForm.{socIn}
-use Rattle.c_forms.specs.LayoutForm.{layoutBytes}
+use Rattle.wrapper_layout.specs.LayoutAnswers.{layout_answer}
+use Rattle.c_forms.specs.SocForm.{soc_in}
+use Rattle.c_forms.specs.LayoutForm.{layout_bytes}
 use Rattle.c_interface.proofs.CodeLaws.{refused-given, whole-given}
 use Rattle.c_interface.proofs.tallowwing_layout.Statement.{statement}
 use Rattle.c_interface.proofs.tallowwing_layout.Tie as tie
@@ -12,10 +12,10 @@ use Rattle.c_interface.proofs.tallowwing_layout.Tie as tie
 -- what the call answers, for the record in the bytes
 same : (t : tie.After-layout) →
     let a = t.before.before.before.before.args in
-    t.layout.result ≡ layoutAnswer (socIn a.soc.now) a.«module» a.test a.width a.capture
+    t.layout.result ≡ layout_answer (soc_in a.soc.now) a.«module» a.test a.width a.capture
 same t =
     let a = t.before.before.before.before.args in
-    t.layout.ensures ∙ ap (λ d. layoutAnswer d a.«module» a.test a.width a.capture) t.before.soc-in.ensures
+    t.layout.ensures ∙ ap (λ d. layout_answer d a.«module» a.test a.width a.capture) t.before.soc-in.ensures
 
 soc-in-requires : tie.Need-soc-in-requires
 soc-in-requires c κs = search rules
@@ -49,7 +49,7 @@ returns-2 c =
     let t = i.before.before in
     let s = t.before.before.before.before in
     let e = same t in
-    whole-given (ap (λ a. a.refusal) e) s.args.into.now (ap layoutBytes e) (omega arith) i.if1.false k.layout-bytes.ensures c.code-of-bytes.ensures
+    whole-given (ap (λ a. a.refusal) e) s.args.into.now (ap layout_bytes e) (omega arith) i.if1.false k.layout-bytes.ensures c.code-of-bytes.ensures
 
 pub tallowwing-layout-spec : {M : Type 1} → statement M
 tallowwing-layout-spec =

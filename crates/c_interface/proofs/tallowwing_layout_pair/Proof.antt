@@ -3,7 +3,7 @@
 use borrow.Author.Rules.{rules}
 use native.Mathlib.Omega.{arith}
 use mathlib.Core.Path.{ap}
-use Rattle.c_forms.specs.LayoutForm.{layoutBytes}
+use Rattle.c_forms.specs.LayoutForm.{layout_bytes}
 use Rattle.c_interface.proofs.CodeLaws.{pair-refused-given, pair-whole-given}
 use Rattle.c_interface.proofs.tallowwing_layout_pair.Statement.{statement}
 use Rattle.c_interface.proofs.tallowwing_layout_pair.Tie as tie
@@ -37,7 +37,7 @@ returns-2 c =
     let t = i.before.before in
     let e = t.layout-pair.ensures in
     pair-whole-given (ap (λ a. a.answer.refusal) e) (ap (λ a. a.meant) e) t.before.before.before.before.args.into.now
-    (ap (λ a. layoutBytes a.answer) e) (omega arith)
+    (ap (λ a. layout_bytes a.answer) e) (omega arith)
     i.if1.false
     k.layout-bytes.ensures
     c.code-of-bytes.ensures

@@ -2,7 +2,7 @@
 -- is. Assumes nothing.
 use borrow.Author.Rules.{rules}
 use mathlib.Core.Path.{ap, ◌∙◌}
-use Rattle.c_interface.specs.Codes.{above, partFigure, shownCode}
+use Rattle.c_interface.specs.Codes.{above, part_figure, shown_code}
 use Rattle.c_interface.proofs.CodeLaws.{figure-none, figure-refused}
 use Rattle.c_interface.proofs.tallowwing_module_lines.Statement.{statement}
 use Rattle.c_interface.proofs.tallowwing_module_lines.Tie as tie
@@ -18,8 +18,8 @@ returns c =
     let t = c.before.before.before.lines-shown in
     let a = t.result in
     c.pair-refused.ensures
-    ∙ figure-refused a.refusal a.meant (partFigure a.over a.part.from a.part.to) c.before.if1.true
-    ∙ ap shownCode t.ensures
+    ∙ figure-refused a.refusal a.meant (part_figure a.over a.part.from a.part.to) c.before.if1.true
+    ∙ ap shown_code t.ensures
 
 part-figure-requires : tie.Need-part-figure-requires
 part-figure-requires c κs = search rules
@@ -33,8 +33,8 @@ returns-2 c =
     let a = t.result in
     c.above-byte.ensures
     ∙ ap (above 0) c.before.part-figure.ensures
-    ∙ figure-none a.refusal a.meant (partFigure a.over a.part.from a.part.to) c.before.before.if1.false
-    ∙ ap shownCode t.ensures
+    ∙ figure-none a.refusal a.meant (part_figure a.over a.part.from a.part.to) c.before.before.if1.false
+    ∙ ap shown_code t.ensures
 
 pub tallowwing-module-lines-spec : {M : Type 1} → statement M
 tallowwing-module-lines-spec = tie.close

@@ -1,7 +1,7 @@
 -- `c_interface::tallowwing_module_wires` meets its contract: the answer for the record in the bytes, as a code. Assumes nothing.
 use borrow.Author.Rules.{rules}
 use mathlib.Core.Path.{ap, ◌∙◌}
-use Rattle.wrapper_times.specs.TimeAnswers.{moduleTimeAnswer}
+use Rattle.wrapper_times.specs.TimeAnswers.{module_time_answer}
 use Rattle.c_interface.specs.Codes.{code}
 use Rattle.c_interface.proofs.tallowwing_module_wires.Statement.{statement}
 use Rattle.c_interface.proofs.tallowwing_module_wires.Tie as tie
@@ -22,7 +22,7 @@ returns : tie.Need-returns
 returns c =
     let t = c.before.before in
     let a = t.before.before.before.args in
-    let e = t.module-time.ensures ∙ ap (λ d. moduleTimeAnswer d a.«module» a.width a.capture) t.before.soc-in.ensures in
+    let e = t.module-time.ensures ∙ ap (λ d. module_time_answer d a.«module» a.width a.capture) t.before.soc-in.ensures in
     c.code_of_lem.ensures ∙ ap (λ r. code r.refusal r.wires.0) e
 
 pub tallowwing-module-wires-spec : {M : Type 1} → statement M

@@ -2,9 +2,9 @@
 use borrow.Author.Rules.{rules}
 use native.Mathlib.Omega.{arith}
 use mathlib.Core.Path.{◌≡◌, ap, ◌∙◌}
-use Rattle.plan.specs.PlanAnswers.{planAnswer}
-use Rattle.c_forms.specs.SocForm.{socIn}
-use Rattle.c_forms.specs.PlanForm.{planBytes}
+use Rattle.plan.specs.PlanAnswers.{plan_answer}
+use Rattle.c_forms.specs.SocForm.{soc_in}
+use Rattle.c_forms.specs.PlanForm.{plan_bytes}
 use Rattle.c_interface.proofs.CodeLaws.{refused-given, whole-given}
 use Rattle.c_interface.proofs.tallowwing_plan.Statement.{statement}
 use Rattle.c_interface.proofs.tallowwing_plan.Tie as tie
@@ -12,10 +12,10 @@ use Rattle.c_interface.proofs.tallowwing_plan.Tie as tie
 -- what the call answers, for the record in the bytes
 same : (t : tie.After-plan) →
     let a = t.before.before.before.before.args in
-    t.plan.result ≡ planAnswer (socIn a.soc.now) a.wires a.limit a.capture
+    t.plan.result ≡ plan_answer (soc_in a.soc.now) a.wires a.limit a.capture
 same t =
     let a = t.before.before.before.before.args in
-    t.plan.ensures ∙ ap (λ d. planAnswer d a.wires a.limit a.capture) t.before.soc-in.ensures
+    t.plan.ensures ∙ ap (λ d. plan_answer d a.wires a.limit a.capture) t.before.soc-in.ensures
 
 soc-in-requires : tie.Need-soc-in-requires
 soc-in-requires c κs = search rules
@@ -49,7 +49,7 @@ returns-2 c =
     let t = i.before.before in
     let s = t.before.before.before.before in
     let e = same t in
-    whole-given (ap (λ a. a.refusal) e) s.args.into.now (ap (λ a. planBytes a.plan) e) (omega arith) i.if1.false k.plan-bytes.ensures c.code-of-bytes.ensures
+    whole-given (ap (λ a. a.refusal) e) s.args.into.now (ap (λ a. plan_bytes a.plan) e) (omega arith) i.if1.false k.plan-bytes.ensures c.code-of-bytes.ensures
 
 pub tallowwing-plan-spec : {M : Type 1} → statement M
 tallowwing-plan-spec =

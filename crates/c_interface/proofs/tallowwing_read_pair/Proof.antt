@@ -3,7 +3,7 @@
 use borrow.Author.Rules.{rules}
 use native.Mathlib.Omega.{arith}
 use mathlib.Core.Path.{ap}
-use Rattle.c_forms.specs.SocForm.{socBytes}
+use Rattle.c_forms.specs.SocForm.{soc_bytes}
 use Rattle.c_interface.proofs.CodeLaws.{pair-refused-given, pair-whole-given}
 use Rattle.c_interface.proofs.tallowwing_read_pair.Statement.{statement}
 use Rattle.c_interface.proofs.tallowwing_read_pair.Tie as tie
@@ -37,7 +37,7 @@ returns-2 c =
     let t = i.before.before in
     let e = t.read-pair.ensures in
     pair-whole-given (ap (λ a. a.refusal) e) (ap (λ a. a.meant) e) t.before.before.before.before.args.into.now
-    (ap (λ a. socBytes a.soc) e) (omega arith)
+    (ap (λ a. soc_bytes a.soc) e) (omega arith)
     i.if1.false
     k.soc-bytes.ensures
     c.code-of-bytes.ensures

@@ -2,7 +2,7 @@
 use borrow.Author.Rules.{rules}
 use native.Mathlib.Omega.{arith}
 use mathlib.Core.Path.{ap}
-use Rattle.c_forms.specs.PlanForm.{planBytes}
+use Rattle.c_forms.specs.PlanForm.{plan_bytes}
 use Rattle.c_interface.proofs.CodeLaws.{refused-given, whole-given}
 use Rattle.c_interface.proofs.tallowwing_read_plan.Statement.{statement}
 use Rattle.c_interface.proofs.tallowwing_read_plan.Tie as tie
@@ -36,7 +36,7 @@ returns-2 c =
     let t = i.before.before in
     let s = t.before.before.before in
     let e = t.read-plan.ensures in
-    whole-given (ap (λ a. a.refusal) e) s.args.into.now (ap (λ a. planBytes a.plan) e) (omega arith) i.if1.false k.plan-bytes.ensures c.code-of-bytes.ensures
+    whole-given (ap (λ a. a.refusal) e) s.args.into.now (ap (λ a. plan_bytes a.plan) e) (omega arith) i.if1.false k.plan-bytes.ensures c.code-of-bytes.ensures
 
 pub tallowwing-read-plan-spec : {M : Type 1} → statement M
 tallowwing-read-plan-spec =

@@ -2,7 +2,7 @@
 use borrow.Author.Rules.{rules}
 use native.Mathlib.Omega.{arith}
 use mathlib.Core.Path.{ap}
-use Rattle.c_forms.specs.SocForm.{socBytes}
+use Rattle.c_forms.specs.SocForm.{soc_bytes}
 use Rattle.c_interface.proofs.CodeLaws.{refused-given, whole-given}
 use Rattle.c_interface.proofs.tallowwing_read_soc.Statement.{statement}
 use Rattle.c_interface.proofs.tallowwing_read_soc.Tie as tie
@@ -36,7 +36,7 @@ returns-2 c =
     let t = i.before.before in
     let s = t.before.before.before in
     let e = t.read-soc.ensures in
-    whole-given (ap (λ a. a.refusal) e) s.args.into.now (ap (λ a. socBytes a.soc) e) (omega arith) i.if1.false k.soc-bytes.ensures c.code-of-bytes.ensures
+    whole-given (ap (λ a. a.refusal) e) s.args.into.now (ap (λ a. soc_bytes a.soc) e) (omega arith) i.if1.false k.soc-bytes.ensures c.code-of-bytes.ensures
 
 pub tallowwing-read-soc-spec : {M : Type 1} → statement M
 tallowwing-read-soc-spec =

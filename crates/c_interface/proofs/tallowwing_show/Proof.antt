@@ -1,7 +1,7 @@
 -- `c_interface::tallowwing_show` meets its contract: what is shown for the record in the bytes, as a code. Assumes nothing.
 use borrow.Author.Rules.{rules}
 use mathlib.Core.Path.{ap, ◌∙◌}
-use Rattle.listing.specs.Listing.{showAnswer, showLeaves}
+use Rattle.listing.specs.Listing.{show_answer, show_leaves}
 use Rattle.c_interface.specs.Codes.{code}
 use Rattle.c_interface.proofs.tallowwing_show.Statement.{statement}
 use Rattle.c_interface.proofs.tallowwing_show.Tie as tie
@@ -23,7 +23,7 @@ returns c =
     let t = c.before.before.before in
     let r = t.before.before in
     let buf = r.before.before.before.args.into.now in
-    (c.code_of_lem.ensures ∙ ap (λ a. code a.refusal a.len) (t.show.ensures.0 ∙ ap (λ d. showAnswer d buf) r.plan-in.ensures), t.show.ensures.1 ∙ ap (λ d. showLeaves d buf) r.plan-in.ensures)
+    (c.code_of_lem.ensures ∙ ap (λ a. code a.refusal a.len) (t.show.ensures.0 ∙ ap (λ d. show_answer d buf) r.plan-in.ensures), t.show.ensures.1 ∙ ap (λ d. show_leaves d buf) r.plan-in.ensures)
 
 pub tallowwing-show-spec : {M : Type 1} → statement M
 tallowwing-show-spec =

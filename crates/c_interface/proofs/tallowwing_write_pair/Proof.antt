@@ -2,7 +2,7 @@
 -- Assumes nothing.
 use borrow.Author.Rules.{rules}
 use mathlib.Core.Path.{ap, ◌∙◌}
-use Rattle.c_interface.specs.Codes.{pairFigure}
+use Rattle.c_interface.specs.Codes.{pair_figure}
 use Rattle.c_interface.proofs.tallowwing_write_pair.Statement.{statement}
 use Rattle.c_interface.proofs.tallowwing_write_pair.Tie as tie
 
@@ -18,7 +18,7 @@ same_length c = search rules
 returns : tie.Need-returns
 returns c =
     let w = c.before.before.before.write-pair in
-    (c.pair-code-of.ensures ∙ ap (λ a. pairFigure a.answer.refusal a.meant a.answer.len) w.ensures.0, w.ensures.1)
+    (c.pair-code-of.ensures ∙ ap (λ a. pair_figure a.answer.refusal a.meant a.answer.len) w.ensures.0, w.ensures.1)
 
 pub tallowwing-write-pair-spec : {M : Type 1} → statement M
 tallowwing-write-pair-spec = tie.close (tie.spec write-pair-requires pair-code-of-requires same_length returns)

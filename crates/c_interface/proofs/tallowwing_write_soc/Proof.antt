@@ -1,7 +1,7 @@
 -- `c_interface::tallowwing_write_soc` meets its contract: what the writer answers for the record in the bytes, as a code. Assumes nothing.
 use borrow.Author.Rules.{rules}
 use mathlib.Core.Path.{ap, ◌∙◌}
-use Rattle.text_writer.specs.WrittenSoc.{writeAnswer, writeLeaves}
+use Rattle.text_writer.specs.WrittenSoc.{write_answer, write_leaves}
 use Rattle.c_interface.specs.Codes.{code}
 use Rattle.c_interface.proofs.tallowwing_write_soc.Statement.{statement}
 use Rattle.c_interface.proofs.tallowwing_write_soc.Tie as tie
@@ -23,7 +23,7 @@ returns c =
     let t = c.before.before.before in
     let r = t.before.before in
     let buf = r.before.before.before.args.into.now in
-    (c.code_of_lem.ensures ∙ ap (λ a. code a.refusal a.len) (t.write-soc.ensures.0 ∙ ap (λ d. writeAnswer d buf) r.soc-in.ensures), t.write-soc.ensures.1 ∙ ap (λ d. writeLeaves d buf) r.soc-in.ensures)
+    (c.code_of_lem.ensures ∙ ap (λ a. code a.refusal a.len) (t.write-soc.ensures.0 ∙ ap (λ d. write_answer d buf) r.soc-in.ensures), t.write-soc.ensures.1 ∙ ap (λ d. write_leaves d buf) r.soc-in.ensures)
 
 pub tallowwing-write-soc-spec : {M : Type 1} → statement M
 tallowwing-write-soc-spec =

@@ -3,13 +3,13 @@
 use borrow.Author.Rules.{rules}
 use native.Mathlib.Omega.{arith}
 use mathlib.Core.Path.{◌≡◌, refl, sym, ap, ◌∙◌}
-use Rattle.module_part.specs.Trimmed.{lastField}
-use Rattle.module_part.proofs.TrimLaws.{end-stop, end_on}
+use Rattle.module_part.specs.Trimmed.{last_field}
+use Rattle.module_part.proofs.TrimLaws.{end_stop, end_on}
 use Rattle.module_part.proofs.field_end.Statement.{statement}
 use Rattle.module_part.proofs.field_end.Tie as tie
 
 abbrev invariant-loop : tie.invariant-loop
-invariant-loop text to e₀ e = lastField to text ≡ lastField e text
+invariant-loop text to e₀ e = last_field to text ≡ last_field e text
 
 abbrev decreases-loop : tie.decreases-loop
 decreases-loop text to e₀ e = e
@@ -27,7 +27,7 @@ returns : tie.Need-returns invariant-loop decreases-loop
 returns c =
     let l = c.before.before.before.loop in
     let t = c.before.before.before.before.before.args.text.now in
-    sym (l.invariant ∙ end-stop t l.e (omega arith) (sym c.before.is-field-byte.ensures ∙ c.if1.true))
+    sym (l.invariant ∙ end_stop t l.e (omega arith) (sym c.before.is-field-byte.ensures ∙ c.if1.true))
 
 sub-e : tie.Need-overflow-sub-e invariant-loop decreases-loop
 sub-e c = search rules
@@ -42,11 +42,11 @@ loop-again c =
     l.invariant ∙ end_on t l.e (omega arith) (sym c.before.is-field-byte.ensures ∙ c.if1.false)
 
 returns-2 : tie.Need-returns-2 invariant-loop decreases-loop
-unfolding lastField
+unfolding last_field
 returns-2 c =
     let l = c.before.loop in
     let z : l.e ≡ 0 = omega arith in
-    sym (l.invariant ∙ ap (λ n. lastField n c.before.before.before.args.text.now) z)
+    sym (l.invariant ∙ ap (λ n. last_field n c.before.before.before.args.text.now) z)
 
 pub field-end-spec : {M : Type 1} → statement M
 field-end-spec =

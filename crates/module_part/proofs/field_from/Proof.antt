@@ -5,13 +5,13 @@ use native.Mathlib.Omega.{arith}
 use Prim.Native.Nat.{◌+◌, ◌-◌}
 use mathlib.Core.Path.{◌≡◌, refl, sym, ◌∙◌}
 use lib.ListN.{length, drop}
-use Rattle.module_part.specs.Trimmed.{untilField}
-use Rattle.module_part.proofs.TrimLaws.{until_stop, until-on, until_end}
+use Rattle.module_part.specs.Trimmed.{until_field}
+use Rattle.module_part.proofs.TrimLaws.{until_stop, until_on, until_end}
 use Rattle.module_part.proofs.field_from.Statement.{statement}
 use Rattle.module_part.proofs.field_from.Tie as tie
 
 abbrev invariant-loop : tie.invariant-loop
-invariant-loop text at i₀ i = at + untilField (drop at text) ≡ i + untilField (drop i text)
+invariant-loop text at i₀ i = at + until_field (drop at text) ≡ i + until_field (drop i text)
 
 abbrev decreases-loop : tie.decreases-loop
 decreases-loop text at i₀ i = length text - i
@@ -39,7 +39,7 @@ loop-again : tie.Need-loop-preserved invariant-loop decreases-loop
 loop-again c =
     let l = c.before.before.before.loop in
     let t = c.before.before.before.before.before.args.text.now in
-    let e = until-on t l.i (omega arith) (sym c.before.is-field-byte.ensures ∙ c.if1.false) in
+    let e = until_on t l.i (omega arith) (sym c.before.is-field-byte.ensures ∙ c.if1.false) in
     l.invariant ∙ omega (arith, e)
 
 returns-2 : tie.Need-returns-2 invariant-loop decreases-loop

@@ -1,4 +1,4 @@
--- `module_part::is_field_byte` meets its contract: its tests are those of `inField`, one behind the other. Assumes nothing.
+-- `module_part::is_field_byte` meets its contract: its tests are those of `in_field`, one behind the other. Assumes nothing.
 use borrow.Author.Rules.{rules}
 use borrow.Author.Tests.{eq-eqb, ne_eqb}
 use native.Mathlib.Omega.{arith}

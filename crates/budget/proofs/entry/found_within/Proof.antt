@@ -1,15 +1,15 @@
 -- `budget::entry::found_within` meets its contract: the tables are a table to search over, and what is made of what was found is the answer
--- (`met-is` and its neighbours). Assumes nothing.
+-- (`met_is` and its neighbours). Assumes nothing.
 use borrow.Author.Rules.{rules}
 use native.Mathlib.Omega.{arith}
 use mathlib.Core.Path.{◌≡◌, refl, ap, ◌∙◌}
 use lib.ListN.{length}
-use Rattle.soc.specs.Planned.{plannedOf}
+use Rattle.soc.specs.Planned.{planned_of}
 use Rattle.plan_search.specs.Search.{AreTimes}
-use Rattle.plan.specs.Tables.{tablePlaces}
+use Rattle.plan.specs.Tables.{table_places}
 use Rattle.plan.proofs.TableLaws.{times-are}
 use Rattle.budget.specs.BudgetAnswers.{ended_as}
-use Rattle.budget.proofs.EntryLaws.{found-kept, known_is, met-is, stopped-is, tries-is}
+use Rattle.budget.proofs.EntryLaws.{found-kept, known_is, met_is, stopped-is, tries-is}
 use Rattle.budget.proofs.entry.found_within.Statement.{statement}
 use Rattle.budget.proofs.entry.found_within.Tie as tie
 
@@ -17,8 +17,8 @@ use Rattle.budget.proofs.entry.found_within.Tie as tie
 times : (c : tie.After-tables-of) → AreTimes c.tables-of.result.cycles c.before.args.p.count
 times c =
     let q = c.before.requires.0 in
-    let e : c.before.args.p.count ≡ length (plannedOf c.before.args.s) = ap (λ x. x.count) q.numbers in
-    let l : length c.tables-of.result.cycles ≡ tablePlaces = search rules in
+    let e : c.before.args.p.count ≡ length (planned_of c.before.args.s) = ap (λ x. x.count) q.numbers in
+    let l : length c.tables-of.result.cycles ≡ table_places = search rules in
     rw e (times-are c.tables-of.ensures q.captures q.capturing q.good refl l q.most)
 
 tables-of-requires : tie.Need-tables-of-requires
@@ -58,7 +58,7 @@ returns c =
     let s = stopped-is x.capture.0 x.s x.wires.0 x.limit x.budget a q.0.numbers q.0.narrow q.3 is in
     let t = tries-is x.capture.0 x.s x.wires.0 x.limit x.budget a q.0.numbers q.0.narrow q.3 is in
     let k = known_is x.capture.0 x.s x.wires.0 x.limit x.budget a q.0.numbers q.0.narrow q.3 is in
-    let r = c.record-met.ensures ∙ met-is x.capture.0 x.s x.wires.0 x.limit x.budget a q.0.numbers q.0.narrow q.3 is in
+    let r = c.record-met.ensures ∙ met_is x.capture.0 x.s x.wires.0 x.limit x.budget a q.0.numbers q.0.narrow q.3 is in
     let e = c.before.ended-as.ensures ∙ ap ended_as s in
     rw (c.before.before.none.ensures, e, t, k, r)
 

@@ -8,12 +8,12 @@ use mathlib.Core.Path.{refl, sym, ap, ◌∙◌}
 use mathlib.Core.List.{List, ◌++◌, map}
 use lib.ListN.{length, take, set, length-set}
 use lib.Seq.{take-set-le}
-use Rattle.plan_rules.specs.Listed.{widthLists}
-use Rattle.budget_rules.specs.Tries.{onLists}
-use Rattle.budget_search.specs.Steps.{heldIn}
-use Rattle.plan_search.specs.Search.{tableTime}
-use Rattle.budget_search.proofs.SpendLaws.{lists-append, lists-none, lists-one, lists-stopped}
-use Rattle.budget_search.proofs.PlaceLaws.{spent-held}
+use Rattle.plan_rules.specs.Listed.{width_lists}
+use Rattle.budget_rules.specs.Tries.{on_lists}
+use Rattle.budget_search.specs.Steps.{held_in}
+use Rattle.plan_search.specs.Search.{table_time}
+use Rattle.budget_search.proofs.SpendLaws.{lists_append, lists_none, lists_one, lists_stopped}
+use Rattle.budget_search.proofs.PlaceLaws.{spent_held}
 use Rattle.budget_search.proofs.ListLaws.{share-small, low_fits, begun-next, begun_more, left-none, last-widths, left_one}
 use Rattle.budget_search.proofs.ListLaws.{left-more, front_same}
 use borrow.Fn.Kinds.{In}
@@ -82,7 +82,7 @@ else2 t g = g.before.before.before.before.before.before
 abbrev left-lists : (t : ℕ) → Start t → List (List ℕ)
 left-lists t s =
     map (λ us. take s.args.at s.args.widths.now ++ us)
-    (widthLists (length s.args.widths.now - s.args.at) s.args.low.0 s.args.left.0)
+    (width_lists (length s.args.widths.now - s.args.at) s.args.low.0 s.args.left.0)
 
 is-stopped-requires : (t : ℕ) → lts.Need-is-stopped-requires (calls t) (pre t) reads.Post
 is-stopped-requires t c κs = search rules
@@ -92,8 +92,8 @@ returns t c =
     let s = c.before.before.before.before in
     let a = s.args in
     let e = sym c.before.is-stopped.ensures ∙ c.if1.true in (
-      sym (lists-stopped (tableTime a.table.now) a.budget (heldIn a.n a.budget a.s a.best.now) e
-          (spent-held a.n a.budget a.s a.best.now e) a.n (left-lists t s) s.requires.1.1),
+      sym (lists_stopped (table_time a.table.now) a.budget (held_in a.n a.budget a.s a.best.now) e
+          (spent_held a.n a.budget a.s a.best.now e) a.n (left-lists t s) s.requires.1.1),
       s.requires.1.3,
       refl,
     )
@@ -115,8 +115,8 @@ returns-2 t c =
     let s = c.before.before.before.before.before.before.before in
     let a = s.args in
     let none = left-none s.requires.1.4 c.if2.true in (
-      sym (ap (λ wss. onLists (tableTime a.table.now) a.budget a.n wss (heldIn a.n a.budget a.s a.best.now)) none
-          ∙ lists-none (tableTime a.table.now) a.budget a.n (heldIn a.n a.budget a.s a.best.now)),
+      sym (ap (λ wss. on_lists (table_time a.table.now) a.budget a.n wss (held_in a.n a.budget a.s a.best.now)) none
+          ∙ lists_none (table_time a.table.now) a.budget a.n (held_in a.n a.budget a.s a.best.now)),
       s.requires.1.3,
       refl,
     )
@@ -149,10 +149,10 @@ returns-3 t c =
     let p = c.Placed-on in
     let one = left_one s.requires.1.4 c.before.before.before.if3.true (fits t c.before.before.before.before) in (
       p.ensures.0
-          ∙ sym (ap (λ wss. onLists (tableTime a.table.now) a.budget a.n wss
-          (heldIn a.n a.budget a.s a.best.now)) one
-          ∙ lists-one (tableTime a.table.now) a.budget a.n (set a.widths.now a.at a.left.0)
-          (heldIn a.n a.budget a.s a.best.now)),
+          ∙ sym (ap (λ wss. on_lists (table_time a.table.now) a.budget a.n wss
+          (held_in a.n a.budget a.s a.best.now)) one
+          ∙ lists_one (table_time a.table.now) a.budget a.n (set a.widths.now a.at a.left.0)
+          (held_in a.n a.budget a.s a.best.now)),
       p.ensures.1,
       take-set-le a.at a.widths.now a.at a.left.0 (omega arith),
     )
@@ -225,14 +225,14 @@ returns-4 t c =
     let a = s.args in
     let o = h.over-lists in
     let q = c.before.before.over-lists2 in
-    let time = tableTime a.table.now in
+    let time = table_time a.table.now in
     let vs = o.new.1.1.1.1.1.1.0 in
     let n = o.auto.1.1.1.1.1.1.0 ∙ length-set a.widths.now a.at a.low.0 in
     let e = front_same a.widths.now vs a.at a.low.0 o.ensures.2 in
     let more = left-more s.pre.1.4 vs n e (fits t (else2 t h)) in (
-      q.ensures.0 ∙ ap (onLists time a.budget a.n _) o.ensures.0
-          ∙ sym (ap (λ wss. onLists time a.budget a.n wss (heldIn a.n a.budget a.s a.best.now)) more
-          ∙ lists-append time a.budget a.n _ _ (heldIn a.n a.budget a.s a.best.now)),
+      q.ensures.0 ∙ ap (on_lists time a.budget a.n _) o.ensures.0
+          ∙ sym (ap (λ wss. on_lists time a.budget a.n wss (held_in a.n a.budget a.s a.best.now)) more
+          ∙ lists_append time a.budget a.n _ _ (held_in a.n a.budget a.s a.best.now)),
       q.ensures.1,
       q.ensures.2 ∙ e,
     )

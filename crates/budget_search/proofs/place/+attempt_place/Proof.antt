@@ -6,12 +6,12 @@ use native.Mathlib.Omega.{arith}
 use Prim.Native.Nat.{ℕ, ◌+◌, ◌-◌, ◌*◌, ◌≤◌, ◌<◌}
 use mathlib.Core.Path.{◌≡◌, refl, sym, ap, ◌∙◌}
 use lib.ListN.{length, get_or, take, set, length-set}
-use Rattle.budget_search.specs.Steps.{heldIn}
-use Rattle.plan_search.specs.Search.{tableTime}
+use Rattle.budget_search.specs.Steps.{held_in}
+use Rattle.plan_search.specs.Search.{table_time}
 use Rattle.budget_search.specs.Place.{attempted, Placed}
-use Rattle.budget_rules.specs.Tries.{busyWith}
-use Rattle.budget_search.proofs.PlaceLaws.{Left, left-ready, placed-reached, placed-kept, time-in, busy-most, left-start}
-use Rattle.budget_search.proofs.PlaceLaws.{ready-next, attempt-halted, attempt-dropped, attempt-on, left-tried, left_end}
+use Rattle.budget_rules.specs.Tries.{busy_with}
+use Rattle.budget_search.proofs.PlaceLaws.{Left, left_ready, placed-reached, placed-kept, time_in_lem, busy-most, left-start}
+use Rattle.budget_search.proofs.PlaceLaws.{ready_next, attempt_halted, attempt_dropped, attempt_on, left-tried, left_end}
 use borrow.Fn.Kinds.{In}
 use borrow.Fn.PlainCycle.{Measures, is, falls, and}
 use Rattle.budget_search.proofs.place.attempt.Reads as attempt
@@ -96,29 +96,29 @@ At-end t = attempt-lts.After-slice-known5 (attempt-calls t) (attempt-at t) attem
 abbrev time-start : (t : ℕ) → At-time t → attempt-lts.Start (attempt-calls t) (attempt-at t) attempt.Post
 time-start t g = g.before.before.before.before.before.before.before.before.before
 
-abbrev larger-time : (t : ℕ) → At-larger t → At-time t
-larger-time t m = m.before.before.before.before
+abbrev larger_time : (t : ℕ) → At-larger t → At-time t
+larger_time t m = m.before.before.before.before
 
 abbrev end-larger : (t : ℕ) → At-end t → At-larger t
 end-larger t c = c.before.before.before.before.before.before.before.before
 
 abbrev end-start : (t : ℕ) → At-end t → attempt-lts.Start (attempt-calls t) (attempt-at t) attempt.Post
-end-start t c = time-start t (larger-time t (end-larger t c))
+end-start t c = time-start t (larger_time t (end-larger t c))
 
 -- the load is the definition's
 busy-is : (t : ℕ) (g : At-time t)
     → let a = (time-start t g).args in
     get_or a.loads.now a.b 0 + g.time-at.result.0
-    ≡ busyWith (tableTime a.table.now) a.widths.now a.i a.loads.now a.b
+    ≡ busy_with (table_time a.table.now) a.widths.now a.i a.loads.now a.b
 busy-is t g = let a = (time-start t g).args in ap (λ x. get_or a.loads.now a.b 0 + x) g.time-at.ensures
 
 -- the loads that come back from place are those that it was lent
-loads-back : (t : ℕ) (c : At-end t)
-    → let g = larger-time t (end-larger t c) in
+loads_back : (t : ℕ) (c : At-end t)
+    → let g = larger_time t (end-larger t c) in
     let a = (time-start t g).args in
     c.before.before.before.before.place.new.1.1.1.1.1.0 ≡ set a.loads.now a.b
     (get_or a.loads.now a.b 0 + g.time-at.result.0)
-loads-back t c = c.before.before.before.before.place.ensures.loads-same
+loads_back t c = c.before.before.before.before.place.ensures.loads-same
 
 -- the try was gone on with
 tried-on : (t : ℕ) (c : At-end t)
@@ -126,14 +126,14 @@ tried-on : (t : ℕ) (c : At-end t)
     let last = c.before.before.before.before.place.new in
     Placed a.budget a.i a.loads.now (set last.1.1.1.1.1.0 a.b (get_or a.loads.now a.b 0)) a.buses.now
     last.1.1.1.1.1.1.0 last.1.1.1.1.1.1.1.0 c.before.before.before.before.place.result
-    (attempted (tableTime a.table.now) a.widths.now a.budget (length a.buses.now - (a.i + 1)) a.i a.loads.now
-    (take a.i a.buses.now) a.b (heldIn (length a.buses.now) a.budget a.s a.best.now))
+    (attempted (table_time a.table.now) a.widths.now a.budget (length a.buses.now - (a.i + 1)) a.i a.loads.now
+    (take a.i a.buses.now) a.b (held_in (length a.buses.now) a.budget a.s a.best.now))
 tried-on t c =
     let e = (end-larger t c).before in
-    let g = larger-time t (end-larger t c) in
+    let g = larger_time t (end-larger t c) in
     let n = g.before.before.before in
     let s = time-start t g in
-    attempt-on s.pre.1.0 s.pre.1.1.0 s.args.b s.pre.1.1.1 s.args.s
+    attempt_on s.pre.1.0 s.pre.1.1.0 s.args.b s.pre.1.1.1 s.args.s
     (omega (arith, n.before.if1.left)) n.count.ensures (busy-is t g) (sym e.if2.left ∙ e.before.is-reached.ensures)
     c.before.before.before.before.place.ensures
 
@@ -143,7 +143,7 @@ attempt-halt-requires t c κs = search rules
 attempt-returns : (t : ℕ) → attempt-lts.Need-returns (attempt-calls t) (attempt-at t) attempt.Post
 attempt-returns t c =
     let s = c.before.before.before.before.before.before in
-    attempt-halted s.requires.1.0 s.requires.1.1.0 s.args.b s.requires.1.1.1 s.args.s
+    attempt_halted s.requires.1.0 s.requires.1.1.0 s.args.b s.requires.1.1.1 s.args.s
     (omega (arith, c.before.if1.true)) c.halt.ensures
 
 attempt-count-requires : (t : ℕ) → attempt-lts.Need-count-requires (attempt-calls t) (attempt-at t) attempt.Post
@@ -164,7 +164,7 @@ attempt-slice-read-old t c = search rules
 attempt-time-at-requires : (t : ℕ) → attempt-lts.Need-time-at-requires (attempt-calls t) (attempt-at t) attempt.Post
 attempt-time-at-requires t c κs =
     let s = c.before.before.before.before.before.before.before.before in
-    time-in s.requires.1.0 s.requires.1.1.0 s.args.b s.requires.1.1.1
+    time_in_lem s.requires.1.0 s.requires.1.1.0 s.args.b s.requires.1.1.1
 
 attempt-add-busy : (t : ℕ) → attempt-lts.Need-add-busy (attempt-calls t) (attempt-at t) attempt.Post
 attempt-add-busy t c =
@@ -181,7 +181,7 @@ attempt-returns-2 t c =
     let g = c.before.before.before in
     let n = g.before.before.before in
     let s = time-start t g in
-    attempt-dropped s.pre.1.0 s.pre.1.1.0 s.args.b s.pre.1.1.1 s.args.s (omega (arith, n.before.if1.false))
+    attempt_dropped s.pre.1.0 s.pre.1.1.0 s.args.b s.pre.1.1.1 s.args.s (omega (arith, n.before.if1.false))
     n.count.ensures (busy-is t g) (sym c.if2.true ∙ c.before.is-reached.ensures)
 
 attempt-larger-requires : (t : ℕ) → attempt-lts.Need-larger-requires (attempt-calls t) (attempt-at t) attempt.Post
@@ -195,7 +195,7 @@ attempt-slice-write-loads t c = search rules
 
 attempt-cast-buses : (t : ℕ) → attempt-lts.Need-cast-buses (attempt-calls t) (attempt-at t) attempt.Post
 attempt-cast-buses t c =
-    let s = time-start t (larger-time t c) in
+    let s = time-start t (larger_time t c) in
     omega (arith, s.pre.1.0.widths.few, s.pre.1.1.1)
 
 attempt-add-buses : (t : ℕ) → attempt-lts.Need-add-buses (attempt-calls t) (attempt-at t) attempt.Post
@@ -213,13 +213,13 @@ attempt-add-place t c = search rules
 attempt-place-requires : (t : ℕ) → attempt-lts.Need-place-requires (attempt-calls t) (attempt-at t) attempt.Post
 attempt-place-requires t c κs =
     let m = c.before.before.before in
-    let g = larger-time t m in
+    let g = larger_time t m in
     let s = time-start t g in
     let n : length (set s.args.buses.now s.args.i (s.args.b + 1)) ≡ length s.args.buses.now =
     length-set s.args.buses.now s.args.i (s.args.b + 1) in
     let f : (length (set s.args.buses.now s.args.i (s.args.b + 1)) - (s.args.i + 1)) * 2 + 1 < t =
     omega (arith, n, s.pre.0, s.pre.1.1.0) in
-    (f, ready-next s.pre.1.0 s.pre.1.1.0 s.args.b s.pre.1.1.1 (busy-is t g) m.larger.ensures)
+    (f, ready_next s.pre.1.0 s.pre.1.1.0 s.args.b s.pre.1.1.1 (busy-is t g) m.larger.ensures)
 
 attempt-mul-loads-2 : (t : ℕ) → attempt-lts.Need-mul-loads-2 (attempt-calls t) (attempt-at t) attempt.Post
 attempt-mul-loads-2 t c =
@@ -229,13 +229,13 @@ attempt-mul-loads-2 t c =
 attempt-slice-write-loads-2 : (t : ℕ) → attempt-lts.Need-slice-write-loads-2 (attempt-calls t) (attempt-at t) attempt.Post
 attempt-slice-write-loads-2 t c =
     let s = end-start t c in
-    rw (loads-back t c, length-set) (omega (arith, s.pre.1.0.room, s.pre.1.1.1))
+    rw (loads_back t c, length-set) (omega (arith, s.pre.1.0.room, s.pre.1.1.1))
 
 attempt-same-length : (t : ℕ) → attempt-lts.Need-same-length (attempt-calls t) (attempt-at t) attempt.Post
 attempt-same-length t c =
-    let g = larger-time t (end-larger t c) in
+    let g = larger_time t (end-larger t c) in
     let a = (time-start t g).args in
-    simp length-set (ap length (loads-back t c) ∙ length-set a.loads.now a.b (get_or a.loads.now a.b 0 + g.time-at.result.0))
+    simp length-set (ap length (loads_back t c) ∙ length-set a.loads.now a.b (get_or a.loads.now a.b 0 + g.time-at.result.0))
 
 attempt-same-length-2 : (t : ℕ) → attempt-lts.Need-same-length-2 (attempt-calls t) (attempt-at t) attempt.Post
 attempt-same-length-2 t c =
@@ -288,7 +288,7 @@ place-attempt-requires t c κs =
     let v = l.loop.invariant in
     let h : s.args.i < length l.loop.buses = omega (arith, v.2.buses-length, s.requires.1.upto, l.before.if1.false) in
     let f : (length l.loop.buses - s.args.i) * 2 < t = omega (arith, v.2.buses-length, s.requires.0) in
-    (f, (left-ready v.2 s.requires.1, (h, omega (arith, v.0, v.1, c.before.before.before.loop-test.true))))
+    (f, (left_ready v.2 s.requires.1, (h, omega (arith, v.0, v.1, c.before.before.before.loop-test.true))))
 
 place-sub-left : (t : ℕ) → place-lts.Need-overflow-sub-left (place-calls t) (place_at t) place.Post place-Inv-loop place-μ-loop
 place-sub-left t c = omega (arith, c.before.before.before.before.before.before.before.before.loop-test.true)

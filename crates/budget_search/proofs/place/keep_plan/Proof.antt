@@ -4,7 +4,7 @@ use native.Mathlib.Omega.{arith}
 use mathlib.Core.Path.{◌≡◌, sym, ap, ◌∙◌}
 use lib.ListN.{length, length-set}
 use Rattle.plan_search.proofs.CopyLaws.{over}
-use Rattle.budget_search.specs.Steps.{busesAt, planIn}
+use Rattle.budget_search.specs.Steps.{buses_at, plan_in}
 use Rattle.budget_search.proofs.KeptLaws.{kept, plan-kept, rooms-kept}
 use Rattle.budget_search.proofs.place.keep_plan.Statement.{statement}
 use Rattle.budget_search.proofs.place.keep_plan.Tie as tie
@@ -35,9 +35,9 @@ returns c =
     let last = c.put2.new.1.0 in
     let p = s.requires.2.places in
     let is : last ≡ kept ws bs a.best.now =
-    c.put2.ensures.0 ∙ ap (λ l. over bs l busesAt) c.before.before.put.ensures.0 in
+    c.put2.ensures.0 ∙ ap (λ l. over bs l buses_at) c.before.before.put.ensures.0 in
     let n : length (kept ws bs a.best.now) ≡ length a.best.now = ap length (sym is) ∙ c.put2.ensures.1 ∙ sym p in (
-      ap (planIn (length bs)) is ∙ plan-kept ws bs s.requires.0 a.best.now p,
+      ap (plan_in (length bs)) is ∙ plan-kept ws bs s.requires.0 a.best.now p,
       rw is (rooms-kept ws bs s.requires.0 a.best.now p n),
     )
 

@@ -5,7 +5,7 @@ use native.Mathlib.Omega.{arith}
 use Prim.Native.Nat.{◌+◌, ◌-◌}
 use mathlib.Core.Path.{refl, ◌∙◌}
 use lib.ListN.{length}
-use Rattle.plan_search.proofs.CopyLaws.{Copied, copied-first, copied_more, copied_all}
+use Rattle.plan_search.proofs.CopyLaws.{Copied, copied_first, copied_more, copied_all}
 use Rattle.budget_search.proofs.place.put.Statement.{statement}
 use Rattle.budget_search.proofs.place.put.Tie as tie
 
@@ -18,7 +18,7 @@ decreases-loop from to₀ at i₀ to i = length from - i
 loop-holds : tie.Need-loop-init invariant-loop decreases-loop
 loop-holds c =
     let a = c.args in
-    copied-first a.from.now a.to.now a.at (omega (arith, c.requires.0, c.requires.1))
+    copied_first a.from.now a.to.now a.at (omega (arith, c.requires.0, c.requires.1))
 
 mul-to : tie.Need-overflow-mul-to invariant-loop decreases-loop
 mul-to c = search rules

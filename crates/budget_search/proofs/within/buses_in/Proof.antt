@@ -6,23 +6,23 @@ use mathlib.Core.Path.{◌≡◌, refl, sym, ap, ◌∙◌}
 use lib.ListN.{length, take, drop, length-set}
 use Rattle.units.specs.Places.{padded}
 use Rattle.units.proofs.PlaceLaws.{padded-none}
-use Rattle.budget_search.specs.Steps.{modulesMax, busesAt, bestPlaces}
+use Rattle.budget_search.specs.Steps.{modules_max, buses_at, best_places}
 use Rattle.plan_search.proofs.CopyLaws.{padded-more}
 use Rattle.budget_search.proofs.within.buses_in.Statement.{statement}
 use Rattle.budget_search.proofs.within.buses_in.Tie as tie
 
 abbrev invariant-loop : tie.invariant-loop
-invariant-loop n best buses₀ i₀ buses i = (i ≤ n) × (length buses ≡ modulesMax) × (buses ≡ padded modulesMax 0 (take i (drop busesAt best)))
+invariant-loop n best buses₀ i₀ buses i = (i ≤ n) × (length buses ≡ modules_max) × (buses ≡ padded modules_max 0 (take i (drop buses_at best)))
 
 abbrev decreases-loop : tie.decreases-loop
 decreases-loop n best buses₀ i₀ buses i = n - i
 
 -- the places of the buffer
-len : (c : tie.Start invariant-loop decreases-loop) → length c.args.t1 ≡ bestPlaces
+len : (c : tie.Start invariant-loop decreases-loop) → length c.args.t1 ≡ best_places
 len c = search rules
 
 loop-holds : tie.Need-loop-init invariant-loop decreases-loop
-loop-holds c = (omega arith, refl, sym (padded-none modulesMax 0))
+loop-holds c = (omega arith, refl, sym (padded-none modules_max 0))
 
 add-buses : tie.Need-overflow-add-buses invariant-loop decreases-loop
 add-buses c = search rules
@@ -56,7 +56,7 @@ loop-again c =
       omega arith,
       simp length-set l.invariant.1,
       rw l.invariant.2
-          (padded-more modulesMax s.args.t1 busesAt l.i (l.i + busesAt) (omega (arith, s.requires)) refl
+          (padded-more modules_max s.args.t1 buses_at l.i (l.i + buses_at) (omega (arith, s.requires)) refl
           (omega (arith, len s, s.requires))),
     )
 
@@ -65,7 +65,7 @@ returns c =
     let l = c.before.loop in
     let a = c.before.before.args in
     let e : l.i ≡ a.n = omega (arith, l.invariant.0, c.loop-test.false) in
-    l.invariant.2 ∙ ap (λ j. padded modulesMax 0 (take j (drop busesAt a.t1))) e
+    l.invariant.2 ∙ ap (λ j. padded modules_max 0 (take j (drop buses_at a.t1))) e
 
 pub buses-in-spec : {M : Type 1} → statement M
 buses-in-spec =

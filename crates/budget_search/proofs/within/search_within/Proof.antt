@@ -2,7 +2,7 @@
 -- Assumes nothing.
 use native.Mathlib.Omega.{arith}
 use mathlib.Core.Path.{refl, ap, ◌∙◌}
-use Rattle.budget_search.specs.Within.{spentOf}
+use Rattle.budget_search.specs.Within.{spent_of}
 use Rattle.budget_search.proofs.within.search_within.Statement.{statement}
 use Rattle.budget_search.proofs.within.search_within.Tie as tie
 
@@ -13,7 +13,7 @@ spent-of-requires : tie.Need-spent-of-requires
 spent-of-requires c κs = (c.before.before.before.requires.table.few, c.over-counts.ensures.1)
 
 returns : tie.Need-returns
-returns c = c.spent-of.ensures ∙ ap spentOf c.before.over-counts.ensures.0
+returns c = c.spent-of.ensures ∙ ap spent_of c.before.over-counts.ensures.0
 
 pub search-within-spec : {M : Type 1} → statement M
 search-within-spec = tie.close (tie.spec over-counts-requires spent-of-requires returns)

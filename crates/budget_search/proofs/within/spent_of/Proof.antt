@@ -2,7 +2,7 @@
 use borrow.Author.Rules.{rules}
 use native.Mathlib.Omega.{arith}
 use mathlib.Core.Path.{sym}
-use Rattle.budget_search.proofs.SpentLaws.{spent-unknown, spent-known}
+use Rattle.budget_search.proofs.SpentLaws.{spent_unknown, spent_known}
 use Rattle.budget_search.proofs.within.spent_of.Statement.{statement}
 use Rattle.budget_search.proofs.within.spent_of.Tie as tie
 
@@ -21,7 +21,7 @@ returns c =
     let s = g.before.before in
     let a = s.args in
     rw (c.None-found.ensures, g.Tries-of.ensures, g.before.is-stopped.ensures)
-    (sym (spent-unknown a.n a.budget a.s a.t4 (omega (arith, c.before.if1.true))))
+    (sym (spent_unknown a.n a.budget a.s a.t4 (omega (arith, c.before.if1.true))))
 
 widths-in-requires : tie.Need-widths-in-requires
 widths-in-requires c κs = search rules
@@ -42,7 +42,7 @@ returns-2 c =
     let s = g.before.before in
     let a = s.args in
     rw (g.Tries-of.ensures, g.before.is-stopped.ensures)
-    (sym (spent-known a.n a.budget a.s a.t4 (omega (arith, e.if1.false)) s.requires.1
+    (sym (spent_known a.n a.budget a.s a.t4 (omega (arith, e.if1.false)) s.requires.1
     c.before.widths-in.ensures c.buses-in.ensures))
 
 pub spent-of-spec : {M : Type 1} → statement M

@@ -6,19 +6,19 @@ use mathlib.Core.Path.{◌≡◌, refl, sym, ap, ◌∙◌}
 use lib.ListN.{length, get_or, take, drop, length-set}
 use Rattle.units.specs.Places.{padded}
 use Rattle.units.proofs.PlaceLaws.{padded-none}
-use Rattle.budget_search.specs.Steps.{busesMax, bestPlaces}
+use Rattle.budget_search.specs.Steps.{buses_max, best_places}
 use Rattle.plan_search.proofs.CopyLaws.{padded-more}
 use Rattle.budget_search.proofs.within.widths_in.Statement.{statement}
 use Rattle.budget_search.proofs.within.widths_in.Tie as tie
 
 abbrev invariant-loop : tie.invariant-loop
-invariant-loop best count widths₀ i₀ widths i = (i ≤ count) × (length widths ≡ busesMax) × (widths ≡ padded busesMax 0 (take i (drop 1 best)))
+invariant-loop best count widths₀ i₀ widths i = (i ≤ count) × (length widths ≡ buses_max) × (widths ≡ padded buses_max 0 (take i (drop 1 best)))
 
 abbrev decreases-loop : tie.decreases-loop
 decreases-loop best count widths₀ i₀ widths i = count - i
 
 -- the places of the buffer
-len : (c : tie.Start invariant-loop decreases-loop) → length c.args.t1 ≡ bestPlaces
+len : (c : tie.Start invariant-loop decreases-loop) → length c.args.t1 ≡ best_places
 len c = search rules
 
 array-read-count : tie.Need-array-read-count invariant-loop decreases-loop
@@ -28,7 +28,7 @@ cast-count : tie.Need-overflow-cast-count invariant-loop decreases-loop
 cast-count c = search rules
 
 loop-holds : tie.Need-loop-init invariant-loop decreases-loop
-loop-holds c = (omega arith, refl, sym (padded-none busesMax 0))
+loop-holds c = (omega arith, refl, sym (padded-none buses_max 0))
 
 add-widths : tie.Need-overflow-add-widths invariant-loop decreases-loop
 add-widths c = search rules
@@ -59,7 +59,7 @@ loop-again c =
       omega arith,
       simp length-set l.invariant.1,
       rw l.invariant.2
-          (padded-more busesMax s.args.t1 1 l.i (l.i + 1) (omega (arith, s.requires)) refl (omega (arith, len s, s.requires))),
+          (padded-more buses_max s.args.t1 1 l.i (l.i + 1) (omega (arith, s.requires)) refl (omega (arith, len s, s.requires))),
     )
 
 returns : tie.Need-returns invariant-loop decreases-loop
@@ -67,7 +67,7 @@ returns c =
     let l = c.before.loop in
     let best = c.before.before.args.t1 in
     let e : l.i ≡ get_or best 0 0 = omega (arith, l.invariant.0, c.loop-test.false) in
-    l.invariant.2 ∙ ap (λ j. padded busesMax 0 (take j (drop 1 best))) e
+    l.invariant.2 ∙ ap (λ j. padded buses_max 0 (take j (drop 1 best))) e
 
 pub widths-in-spec : {M : Type 1} → statement M
 widths-in-spec =

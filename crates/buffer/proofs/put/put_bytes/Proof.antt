@@ -3,14 +3,14 @@ use borrow.Author.Rules.{rules}
 use native.Mathlib.Omega.{arith}
 use mathlib.Core.Path.{ap}
 use lib.ListN.{length, length-drop}
-use Rattle.buffer.proofs.PutLaws.{partFrom, part-rest, count_most, end_none, in-none, part_end, part_in}
+use Rattle.buffer.proofs.PutLaws.{part_from, part-rest, count_most, end_none, in_none, part_end, part_in}
 use Rattle.buffer.proofs.put.put_bytes.Statement.{statement}
 use Rattle.buffer.proofs.put.put_bytes.Tie as tie
 
 returns : tie.Need-returns
 returns c =
     let s = c.before.before.before in
-    (end_none s.args.w.now s.args.at s.args.buf.now (omega arith), in-none s.args.w.now s.args.at s.args.buf.now (omega arith))
+    (end_none s.args.w.now s.args.at s.args.buf.now (omega arith), in_none s.args.w.now s.args.at s.args.buf.now (omega arith))
 
 sub-write-bytes : tie.Need-overflow-sub-write-bytes
 sub-write-bytes c = search rules
@@ -28,7 +28,7 @@ add-result : tie.Need-overflow-add-result
 add-result c =
     let k = c.before.before in
     let s = k.before.before.before.before.before in
-    omega (arith, k.write_bytes.ensures.0, count_most s.args.w.now s.args.at (partFrom s.args.at s.args.buf.now), ap length (part-rest s.args.at s.args.buf.now), length-drop s.args.at s.args.buf.now)
+    omega (arith, k.write_bytes.ensures.0, count_most s.args.w.now s.args.at (part_from s.args.at s.args.buf.now), ap length (part-rest s.args.at s.args.buf.now), length-drop s.args.at s.args.buf.now)
 
 same_length : tie.Need-same-length
 same_length c = search rules

@@ -4,10 +4,10 @@ use borrow.Author.Rules.{rules}
 use native.Mathlib.Omega.{arith}
 use lib.ListN.{length-map}
 use Rattle.plan_record.specs.Whole.{Whole}
-use Rattle.c_forms.specs.PlanForm.{planBytes}
-use Rattle.c_forms.specs.BudgetForm.{budgetBytes}
-use Rattle.c_forms.proofs.LengthLaws.{budget-length}
-use Rattle.c_forms.proofs.PutOfLaws.{then-put, none-put, all-put}
+use Rattle.c_forms.specs.PlanForm.{plan_bytes}
+use Rattle.c_forms.specs.BudgetForm.{budget_bytes}
+use Rattle.c_forms.proofs.LengthLaws.{budget_length_lem}
+use Rattle.c_forms.proofs.PutOfLaws.{then_put, none-put, all-put}
 use Rattle.c_forms.proofs.budget_form.budget_bytes.Statement.{statement}
 use Rattle.c_forms.proofs.budget_form.budget_bytes.Tie as tie
 
@@ -21,8 +21,8 @@ returns : tie.Need-returns
 returns c =
     let s = c.before.before in
     let a = s.args in
-    none-put (budgetBytes a.finished a.known a.tries a.p) a.buf.now
-    (budget-length a.finished a.known a.tries a.p (whole s)) (omega arith)
+    none-put (budget_bytes a.finished a.known a.tries a.p) a.buf.now
+    (budget_length_lem a.finished a.known a.tries a.p (whole s)) (omega arith)
 
 put-spent-requires : tie.Need-put-spent-requires
 put-spent-requires c κs = search rules
@@ -40,7 +40,7 @@ same_length : tie.Need-same-length
 same_length c = search rules
 
 returns-2 : tie.Need-returns-2
-unfolding budgetBytes planBytes
+unfolding budget_bytes plan_bytes
 returns-2 c =
     let k4 = c.before.before in
     let k3 = k4.before.before.before.before in
@@ -48,10 +48,10 @@ returns-2 c =
     let k1 = k2.before.before.before.before in
     let e = k1.before.before in
     let s = e.before.before in
-    let buses = then-put (omega arith) k2.put-counts.ensures k3.put-buses.ensures in
-    let plan = then-put (omega arith) buses k4.put-modules.ensures in
-    all-put (budgetBytes s.args.finished s.args.known s.args.tries s.args.p) s.args.buf.now e.if1.false
-    (then-put (omega arith) k1.put-spent.ensures plan)
+    let buses = then_put (omega arith) k2.put-counts.ensures k3.put-buses.ensures in
+    let plan = then_put (omega arith) buses k4.put-modules.ensures in
+    all-put (budget_bytes s.args.finished s.args.known s.args.tries s.args.p) s.args.buf.now e.if1.false
+    (then_put (omega arith) k1.put-spent.ensures plan)
 
 pub budget-bytes-spec : {M : Type 1} → statement M
 budget-bytes-spec =

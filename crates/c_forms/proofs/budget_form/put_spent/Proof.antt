@@ -2,7 +2,7 @@
 use borrow.Author.Rules.{rules}
 use Rattle.little_endian.proofs.LittleLaws.{little-length}
 use Rattle.c_forms.specs.Words.{long}
-use Rattle.c_forms.specs.BudgetForm.{spentBytes}
+use Rattle.c_forms.specs.BudgetForm.{spent_bytes}
 use Rattle.c_forms.proofs.PutOfLaws.{next-put}
 use Rattle.c_forms.proofs.budget_form.put_spent.Statement.{statement}
 use Rattle.c_forms.proofs.budget_form.put_spent.Tie as tie
@@ -26,7 +26,7 @@ same_length : tie.Need-same-length
 same_length c = search rules
 
 returns : tie.Need-returns
-unfolding spentBytes
+unfolding spent_bytes
 returns c =
     let k2 = c.before.before in
     let k1 = k2.before.before.before.before in

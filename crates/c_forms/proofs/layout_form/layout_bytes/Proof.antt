@@ -4,23 +4,23 @@ use borrow.Author.Rules.{rules}
 use native.Mathlib.Omega.{arith}
 use mathlib.Core.Path.{◌≡◌}
 use lib.ListN.{length, length-map}
-use Rattle.wrapper_fit.specs.Maxima.{widthMax}
-use Rattle.c_forms.specs.LayoutForm.{layoutBytes}
-use Rattle.c_forms.proofs.LengthLaws.{layout-length}
-use Rattle.c_forms.proofs.PutOfLaws.{put-words, then-put, none-put, all-put}
+use Rattle.wrapper_fit.specs.Maxima.{width_max}
+use Rattle.c_forms.specs.LayoutForm.{layout_bytes}
+use Rattle.c_forms.proofs.LengthLaws.{layout_length_lem}
+use Rattle.c_forms.proofs.PutOfLaws.{put-words, then_put, none-put, all-put}
 use Rattle.c_forms.proofs.layout_form.layout_bytes.Statement.{statement}
 use Rattle.c_forms.proofs.layout_form.layout_bytes.Tie as tie
 
 abbrev start : tie.After-put-lengths → tie.Start
 start k = k.before.before.before.before.before.before.before.before.before
 
-inputs : (s : tie.Start) → length s.args.l.input_cells ≡ widthMax
+inputs : (s : tie.Start) → length s.args.l.input_cells ≡ width_max
 inputs s = simp length-map at s.well-formed.0.1.1.1.1.0.1.0.1
 
-outputs : (s : tie.Start) → length s.args.l.output_cells ≡ widthMax
+outputs : (s : tie.Start) → length s.args.l.output_cells ≡ width_max
 outputs s = simp length-map at s.well-formed.0.1.1.1.1.1.0.1.0.1
 
-bidirs : (s : tie.Start) → length s.args.l.bidir_cells ≡ widthMax
+bidirs : (s : tie.Start) → length s.args.l.bidir_cells ≡ width_max
 bidirs s = simp length-map at s.well-formed.0.1.1.1.1.1.1.0.1.0.1
 
 returns : tie.Need-returns
@@ -28,7 +28,7 @@ returns c =
     let s = c.before.before in
     let f = simp length-map at s.well-formed.0.1.1.1.0.1.0.1 in
     let o = simp length-map at s.well-formed.0.1.1.1.1.1.1.1.0.1.0.1 in
-    none-put (layoutBytes s.args.l) s.args.buf.now (layout-length s.args.l f (inputs s) (outputs s) (bidirs s) o) (omega arith)
+    none-put (layout_bytes s.args.l) s.args.buf.now (layout_length_lem s.args.l f (inputs s) (outputs s) (bidirs s) o) (omega arith)
 
 put-lengths-requires : tie.Need-put-lengths-requires
 put-lengths-requires c κs = search rules
@@ -97,7 +97,7 @@ same_length : tie.Need-same-length
 same_length c = search rules
 
 returns-2 : tie.Need-returns-2
-unfolding layoutBytes
+unfolding layout_bytes
 returns-2 c =
     let k6 = c.before.before in
     let k5 = k6.before.before.before.before in
@@ -110,9 +110,9 @@ returns-2 c =
     let i = put-words s.args.l.input_cells (inputs s) k2.put-words.ensures in
     let o = put-words s.args.l.output_cells (outputs s) k3.put-words2.ensures in
     let b = put-words s.args.l.bidir_cells (bidirs s) k4.put-words3.ensures in
-    let cells = then-put (omega arith) (then-put (omega arith) (then-put (omega arith) k1.put-lengths.ensures i) o) b in
-    all-put (layoutBytes s.args.l) s.args.buf.now e.if1.false
-    (then-put (omega arith) (then-put (omega arith) cells k5.put-chains.ensures) k6.put-time.ensures)
+    let cells = then_put (omega arith) (then_put (omega arith) (then_put (omega arith) k1.put-lengths.ensures i) o) b in
+    all-put (layout_bytes s.args.l) s.args.buf.now e.if1.false
+    (then_put (omega arith) (then_put (omega arith) cells k5.put-chains.ensures) k6.put-time.ensures)
 
 pub layout-bytes-spec : {M : Type 1} → statement M
 layout-bytes-spec =

@@ -6,23 +6,23 @@ use Prim.Native.Nat.{◌-◌, ◌≤◌}
 use mathlib.Core.Path.{◌≡◌, refl}
 use lib.ListN.{length}
 use Rattle.little_endian.proofs.RowLaws.{Run, run_none}
-use Rattle.soc.specs.Limits.{chainsMax}
-use Rattle.c_forms.specs.Words.{wordLength, word}
+use Rattle.soc.specs.Limits.{chains_max}
+use Rattle.c_forms.specs.Words.{word_length, word}
 use Rattle.c_forms.proofs.PutOfLaws.{run-word, run-put}
 use Rattle.c_forms.proofs.layout_form.put_chains.Statement.{statement}
 use Rattle.c_forms.proofs.layout_form.put_chains.Tie as tie
 
 abbrev invariant-loop : tie.invariant-loop
-invariant-loop buf₀ at list e₀ i₀ buf e i = (i ≤ chainsMax) × Run word wordLength list at buf₀ i buf e
+invariant-loop buf₀ at list e₀ i₀ buf e i = (i ≤ chains_max) × Run word word_length list at buf₀ i buf e
 
 abbrev decreases-loop : tie.decreases-loop
-decreases-loop buf₀ at list e₀ i₀ buf e i = chainsMax - i
+decreases-loop buf₀ at list e₀ i₀ buf e i = chains_max - i
 
-len : (s : tie.Start invariant-loop decreases-loop) → length s.args.t3 ≡ chainsMax
+len : (s : tie.Start invariant-loop decreases-loop) → length s.args.t3 ≡ chains_max
 len s = search rules
 
 loop-holds : tie.Need-loop-init invariant-loop decreases-loop
-loop-holds c = (omega arith, run_none word wordLength _ _ _)
+loop-holds c = (omega arith, run_none word word_length _ _ _)
 
 mul-put-u32 : tie.Need-overflow-mul-put-u32 invariant-loop decreases-loop
 mul-put-u32 c = search rules
@@ -53,7 +53,7 @@ same_length : tie.Need-same-length invariant-loop decreases-loop
 same_length c = c.before.loop.invariant.1.kept
 
 returns : tie.Need-returns invariant-loop decreases-loop
-returns c = let l = c.before in run-put word wordLength _ chainsMax (len l.before.before) (omega arith) l.loop.invariant.1
+returns c = let l = c.before in run-put word word_length _ chains_max (len l.before.before) (omega arith) l.loop.invariant.1
 
 pub put-chains-spec : {M : Type 1} → statement M
 put-chains-spec =

@@ -3,7 +3,7 @@ use borrow.Author.Rules.{rules}
 use native.Mathlib.Omega.{arith}
 use Rattle.little_endian.proofs.LittleLaws.{little-length}
 use Rattle.c_forms.specs.Words.{long}
-use Rattle.c_forms.specs.LayoutForm.{timeBytes}
+use Rattle.c_forms.specs.LayoutForm.{time_bytes}
 use Rattle.c_forms.proofs.PutOfLaws.{first-put, next-put}
 use Rattle.c_forms.proofs.layout_form.put_time.Statement.{statement}
 use Rattle.c_forms.proofs.layout_form.put_time.Tie as tie
@@ -21,7 +21,7 @@ same_length : tie.Need-same-length
 same_length c = search rules
 
 returns : tie.Need-returns
-unfolding timeBytes
+unfolding time_bytes
 returns c =
     let k3 = c.before.before in
     let k2 = k3.before.before.before.before in

@@ -4,9 +4,9 @@ use borrow.Author.Rules.{rules}
 use native.Mathlib.Omega.{arith}
 use lib.ListN.{length-map}
 use Rattle.plan_record.specs.Whole.{Whole}
-use Rattle.c_forms.specs.PlanForm.{planBytes}
+use Rattle.c_forms.specs.PlanForm.{plan_bytes}
 use Rattle.c_forms.proofs.LengthLaws.{plan-length}
-use Rattle.c_forms.proofs.PutOfLaws.{then-put, none-put, all-put}
+use Rattle.c_forms.proofs.PutOfLaws.{then_put, none-put, all-put}
 use Rattle.c_forms.proofs.plan_form.plan_bytes.Statement.{statement}
 use Rattle.c_forms.proofs.plan_form.plan_bytes.Tie as tie
 
@@ -18,7 +18,7 @@ whole s = record {
 
 returns : tie.Need-returns
 returns c =
-    let s = c.before.before in none-put (planBytes s.args.p) s.args.buf.now (plan-length s.args.p (whole s)) (omega arith)
+    let s = c.before.before in none-put (plan_bytes s.args.p) s.args.buf.now (plan-length s.args.p (whole s)) (omega arith)
 
 put-counts-requires : tie.Need-put-counts-requires
 put-counts-requires c κs = search rules
@@ -33,15 +33,15 @@ same_length : tie.Need-same-length
 same_length c = search rules
 
 returns-2 : tie.Need-returns-2
-unfolding planBytes
+unfolding plan_bytes
 returns-2 c =
     let k3 = c.before.before in
     let k2 = k3.before.before.before.before in
     let k1 = k2.before.before.before.before in
     let e = k1.before.before in
     let s = e.before.before in
-    all-put (planBytes s.args.p) s.args.buf.now e.if1.false
-    (then-put (omega arith) (then-put (omega arith) k1.put-counts.ensures k2.put-buses.ensures) k3.put-modules.ensures)
+    all-put (plan_bytes s.args.p) s.args.buf.now e.if1.false
+    (then_put (omega arith) (then_put (omega arith) k1.put-counts.ensures k2.put-buses.ensures) k3.put-modules.ensures)
 
 pub plan-bytes-spec : {M : Type 1} → statement M
 plan-bytes-spec =

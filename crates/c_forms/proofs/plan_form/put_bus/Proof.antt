@@ -3,7 +3,7 @@ use borrow.Author.Rules.{rules}
 use native.Mathlib.Omega.{arith}
 use Rattle.little_endian.proofs.LittleLaws.{little-length}
 use Rattle.c_forms.specs.Words.{long}
-use Rattle.c_forms.specs.PlanForm.{busBytes}
+use Rattle.c_forms.specs.PlanForm.{bus_bytes}
 use Rattle.c_forms.proofs.PutOfLaws.{first-put, next-put}
 use Rattle.c_forms.proofs.plan_form.put_bus.Statement.{statement}
 use Rattle.c_forms.proofs.plan_form.put_bus.Tie as tie
@@ -21,7 +21,7 @@ same_length : tie.Need-same-length
 same_length c = search rules
 
 returns : tie.Need-returns
-unfolding busBytes
+unfolding bus_bytes
 returns c =
     let k2 = c.before.before in
     let k1 = k2.before.before.before.before in

@@ -2,7 +2,7 @@
 use borrow.Author.Rules.{rules}
 use Rattle.little_endian.proofs.LittleLaws.{little-length}
 use Rattle.c_forms.specs.Words.{long}
-use Rattle.c_forms.specs.PlanForm.{countBytes}
+use Rattle.c_forms.specs.PlanForm.{count_bytes}
 use Rattle.c_forms.proofs.PutOfLaws.{next-put}
 use Rattle.c_forms.proofs.plan_form.put_counts.Statement.{statement}
 use Rattle.c_forms.proofs.plan_form.put_counts.Tie as tie
@@ -26,7 +26,7 @@ same_length : tie.Need-same-length
 same_length c = search rules
 
 returns : tie.Need-returns
-unfolding countBytes
+unfolding count_bytes
 returns c =
     let k2 = c.before.before in
     let k1 = k2.before.before.before.before in

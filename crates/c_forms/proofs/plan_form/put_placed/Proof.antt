@@ -3,7 +3,7 @@ use borrow.Author.Rules.{rules}
 use native.Mathlib.Omega.{arith}
 use Rattle.little_endian.proofs.LittleLaws.{little-length}
 use Rattle.c_forms.specs.Words.{long}
-use Rattle.c_forms.specs.PlanForm.{placedBytes}
+use Rattle.c_forms.specs.PlanForm.{placed_bytes}
 use Rattle.c_forms.proofs.PutOfLaws.{next-put}
 use Rattle.c_forms.proofs.plan_form.put_placed.Statement.{statement}
 use Rattle.c_forms.proofs.plan_form.put_placed.Tie as tie
@@ -27,7 +27,7 @@ same_length : tie.Need-same-length
 same_length c = search rules
 
 returns : tie.Need-returns
-unfolding placedBytes
+unfolding placed_bytes
 returns c =
     let k3 = c.before.before in
     let k2 = k3.before.before.before.before in

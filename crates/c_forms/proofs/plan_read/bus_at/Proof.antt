@@ -1,4 +1,4 @@
--- `c_forms::plan_read::bus_at` meets its contract: its fields are those of `busAt`, in order. Assumes nothing.
+-- `c_forms::plan_read::bus_at` meets its contract: its fields are those of `bus_at`, in order. Assumes nothing.
 use borrow.Author.Rules.{rules}
 use Rattle.c_forms.proofs.plan_read.bus_at.Statement.{statement}
 use Rattle.c_forms.proofs.plan_read.bus_at.Tie as tie

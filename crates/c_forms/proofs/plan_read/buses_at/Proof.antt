@@ -6,24 +6,24 @@ use Prim.Native.Nat.{◌-◌, ◌≤◌}
 use mathlib.Core.Path.{◌≡◌, ◌∙◌}
 use Rattle.units.specs.Places.{padded}
 use Rattle.little_endian.specs.Rows.{rows}
-use Rattle.little_endian.proofs.RowLaws.{filled_none, filled-step, filled-end}
-use Rattle.plan_record.specs.Record.{busPlaces, noBus}
-use Rattle.c_forms.specs.PlanForm.{busStride, busesFrom, busAt}
+use Rattle.little_endian.proofs.RowLaws.{filled_none, filled_step, filled-end}
+use Rattle.plan_record.specs.Record.{bus_places, no_bus}
+use Rattle.c_forms.specs.PlanForm.{bus_stride, buses_from, bus_at}
 use Rattle.c_forms.proofs.plan_read.buses_at.Statement.{statement}
 use Rattle.c_forms.proofs.plan_read.buses_at.Tie as tie
 
 abbrev invariant-loop : tie.invariant-loop
-invariant-loop b list₀ i₀ list i = (i ≤ busPlaces) × (list ≡ padded busPlaces noBus (rows (busAt b) busStride i busesFrom))
+invariant-loop b list₀ i₀ list i = (i ≤ bus_places) × (list ≡ padded bus_places no_bus (rows (bus_at b) bus_stride i buses_from))
 
 abbrev decreases-loop : tie.decreases-loop
-decreases-loop b list₀ i₀ list i = busPlaces - i
+decreases-loop b list₀ i₀ list i = bus_places - i
 
 no-bus-requires : tie.Need-no-bus-requires invariant-loop decreases-loop
 no-bus-requires c κs = search rules
 
 loop-holds : tie.Need-loop-init invariant-loop decreases-loop
 loop-holds c =
-    (omega arith, rw c.no-bus.ensures (filled_none busPlaces noBus (busAt c.before.before.args.b.now) busStride busesFrom))
+    (omega arith, rw c.no-bus.ensures (filled_none bus_places no_bus (bus_at c.before.before.args.b.now) bus_stride buses_from))
 
 mul-bus-at : tie.Need-overflow-mul-bus-at invariant-loop decreases-loop
 mul-bus-at c = search rules
@@ -51,7 +51,7 @@ loop-again c =
     let l = c.before.before in
     let s = l.before.before.before in (
       omega arith,
-      rw l.loop.invariant.1 (filled-step busPlaces noBus _ (busAt s.args.b.now) busStride l.loop.i busesFrom (omega arith)
+      rw l.loop.invariant.1 (filled_step bus_places no_bus _ (bus_at s.args.b.now) bus_stride l.loop.i buses_from (omega arith)
           c.bus-at.ensures),
     )
 
@@ -59,7 +59,7 @@ returns : tie.Need-returns invariant-loop decreases-loop
 returns c =
     let l = c.before in
     let s = l.before.before.before in
-    l.loop.invariant.1 ∙ filled-end busPlaces noBus (busAt s.args.b.now) busStride l.loop.i busesFrom (omega arith)
+    l.loop.invariant.1 ∙ filled-end bus_places no_bus (bus_at s.args.b.now) bus_stride l.loop.i buses_from (omega arith)
 
 pub buses-at-spec : {M : Type 1} → statement M
 buses-at-spec =

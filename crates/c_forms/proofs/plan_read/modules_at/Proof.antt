@@ -6,17 +6,17 @@ use Prim.Native.Nat.{◌-◌, ◌≤◌}
 use mathlib.Core.Path.{◌≡◌, ◌∙◌}
 use Rattle.units.specs.Places.{padded}
 use Rattle.little_endian.specs.Rows.{rows}
-use Rattle.little_endian.proofs.RowLaws.{filled_none, filled-step, filled-end}
-use Rattle.plan_record.specs.Record.{modulePlaces, noPlaced}
-use Rattle.c_forms.specs.PlanForm.{placedStride, placedFrom, placed_at}
+use Rattle.little_endian.proofs.RowLaws.{filled_none, filled_step, filled-end}
+use Rattle.plan_record.specs.Record.{module_places, no_placed}
+use Rattle.c_forms.specs.PlanForm.{placed_stride, placed_from, placed_at}
 use Rattle.c_forms.proofs.plan_read.modules_at.Statement.{statement}
 use Rattle.c_forms.proofs.plan_read.modules_at.Tie as tie
 
 abbrev invariant-loop : tie.invariant-loop
-invariant-loop b list₀ i₀ list i = (i ≤ modulePlaces) × (list ≡ padded modulePlaces noPlaced (rows (placed_at b) placedStride i placedFrom))
+invariant-loop b list₀ i₀ list i = (i ≤ module_places) × (list ≡ padded module_places no_placed (rows (placed_at b) placed_stride i placed_from))
 
 abbrev decreases-loop : tie.decreases-loop
-decreases-loop b list₀ i₀ list i = modulePlaces - i
+decreases-loop b list₀ i₀ list i = module_places - i
 
 no-placed-requires : tie.Need-no-placed-requires invariant-loop decreases-loop
 no-placed-requires c κs = search rules
@@ -24,8 +24,8 @@ no-placed-requires c κs = search rules
 loop-holds : tie.Need-loop-init invariant-loop decreases-loop
 loop-holds c = (
   omega arith,
-  rw c.no-placed.ensures (filled_none modulePlaces noPlaced
-      (placed_at c.before.before.args.b.now) placedStride placedFrom),
+  rw c.no-placed.ensures (filled_none module_places no_placed
+      (placed_at c.before.before.args.b.now) placed_stride placed_from),
 )
 
 mul-placed-at : tie.Need-overflow-mul-placed-at invariant-loop decreases-loop
@@ -54,7 +54,7 @@ loop-again c =
     let l = c.before.before in
     let s = l.before.before.before in (
       omega arith,
-      rw l.loop.invariant.1 (filled-step modulePlaces noPlaced _ (placed_at s.args.b.now) placedStride l.loop.i placedFrom
+      rw l.loop.invariant.1 (filled_step module_places no_placed _ (placed_at s.args.b.now) placed_stride l.loop.i placed_from
           (omega arith) c.placed-at.ensures),
     )
 
@@ -62,7 +62,7 @@ returns : tie.Need-returns invariant-loop decreases-loop
 returns c =
     let l = c.before in
     let s = l.before.before.before in
-    l.loop.invariant.1 ∙ filled-end modulePlaces noPlaced (placed_at s.args.b.now) placedStride l.loop.i placedFrom (omega arith)
+    l.loop.invariant.1 ∙ filled-end module_places no_placed (placed_at s.args.b.now) placed_stride l.loop.i placed_from (omega arith)
 
 pub modules-at-spec : {M : Type 1} → statement M
 modules-at-spec =

@@ -6,20 +6,20 @@ use mathlib.Core.Path.{◌≡◌}
 use mathlib.Core.List.{◌++◌}
 use lib.ListN.{length, length-map}
 use Rattle.little_endian.proofs.LittleLaws.{little-length}
-use Rattle.fields.specs.Names.{nameMax}
+use Rattle.fields.specs.Names.{name_max}
 use Rattle.c_forms.specs.Words.{word, PutOf}
-use Rattle.c_forms.specs.SocForm.{optionsFrom, headBytes}
-use Rattle.c_forms.proofs.PutOfLaws.{first-put, next-put, then-put}
+use Rattle.c_forms.specs.SocForm.{options_from, head_bytes}
+use Rattle.c_forms.proofs.PutOfLaws.{first-put, next-put, then_put}
 use Rattle.c_forms.proofs.soc_form.put_head.Statement.{statement}
 use Rattle.c_forms.proofs.soc_form.put_head.Tie as tie
 
-len : (s : tie.Start) → length s.args.s.name ≡ nameMax
+len : (s : tie.Start) → length s.args.s.name ≡ name_max
 len s = simp length-map at s.well-formed.1.1.0.1.1.1.0.1.0.1
 
 -- the length of the name, and the name
 named : (k : tie.After-put-bytes) →
     let s = k.before.before.before.before.before.before.before.before.before.before.before in
-    PutOf optionsFrom (word s.args.s.name_len ++ s.args.s.name) s.args.at s.args.buf.now k.put-bytes.new.0
+    PutOf options_from (word s.args.s.name_len ++ s.args.s.name) s.args.at s.args.buf.now k.put-bytes.new.0
     k.put-bytes.result
 named k =
     let a = k.before.before.before.before.before in
@@ -56,14 +56,14 @@ same_length : tie.Need-same-length
 same_length c = search rules
 
 returns : tie.Need-returns
-unfolding headBytes
+unfolding head_bytes
 returns c =
     let k = c.before.before in
     let n = k.before.before.before.before.before in
     let f = n.before.before.before.before.before.before.before in
     let s = f.before.before.before.before in
     let o = rw (f.before.flag_word.ensures, f.flag-word2.ensures) at k.put-words.ensures in
-    then-put (omega (arith, s.requires)) (named n) o
+    then_put (omega (arith, s.requires)) (named n) o
 
 pub put-head-spec : {M : Type 1} → statement M
 put-head-spec =

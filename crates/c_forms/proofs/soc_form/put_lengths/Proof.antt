@@ -6,25 +6,25 @@ use Prim.Native.Nat.{◌-◌, ◌≤◌}
 use mathlib.Core.Path.{◌≡◌, refl}
 use lib.ListN.{length}
 use Rattle.little_endian.proofs.RowLaws.{Run, run_none}
-use Rattle.soc.specs.Limits.{chainsMax}
-use Rattle.soc.specs.Record.{flipFlops}
-use Rattle.c_forms.specs.Words.{wordLength}
-use Rattle.c_forms.specs.SocForm.{lengthBytes}
+use Rattle.soc.specs.Limits.{chains_max}
+use Rattle.soc.specs.Record.{flip_flops}
+use Rattle.c_forms.specs.Words.{word_length}
+use Rattle.c_forms.specs.SocForm.{length_bytes}
 use Rattle.c_forms.proofs.PutOfLaws.{run-word, run-put}
 use Rattle.c_forms.proofs.soc_form.put_lengths.Statement.{statement}
 use Rattle.c_forms.proofs.soc_form.put_lengths.Tie as tie
 
 abbrev invariant-loop : tie.invariant-loop
-invariant-loop buf₀ at list e₀ i₀ buf e i = (i ≤ chainsMax) × Run lengthBytes wordLength list at buf₀ i buf e
+invariant-loop buf₀ at list e₀ i₀ buf e i = (i ≤ chains_max) × Run length_bytes word_length list at buf₀ i buf e
 
 abbrev decreases-loop : tie.decreases-loop
-decreases-loop buf₀ at list e₀ i₀ buf e i = chainsMax - i
+decreases-loop buf₀ at list e₀ i₀ buf e i = chains_max - i
 
-len : (s : tie.Start invariant-loop decreases-loop) → length s.args.t3 ≡ chainsMax
+len : (s : tie.Start invariant-loop decreases-loop) → length s.args.t3 ≡ chains_max
 len s = search rules
 
 loop-holds : tie.Need-loop-init invariant-loop decreases-loop
-loop-holds c = (omega arith, run_none lengthBytes wordLength _ _ _)
+loop-holds c = (omega arith, run_none length_bytes word_length _ _ _)
 
 mul-f : tie.Need-overflow-mul-f invariant-loop decreases-loop
 mul-f c = search rules
@@ -45,13 +45,13 @@ loop-less : tie.Need-loop-smaller invariant-loop decreases-loop
 loop-less c = search rules
 
 loop-again : tie.Need-loop-preserved invariant-loop decreases-loop
-unfolding lengthBytes
+unfolding length_bytes
 loop-again c =
     let k = c.before.before in
     let l = k.before.before.before.before.before in
     let s = l.before.before in (
       omega arith,
-      run-word lengthBytes s.args.t3 _ (flipFlops 0) refl (omega (arith, len s)) (omega (arith, len s, s.requires))
+      run-word length_bytes s.args.t3 _ (flip_flops 0) refl (omega (arith, len s)) (omega (arith, len s, s.requires))
           l.loop.invariant.1 k.put-u32.ensures,
     )
 
@@ -59,7 +59,7 @@ same_length : tie.Need-same-length invariant-loop decreases-loop
 same_length c = c.before.loop.invariant.1.kept
 
 returns : tie.Need-returns invariant-loop decreases-loop
-returns c = let l = c.before in run-put lengthBytes wordLength _ chainsMax (len l.before.before) (omega arith) l.loop.invariant.1
+returns c = let l = c.before in run-put length_bytes word_length _ chains_max (len l.before.before) (omega arith) l.loop.invariant.1
 
 pub put-lengths-spec : {M : Type 1} → statement M
 put-lengths-spec =

@@ -1,9 +1,9 @@
 -- `c_forms::soc_form::put_module` meets its contract: each part is put behind the one before it. Assumes nothing.
 use borrow.Author.Rules.{rules}
 use native.Mathlib.Omega.{arith}
-use Rattle.soc.proofs.FigureLaws.{figure-back}
-use Rattle.c_forms.specs.SocForm.{moduleBytes}
-use Rattle.c_forms.proofs.PutOfLaws.{then-put}
+use Rattle.soc.proofs.FigureLaws.{figure_back}
+use Rattle.c_forms.specs.SocForm.{module_bytes}
+use Rattle.c_forms.proofs.PutOfLaws.{then_put}
 use Rattle.c_forms.proofs.soc_form.put_module.Statement.{statement}
 use Rattle.c_forms.proofs.soc_form.put_module.Tie as tie
 
@@ -47,7 +47,7 @@ same_length : tie.Need-same-length
 same_length c = search rules
 
 returns : tie.Need-returns
-unfolding moduleBytes
+unfolding module_bytes
 returns c =
     let k4 = c.before.before in
     let k3 = k4.before.before.before.before in
@@ -58,12 +58,12 @@ returns c =
     let s = x.before.before.before.before.before.before.before.before in
     let p = rw (
       x.signed_word.ensures,
-      figure-back s.args.d.x (record { sfits = x.before.struct_told.given.1.1.1.1.1.1.0.1 }),
+      figure_back s.args.d.x (record { sfits = x.before.struct_told.given.1.1.1.1.1.1.0.1 }),
       y.signed-word2.ensures,
-      figure-back s.args.d.y (record { sfits = y.before.struct-told2.given.1.1.1.1.1.1.1.0.1 }),
+      figure_back s.args.d.y (record { sfits = y.before.struct-told2.given.1.1.1.1.1.1.1.0.1 }),
     ) at k3.put-words2.ensures in
     let h = s.requires in
-    then-put (omega arith) (then-put (omega arith) (then-put (omega arith) k1.put-words.ensures k2.put-lengths.ensures) p)
+    then_put (omega arith) (then_put (omega arith) (then_put (omega arith) k1.put-words.ensures k2.put-lengths.ensures) p)
     k4.put-tests.ensures
 
 pub put-module-spec : {M : Type 1} → statement M

@@ -8,9 +8,9 @@ use mathlib.Core.List.{[]}
 use lib.IntN.{pos}
 use lib.ListN.{length, length-map}
 use Rattle.little_endian.proofs.RowLaws.{Run, run_none}
-use Rattle.soc.specs.Limits.{modulesMax}
+use Rattle.soc.specs.Limits.{modules_max}
 use Rattle.soc.specs.declared.record.Module.{Module}
-use Rattle.c_forms.specs.SocForm.{moduleLength, moduleBytes}
+use Rattle.c_forms.specs.SocForm.{module_length, module_bytes}
 use Rattle.c_forms.proofs.PutOfLaws.{run-part, run-put}
 use Rattle.c_forms.proofs.soc_form.put_modules.Statement.{statement}
 use Rattle.c_forms.proofs.soc_form.put_modules.Tie as tie
@@ -31,16 +31,16 @@ blank = record {
 }
 
 abbrev invariant-loop : tie.invariant-loop
-invariant-loop buf₀ at s e₀ i₀ buf e i = (i ≤ modulesMax) × Run moduleBytes moduleLength s.modules at buf₀ i buf e
+invariant-loop buf₀ at s e₀ i₀ buf e i = (i ≤ modules_max) × Run module_bytes module_length s.modules at buf₀ i buf e
 
 abbrev decreases-loop : tie.decreases-loop
-decreases-loop buf₀ at s e₀ i₀ buf e i = modulesMax - i
+decreases-loop buf₀ at s e₀ i₀ buf e i = modules_max - i
 
-len : (s : tie.Start invariant-loop decreases-loop) → length s.args.t3.modules ≡ modulesMax
+len : (s : tie.Start invariant-loop decreases-loop) → length s.args.t3.modules ≡ modules_max
 len s = simp length-map at s.well-formed.1.1.0.1.1.1.1.1.1.1.0.1.0.1
 
 loop-holds : tie.Need-loop-init invariant-loop decreases-loop
-loop-holds c = (omega arith, run_none moduleBytes moduleLength _ _ _)
+loop-holds c = (omega arith, run_none module_bytes module_length _ _ _)
 
 mul-d : tie.Need-overflow-mul-d invariant-loop decreases-loop
 mul-d c = search rules
@@ -64,14 +64,14 @@ loop-again c =
     let l = k.before.before.before.before in
     let s = l.before.before in
     let n =
-    run-part moduleBytes moduleLength s.args.t3.modules blank (omega (arith, len s)) (omega (arith, s.requires)) l.loop.invariant.1 in
+    run-part module_bytes module_length s.args.t3.modules blank (omega (arith, len s)) (omega (arith, s.requires)) l.loop.invariant.1 in
     (omega arith, n k.put-module.auto.0 k.put-module.ensures)
 
 same_length : tie.Need-same-length invariant-loop decreases-loop
 same_length c = c.before.loop.invariant.1.kept
 
 returns : tie.Need-returns invariant-loop decreases-loop
-returns c = let l = c.before in run-put moduleBytes moduleLength _ modulesMax (len l.before.before) (omega arith) l.loop.invariant.1
+returns c = let l = c.before in run-put module_bytes module_length _ modules_max (len l.before.before) (omega arith) l.loop.invariant.1
 
 pub put-modules-spec : {M : Type 1} → statement M
 put-modules-spec =

@@ -1,7 +1,7 @@
--- `c_forms::soc_form::put_test` meets its contract: its words are those of `testWords`, in order. Assumes nothing.
+-- `c_forms::soc_form::put_test` meets its contract: its words are those of `test_words`, in order. Assumes nothing.
 use borrow.Author.Rules.{rules}
-use Rattle.soc.proofs.FigureLaws.{figure-back}
-use Rattle.c_forms.specs.SocForm.{testBytes}
+use Rattle.soc.proofs.FigureLaws.{figure_back}
+use Rattle.c_forms.specs.SocForm.{test_bytes}
 use Rattle.c_forms.proofs.soc_form.put_test.Statement.{statement}
 use Rattle.c_forms.proofs.soc_form.put_test.Tie as tie
 
@@ -27,7 +27,7 @@ same_length : tie.Need-same-length
 same_length c = search rules
 
 returns : tie.Need-returns
-unfolding testBytes
+unfolding test_bytes
 returns c =
     let k = c.before.before in
     let g = k.before.before.before in
@@ -37,7 +37,7 @@ returns c =
       f.before.flag_word.ensures,
       f.flag-word2.ensures,
       g.signed_word.ensures,
-      figure-back t.power (record { sfits = g.before.struct_told.given.1.1.1.0.1 }),
+      figure_back t.power (record { sfits = g.before.struct_told.given.1.1.1.0.1 }),
     ) at k.put-words.ensures
 
 pub put-test-spec : {M : Type 1} → statement M

@@ -6,22 +6,22 @@ use Prim.Native.Nat.{◌-◌, ◌≤◌}
 use mathlib.Core.Path.{◌≡◌, ◌∙◌}
 use Rattle.units.specs.Places.{padded}
 use Rattle.little_endian.specs.Rows.{rows}
-use Rattle.little_endian.proofs.RowLaws.{filled_none, filled-step, filled-end}
-use Rattle.soc.specs.Limits.{chainsMax}
-use Rattle.soc.specs.Record.{flipFlops}
-use Rattle.c_forms.specs.Words.{wordLength}
+use Rattle.little_endian.proofs.RowLaws.{filled_none, filled_step, filled-end}
+use Rattle.soc.specs.Limits.{chains_max}
+use Rattle.soc.specs.Record.{flip_flops}
+use Rattle.c_forms.specs.Words.{word_length}
 use Rattle.c_forms.specs.SocForm.{length_at}
 use Rattle.c_forms.proofs.soc_read.lengths_at.Statement.{statement}
 use Rattle.c_forms.proofs.soc_read.lengths_at.Tie as tie
 
 abbrev invariant-loop : tie.invariant-loop
-invariant-loop b at list₀ i₀ list i = (i ≤ chainsMax) × (list ≡ padded chainsMax (flipFlops 0) (rows (length_at b) wordLength i at))
+invariant-loop b at list₀ i₀ list i = (i ≤ chains_max) × (list ≡ padded chains_max (flip_flops 0) (rows (length_at b) word_length i at))
 
 abbrev decreases-loop : tie.decreases-loop
-decreases-loop b at list₀ i₀ list i = chainsMax - i
+decreases-loop b at list₀ i₀ list i = chains_max - i
 
 loop-holds : tie.Need-loop-init invariant-loop decreases-loop
-loop-holds c = (omega arith, filled_none chainsMax (flipFlops 0) (length_at c.before.args.b.now) wordLength c.before.args.at)
+loop-holds c = (omega arith, filled_none chains_max (flip_flops 0) (length_at c.before.args.b.now) word_length c.before.args.at)
 
 mul-word-at : tie.Need-overflow-mul-word-at invariant-loop decreases-loop
 mul-word-at c = search rules
@@ -49,7 +49,7 @@ loop-again c =
     let l = c.before.before in
     let s = l.before.before in (
       omega arith,
-      rw l.loop.invariant.1 (filled-step chainsMax (flipFlops 0) _ (length_at s.args.b.now) wordLength l.loop.i s.args.at
+      rw l.loop.invariant.1 (filled_step chains_max (flip_flops 0) _ (length_at s.args.b.now) word_length l.loop.i s.args.at
           (omega arith) (rw c.word_at.ensures)),
     )
 
@@ -57,7 +57,7 @@ returns : tie.Need-returns invariant-loop decreases-loop
 returns c =
     let l = c.before in
     let s = l.before.before in
-    l.loop.invariant.1 ∙ filled-end chainsMax (flipFlops 0) (length_at s.args.b.now) wordLength l.loop.i s.args.at (omega arith)
+    l.loop.invariant.1 ∙ filled-end chains_max (flip_flops 0) (length_at s.args.b.now) word_length l.loop.i s.args.at (omega arith)
 
 pub lengths-at-spec : {M : Type 1} → statement M
 lengths-at-spec =

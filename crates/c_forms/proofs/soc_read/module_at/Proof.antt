@@ -1,6 +1,6 @@
--- `c_forms::soc_read::module_at` meets its contract: its fields are those of `moduleAt`, in order. Assumes nothing.
+-- `c_forms::soc_read::module_at` meets its contract: its fields are those of `module_at`, in order. Assumes nothing.
 use borrow.Author.Rules.{rules}
-use Rattle.soc.proofs.FigureLaws.{figure-back}
+use Rattle.soc.proofs.FigureLaws.{figure_back}
 use Rattle.c_forms.proofs.soc_read.module_at.Statement.{statement}
 use Rattle.c_forms.proofs.soc_read.module_at.Tie as tie
 
@@ -68,10 +68,10 @@ returns c =
       l.before.before.word-at4.ensures,
       l.before.word-at5.ensures,
       l.lengths-at.ensures,
-      figure-back x.signed-in.result (record { sfits = x.signed-in.type-inv }),
+      figure_back x.signed-in.result (record { sfits = x.signed-in.type-inv }),
       x.signed-in.ensures,
       x.before.word-at6.ensures,
-      figure-back y.signed-in2.result (record { sfits = y.signed-in2.type-inv }),
+      figure_back y.signed-in2.result (record { sfits = y.signed-in2.type-inv }),
       y.signed-in2.ensures,
       y.before.word-at7.ensures,
       c.before.word-at8.ensures,

@@ -6,18 +6,18 @@ use Prim.Native.Nat.{◌-◌, ◌≤◌}
 use mathlib.Core.Path.{◌≡◌, ◌∙◌}
 use Rattle.units.specs.Places.{padded}
 use Rattle.little_endian.specs.Rows.{rows}
-use Rattle.little_endian.proofs.RowLaws.{filled_none, filled-step, filled-end}
-use Rattle.soc.specs.Limits.{modulesMax}
-use Rattle.soc.specs.Record.{noModule}
-use Rattle.c_forms.specs.SocForm.{moduleLength, modulesFrom, moduleAt}
+use Rattle.little_endian.proofs.RowLaws.{filled_none, filled_step, filled-end}
+use Rattle.soc.specs.Limits.{modules_max}
+use Rattle.soc.specs.Record.{no_module}
+use Rattle.c_forms.specs.SocForm.{module_length, modules_from, module_at}
 use Rattle.c_forms.proofs.soc_read.modules_at.Statement.{statement}
 use Rattle.c_forms.proofs.soc_read.modules_at.Tie as tie
 
 abbrev invariant-loop : tie.invariant-loop
-invariant-loop b list₀ i₀ list i = (i ≤ modulesMax) × (list ≡ padded modulesMax noModule (rows (moduleAt b) moduleLength i modulesFrom))
+invariant-loop b list₀ i₀ list i = (i ≤ modules_max) × (list ≡ padded modules_max no_module (rows (module_at b) module_length i modules_from))
 
 abbrev decreases-loop : tie.decreases-loop
-decreases-loop b list₀ i₀ list i = modulesMax - i
+decreases-loop b list₀ i₀ list i = modules_max - i
 
 no-module-requires : tie.Need-no-module-requires invariant-loop decreases-loop
 no-module-requires c κs = search rules
@@ -25,8 +25,8 @@ no-module-requires c κs = search rules
 loop-holds : tie.Need-loop-init invariant-loop decreases-loop
 loop-holds c = (
   omega arith,
-  rw c.no-module.ensures (filled_none modulesMax noModule
-      (moduleAt c.before.before.args.b.now) moduleLength modulesFrom),
+  rw c.no-module.ensures (filled_none modules_max no_module
+      (module_at c.before.before.args.b.now) module_length modules_from),
 )
 
 mul-module-at : tie.Need-overflow-mul-module-at invariant-loop decreases-loop
@@ -55,7 +55,7 @@ loop-again c =
     let l = c.before.before in
     let s = l.before.before.before in (
       omega arith,
-      rw l.loop.invariant.1 (filled-step modulesMax noModule _ (moduleAt s.args.b.now) moduleLength l.loop.i modulesFrom
+      rw l.loop.invariant.1 (filled_step modules_max no_module _ (module_at s.args.b.now) module_length l.loop.i modules_from
           (omega arith) c.module-at.ensures),
     )
 
@@ -63,7 +63,7 @@ returns : tie.Need-returns invariant-loop decreases-loop
 returns c =
     let l = c.before in
     let s = l.before.before.before in
-    l.loop.invariant.1 ∙ filled-end modulesMax noModule (moduleAt s.args.b.now) moduleLength l.loop.i modulesFrom (omega arith)
+    l.loop.invariant.1 ∙ filled-end modules_max no_module (module_at s.args.b.now) module_length l.loop.i modules_from (omega arith)
 
 pub modules-at-spec : {M : Type 1} → statement M
 modules-at-spec =

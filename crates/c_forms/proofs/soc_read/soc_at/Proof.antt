@@ -1,6 +1,6 @@
--- `c_forms::soc_read::soc_at` meets its contract: its fields are those of `socAt`, in order. Assumes nothing.
+-- `c_forms::soc_read::soc_at` meets its contract: its fields are those of `soc_at`, in order. Assumes nothing.
 use borrow.Author.Rules.{rules}
-use Rattle.c_forms.specs.SocForm.{socAt}
+use Rattle.c_forms.specs.SocForm.{soc_at}
 use Rattle.c_forms.proofs.soc_read.soc_at.Statement.{statement}
 use Rattle.c_forms.proofs.soc_read.soc_at.Tie as tie
 
@@ -29,7 +29,7 @@ modules-at-requires : tie.Need-modules-at-requires
 modules-at-requires c κs = search rules
 
 returns : tie.Need-returns
-unfolding socAt
+unfolding soc_at
 returns c =
     let p = c.before.before.before in
     rw (

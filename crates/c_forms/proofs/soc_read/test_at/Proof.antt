@@ -1,6 +1,6 @@
--- `c_forms::soc_read::test_at` meets its contract: its fields are those of `testAt`, in order. Assumes nothing.
+-- `c_forms::soc_read::test_at` meets its contract: its fields are those of `test_at`, in order. Assumes nothing.
 use borrow.Author.Rules.{rules}
-use Rattle.soc.proofs.FigureLaws.{figure-back}
+use Rattle.soc.proofs.FigureLaws.{figure_back}
 use Rattle.c_forms.proofs.soc_read.test_at.Statement.{statement}
 use Rattle.c_forms.proofs.soc_read.test_at.Tie as tie
 
@@ -26,7 +26,7 @@ returns c =
       w.before.word_at.ensures,
       w.word-at2.ensures,
       c.before.before.word-at3.ensures,
-      figure-back c.signed-in.result (record { sfits = c.signed-in.type-inv }),
+      figure_back c.signed-in.result (record { sfits = c.signed-in.type-inv }),
       c.signed-in.ensures,
       c.before.word-at4.ensures,
     )

@@ -6,18 +6,18 @@ use Prim.Native.Nat.{◌-◌, ◌≤◌}
 use mathlib.Core.Path.{◌≡◌, ◌∙◌}
 use Rattle.units.specs.Places.{padded}
 use Rattle.little_endian.specs.Rows.{rows}
-use Rattle.little_endian.proofs.RowLaws.{filled_none, filled-step, filled-end}
-use Rattle.soc.specs.Limits.{testsMax}
-use Rattle.soc.specs.Record.{noTest}
-use Rattle.c_forms.specs.SocForm.{testLength, testAt}
+use Rattle.little_endian.proofs.RowLaws.{filled_none, filled_step, filled-end}
+use Rattle.soc.specs.Limits.{tests_max}
+use Rattle.soc.specs.Record.{no_test}
+use Rattle.c_forms.specs.SocForm.{test_length, test_at}
 use Rattle.c_forms.proofs.soc_read.tests_at.Statement.{statement}
 use Rattle.c_forms.proofs.soc_read.tests_at.Tie as tie
 
 abbrev invariant-loop : tie.invariant-loop
-invariant-loop b at list₀ i₀ list i = (i ≤ testsMax) × (list ≡ padded testsMax noTest (rows (testAt b) testLength i at))
+invariant-loop b at list₀ i₀ list i = (i ≤ tests_max) × (list ≡ padded tests_max no_test (rows (test_at b) test_length i at))
 
 abbrev decreases-loop : tie.decreases-loop
-decreases-loop b at list₀ i₀ list i = testsMax - i
+decreases-loop b at list₀ i₀ list i = tests_max - i
 
 no-test-requires : tie.Need-no-test-requires invariant-loop decreases-loop
 no-test-requires c κs = search rules
@@ -25,7 +25,7 @@ no-test-requires c κs = search rules
 loop-holds : tie.Need-loop-init invariant-loop decreases-loop
 loop-holds c = (
   omega arith,
-  rw c.no_test.ensures (filled_none testsMax noTest (testAt c.before.before.args.b.now) testLength
+  rw c.no_test.ensures (filled_none tests_max no_test (test_at c.before.before.args.b.now) test_length
       c.before.before.args.at),
 )
 
@@ -55,7 +55,7 @@ loop-again c =
     let l = c.before.before in
     let s = l.before.before.before in (
       omega arith,
-      rw l.loop.invariant.1 (filled-step testsMax noTest _ (testAt s.args.b.now) testLength l.loop.i s.args.at (omega arith)
+      rw l.loop.invariant.1 (filled_step tests_max no_test _ (test_at s.args.b.now) test_length l.loop.i s.args.at (omega arith)
           c.test_at.ensures),
     )
 
@@ -63,7 +63,7 @@ returns : tie.Need-returns invariant-loop decreases-loop
 returns c =
     let l = c.before in
     let s = l.before.before.before in
-    l.loop.invariant.1 ∙ filled-end testsMax noTest (testAt s.args.b.now) testLength l.loop.i s.args.at (omega arith)
+    l.loop.invariant.1 ∙ filled-end tests_max no_test (test_at s.args.b.now) test_length l.loop.i s.args.at (omega arith)
 
 pub tests-at-spec : {M : Type 1} → statement M
 tests-at-spec =

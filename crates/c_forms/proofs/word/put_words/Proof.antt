@@ -6,19 +6,19 @@ use Prim.Native.Nat.{◌-◌, ◌≤◌}
 use mathlib.Core.Path.{refl}
 use lib.ListN.{length}
 use Rattle.little_endian.proofs.RowLaws.{Run, run_none}
-use Rattle.c_forms.specs.Words.{wordLength, word}
+use Rattle.c_forms.specs.Words.{word_length, word}
 use Rattle.c_forms.proofs.PutOfLaws.{run-word, run-put}
 use Rattle.c_forms.proofs.word.put_words.Statement.{statement}
 use Rattle.c_forms.proofs.word.put_words.Tie as tie
 
 abbrev invariant-loop : tie.invariant-loop
-invariant-loop buf₀ at list e₀ i₀ buf e i = (i ≤ length list) × Run word wordLength list at buf₀ i buf e
+invariant-loop buf₀ at list e₀ i₀ buf e i = (i ≤ length list) × Run word word_length list at buf₀ i buf e
 
 abbrev decreases-loop : tie.decreases-loop
 decreases-loop buf₀ at list e₀ i₀ buf e i = length list - i
 
 loop-holds : tie.Need-loop-init invariant-loop decreases-loop
-loop-holds c = (omega arith, run_none word wordLength _ _ _)
+loop-holds c = (omega arith, run_none word word_length _ _ _)
 
 mul-put-u32 : tie.Need-overflow-mul-put-u32 invariant-loop decreases-loop
 mul-put-u32 c = search rules
@@ -48,7 +48,7 @@ same_length c = c.before.loop.invariant.1.kept
 returns : tie.Need-returns invariant-loop decreases-loop
 returns c =
     let l = c.before in
-    run-put word wordLength _ (length l.before.before.before.args.list.now) refl (omega arith) l.loop.invariant.1
+    run-put word word_length _ (length l.before.before.before.args.list.now) refl (omega arith) l.loop.invariant.1
 
 pub put-words-spec : {M : Type 1} → statement M
 put-words-spec =

@@ -8,7 +8,7 @@ use lib.IntN.{pos, negsuc, ◌-ℤ◌}
 use mir.Syntax.{w32, w64}
 use mir.Val.{to_z, of_z}
 use mir.Facts.{to_z_pos, to_z-of_z}
-use Rattle.c_forms.proofs.SignedLaws.{signed_low, signed_high, word-less, high_fits, less-fits}
+use Rattle.c_forms.proofs.SignedLaws.{signed_low, signed_high, word_less, high_fits, less_fits}
 use Rattle.c_forms.proofs.word.signed_in.Statement.{statement}
 use Rattle.c_forms.proofs.word.signed_in.Tie as tie
 
@@ -22,14 +22,14 @@ cast-result-2 : tie.Need-overflow-cast-result-2
 cast-result-2 c = search rules
 
 less : (c : tie.Else1) → let w = c.before.args.w in to_z w64 w -ℤ pos 4294967296 ≡ negsuc (4294967295 - w)
-less c = word-less c.before.args.w (omega arith)
+less c = word_less c.before.args.w (omega arith)
 
 sub-result : tie.Need-overflow-sub-result
-sub-result c = rw (less c) (less-fits c.before.args.w)
+sub-result c = rw (less c) (less_fits c.before.args.w)
 
 -- the bits of 64 say the same number
 wide : (c : tie.Else1) → let w = c.before.args.w in to_z w64 (of_z w64 (to_z w64 w -ℤ pos 4294967296)) ≡ negsuc (4294967295 - w)
-wide c = rw (less c) (to_z-of_z {w = w64} (less-fits c.before.args.w))
+wide c = rw (less c) (to_z-of_z {w = w64} (less_fits c.before.args.w))
 
 cast-result-3 : tie.Need-overflow-cast-result-3
 cast-result-3 c = rw (wide c) (high_fits c.before.args.w (omega arith))

@@ -5,14 +5,14 @@ use lib.IntN.{pos}
 use lib.Signed.{lt_z}
 use mir.Syntax.{w32}
 use mir.Val.{to_z, of_z}
-use Rattle.soc.proofs.FigureLaws.{figure-back}
-use Rattle.c_forms.proofs.SignedLaws.{wide, wide_back, word_sum, word_fits, word-bits, word-cast, above_word, above-cast}
+use Rattle.soc.proofs.FigureLaws.{figure_back}
+use Rattle.c_forms.proofs.SignedLaws.{wide, wide_back, word_sum, word_fits, word_bits, word_cast, above_word, above_cast}
 use Rattle.c_forms.proofs.word.signed_word.Statement.{statement}
 use Rattle.c_forms.proofs.word.signed_word.Tie as tie
 
 -- the parameter's bits read back as the parameter
 back : (s : tie.Start) → to_z w32 (of_z w32 s.args.z) ≡ s.args.z
-back s = figure-back s.args.z s.ranges.z
+back s = figure_back s.args.z s.ranges.z
 
 -- what the test says
 below : (c : tie.Then1) → lt_z c.before.args.z (pos 0) ≡ true
@@ -34,16 +34,16 @@ cast-result-2 : tie.Need-overflow-cast-result-2
 cast-result-2 c =
     let s = c.before in
     let z = s.args.z in
-    rw (back s, wide_back z s.ranges.z, word_sum z s.ranges.z (below c), word-bits z s.ranges.z) (word-cast z s.ranges.z)
+    rw (back s, wide_back z s.ranges.z, word_sum z s.ranges.z (below c), word_bits z s.ranges.z) (word_cast z s.ranges.z)
 
 returns : tie.Need-returns
 returns c =
     let s = c.before in
     let z = s.args.z in
-    rw (back s, wide_back z s.ranges.z, word_sum z s.ranges.z (below c), word-bits z s.ranges.z)
+    rw (back s, wide_back z s.ranges.z, word_sum z s.ranges.z (below c), word_bits z s.ranges.z)
 
 cast-result-3 : tie.Need-overflow-cast-result-3
-cast-result-3 c = let s = c.before in rw (back s) (above-cast s.args.z s.ranges.z (above c))
+cast-result-3 c = let s = c.before in rw (back s) (above_cast s.args.z s.ranges.z (above c))
 
 returns-2 : tie.Need-returns-2
 returns-2 c = let s = c.before in rw (back s) (above_word s.args.z (above c))

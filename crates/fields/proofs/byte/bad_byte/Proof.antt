@@ -12,32 +12,32 @@ use mathlib.Core.List.{List}
 use mathlib.Core.Logic.{⊎_elim}
 use lib.ListN.{length, get_or, drop, drop_of_length-le}
 use lib.Seq.{drop-cons}
-use Rattle.fields.specs.Bytes.{lf, allowed, lineBehind, badByte}
+use Rattle.fields.specs.Bytes.{lf, allowed, line_behind, bad_byte}
 use Rattle.fields.specs.declared.byte.BadByte.TheVariants.{OnLine, Nowhere}
 use Rattle.fields.proofs.byte.bad_byte.Statement.{statement}
 use Rattle.fields.proofs.byte.bad_byte.Tie as tie
 
 module _ (n : ℕ) (s : List ℕ) (i : ℕ) where
-  bad-here : i < length s → allowed (get_or s i 0) (drop (i + 1) s) ≡ false → badByte n (drop i s) ≡ OnLine n
-  unfolding badByte
+  bad-here : i < length s → allowed (get_or s i 0) (drop (i + 1) s) ≡ false → bad_byte n (drop i s) ≡ OnLine n
+  unfolding bad_byte
   bad-here h e = rw (drop-cons s i 0) (simp (← add-one, e))
 
-  bad-later : (m : ℕ) → i < length s → allowed (get_or s i 0) (drop (i + 1) s) ≡ true → lineBehind n (get_or s i 0) ≡ m → badByte n (drop i s) ≡ badByte m (drop (i + 1) s)
-  unfolding badByte
+  bad-later : (m : ℕ) → i < length s → allowed (get_or s i 0) (drop (i + 1) s) ≡ true → line_behind n (get_or s i 0) ≡ m → bad_byte n (drop i s) ≡ bad_byte m (drop (i + 1) s)
+  unfolding bad_byte
   bad-later m h e k = rw (drop-cons s i 0) (simp (← add-one, e, k))
 
-  bad-none : length s ≤ i → badByte n (drop i s) ≡ Nowhere
-  unfolding badByte
+  bad-none : length s ≤ i → bad_byte n (drop i s) ≡ Nowhere
+  unfolding bad_byte
   bad-none h = rw (drop_of_length-le s h)
 
-line-lf : (n b m : ℕ) → b ≡ lf → m ≡ n + 1 → lineBehind n b ≡ m
+line-lf : (n b m : ℕ) → b ≡ lf → m ≡ n + 1 → line_behind n b ≡ m
 line-lf n b m e h = simp (eq-eqb b lf e) (omega arith)
 
-line_on : (n b m : ℕ) → (b ≡ lf → ⊥) → m ≡ n → lineBehind n b ≡ m
+line_on : (n b m : ℕ) → (b ≡ lf → ⊥) → m ≡ n → line_behind n b ≡ m
 line_on n b m e h = simp (ne_eqb b lf e) (sym h)
 
 abbrev invariant-loop : tie.invariant-loop
-invariant-loop text line₀ i₀ line i = (line ≤ i + 1) × (badByte 1 text ≡ badByte line (drop i text))
+invariant-loop text line₀ i₀ line i = (line ≤ i + 1) × (bad_byte 1 text ≡ bad_byte line (drop i text))
 
 abbrev decreases-loop : tie.decreases-loop
 decreases-loop text line₀ i₀ line i = length text - i

@@ -7,7 +7,7 @@ use mathlib.Core.Path.{◌≡◌, ◌∙◌}
 use mathlib.Core.Bool.{true, false, or-false}
 use mathlib.Core.List.{List}
 use lib.Dec.{leb}
-use Rattle.fields.specs.Bytes.{tab, lf, cr, lfNext, allowed}
+use Rattle.fields.specs.Bytes.{tab, lf, cr, lf_next, allowed}
 use Rattle.fields.proofs.byte.is_allowed.Statement.{statement}
 use Rattle.fields.proofs.byte.is_allowed.Tie as tie
 
@@ -20,7 +20,7 @@ module _ (b : ℕ) (bs : List ℕ) where
     allowed-lf e = simp (ne_eqb b tab t, eq-eqb b lf e)
 
     module _ (l : b ≡ lf → ⊥) where
-      allowed-cr : b ≡ cr → lfNext bs ≡ allowed b bs
+      allowed-cr : b ≡ cr → lf_next bs ≡ allowed b bs
       allowed-cr e = let h : b < 32 = omega arith in simp (ne_eqb b tab t, ne_eqb b lf l, eq-eqb b cr e, lt-leb 32 b h, or-false)
 
       module _ (r : b ≡ cr → ⊥) where

@@ -7,16 +7,16 @@ use mathlib.Core.List.{List}
 use lib.ListN.{length, get_or, drop, drop_of_length-le}
 use lib.Dec.{eqb}
 use lib.Seq.{drop-cons}
-use Rattle.fields.specs.Bytes.{lf, lfNext}
+use Rattle.fields.specs.Bytes.{lf, lf_next}
 use Rattle.fields.proofs.byte.is_lf_at.Statement.{statement}
 use Rattle.fields.proofs.byte.is_lf_at.Tie as tie
 
-lf-at : (s : List ℕ) (i : ℕ) → i < length s → eqb (get_or s i 0) lf ≡ lfNext (drop i s)
-unfolding lfNext
+lf-at : (s : List ℕ) (i : ℕ) → i < length s → eqb (get_or s i 0) lf ≡ lf_next (drop i s)
+unfolding lf_next
 lf-at s i h = rw (drop-cons s i 0)
 
-lf-end : (s : List ℕ) (i : ℕ) → length s ≤ i → false ≡ lfNext (drop i s)
-unfolding lfNext
+lf-end : (s : List ℕ) (i : ℕ) → length s ≤ i → false ≡ lf_next (drop i s)
+unfolding lf_next
 lf-end s i h = rw (drop_of_length-le s h)
 
 shared-slice-read-result : tie.Need-shared-slice-read-result

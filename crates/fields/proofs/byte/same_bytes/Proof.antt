@@ -10,31 +10,31 @@ use mathlib.Core.Bool.{true, false, and-false}
 use mathlib.Core.List.{List, [], ◌∷◌}
 use lib.ListN.{length, get_or, drop, drop_of_length-le}
 use lib.Seq.{drop-cons}
-use Rattle.fields.specs.Bytes.{sameBytes}
+use Rattle.fields.specs.Bytes.{same_bytes}
 use Rattle.fields.proofs.byte.same_bytes.Statement.{statement}
 use Rattle.fields.proofs.byte.same_bytes.Tie as tie
 
-same_step : (a b : List ℕ) (i : ℕ) → i < length a → i < length b → get_or a i 0 ≡ get_or b i 0 → sameBytes (drop i a) (drop i b) ≡ sameBytes (drop (i + 1) a) (drop (i + 1) b)
-unfolding sameBytes
+same_step : (a b : List ℕ) (i : ℕ) → i < length a → i < length b → get_or a i 0 ≡ get_or b i 0 → same_bytes (drop i a) (drop i b) ≡ same_bytes (drop (i + 1) a) (drop (i + 1) b)
+unfolding same_bytes
 same_step a b i h k e = rw (add-one, drop-cons a i 0, drop-cons b i 0) (simp (eq-eqb _ _ e))
 
-same_not : (a b : List ℕ) (i : ℕ) → i < length a → i < length b → (get_or a i 0 ≡ get_or b i 0 → ⊥) → sameBytes (drop i a) (drop i b) ≡ false
-unfolding sameBytes
+same_not : (a b : List ℕ) (i : ℕ) → i < length a → i < length b → (get_or a i 0 ≡ get_or b i 0 → ⊥) → same_bytes (drop i a) (drop i b) ≡ false
+unfolding same_bytes
 same_not a b i h k e = rw (drop-cons a i 0, drop-cons b i 0) (simp (ne_eqb _ _ e))
 
-same_end : (a b : List ℕ) (i : ℕ) → length a ≤ i → length b ≤ i → sameBytes (drop i a) (drop i b) ≡ true
-unfolding sameBytes
+same_end : (a b : List ℕ) (i : ℕ) → length a ≤ i → length b ≤ i → same_bytes (drop i a) (drop i b) ≡ true
+unfolding same_bytes
 same_end a b i h k = rw (drop_of_length-le a h, drop_of_length-le b k)
 
-same_length : (a b : List ℕ) → (length a ≡ length b → ⊥) → sameBytes a b ≡ false
-unfolding sameBytes
+same_length : (a b : List ℕ) → (length a ≡ length b → ⊥) → same_bytes a b ≡ false
+unfolding same_bytes
 same_length [] [] n = absurd (n refl)
 same_length [] (y ∷ b) n = refl
 same_length (x ∷ a) [] n = refl
 same_length (x ∷ a) (y ∷ b) n = simp (same_length a b (λ e. n (omega arith)), and-false)
 
 abbrev invariant-loop : tie.invariant-loop
-invariant-loop a b i₀ i = (i ≤ length a) × (length a ≡ length b) × (sameBytes a b ≡ sameBytes (drop i a) (drop i b))
+invariant-loop a b i₀ i = (i ≤ length a) × (length a ≡ length b) × (same_bytes a b ≡ same_bytes (drop i a) (drop i b))
 
 abbrev decreases-loop : tie.decreases-loop
 decreases-loop a b i₀ i = length a - i

@@ -1,4 +1,4 @@
--- `fields::field::next_field` meets its contract: what `past_gaps` and `past_run` ensure are the two places that `nextField` names.
+-- `fields::field::next_field_lem` meets its contract: what `past_gaps` and `past_run` ensure are the two places that `next_field` names.
 -- Assumes nothing.
 use borrow.Author.Rules.{rules}
 use borrow.Author.Tests.{lt-ltb, le-ltb}
@@ -6,17 +6,17 @@ use Prim.Native.Nat.{ℕ, ◌+◌, ◌≤◌, ◌<◌}
 use mathlib.Core.Path.{◌≡◌}
 use mathlib.Core.List.{List}
 use lib.ListN.{length, drop}
-use Rattle.fields.specs.Fields.{gaps, run, fieldFrom, nextField}
+use Rattle.fields.specs.Fields.{gaps, run, field_from, next_field}
 use Rattle.fields.specs.declared.field.Next.TheVariants.{Field, Nothing}
 use Rattle.fields.proofs.field.next_field.Statement.{statement}
 use Rattle.fields.proofs.field.next_field.Tie as tie
 
-field-none : (s : List ℕ) (at a : ℕ) → a ≡ at + gaps (drop at s) → length s ≤ a → Nothing ≡ nextField s at
-unfolding nextField fieldFrom
+field-none : (s : List ℕ) (at a : ℕ) → a ≡ at + gaps (drop at s) → length s ≤ a → Nothing ≡ next_field s at
+unfolding next_field field_from
 field-none s at a p h = rw (← p) (simp (le-ltb _ _ h))
 
-field-some : (s : List ℕ) (at a e : ℕ) → a ≡ at + gaps (drop at s) → a < length s → e ≡ a + run (drop a s) → Field a e ≡ nextField s at
-unfolding nextField fieldFrom
+field-some : (s : List ℕ) (at a e : ℕ) → a ≡ at + gaps (drop at s) → a < length s → e ≡ a + run (drop a s) → Field a e ≡ next_field s at
+unfolding next_field field_from
 field-some s at a e p h q = rw (← p, ← q) (simp (lt-ltb _ _ h))
 
 past-gaps-requires : tie.Need-past-gaps-requires

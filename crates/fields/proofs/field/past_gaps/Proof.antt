@@ -7,7 +7,7 @@ use Prim.Native.Nat.{◌+◌, ◌-◌}
 use mathlib.Core.Path.{◌≡◌, refl, sym, ◌∙◌}
 use lib.ListN.{length, drop}
 use Rattle.fields.specs.Fields.{gap, gaps}
-use Rattle.fields.proofs.CountLaws.{gaps-counts, count-on, count-stop, count-end}
+use Rattle.fields.proofs.CountLaws.{gaps-counts, count_on, count_stop, count-end}
 use Rattle.fields.proofs.field.past_gaps.Statement.{statement}
 use Rattle.fields.proofs.field.past_gaps.Tie as tie
 
@@ -29,7 +29,7 @@ is-gap-requires c κs = search rules
 returns : tie.Need-returns invariant-loop decreases-loop
 returns c =
     let l = c.before.before.before.before in
-    sym (l.loop.invariant ∙ count-stop gaps gap gaps-counts l.before.before.args.l.now l.loop.i (omega arith) (sym c.before.is-gap.ensures ∙ not-true _ c.if1.true))
+    sym (l.loop.invariant ∙ count_stop gaps gap gaps-counts l.before.before.args.l.now l.loop.i (omega arith) (sym c.before.is-gap.ensures ∙ not-true _ c.if1.true))
 
 add-i : tie.Need-overflow-add-i invariant-loop decreases-loop
 add-i c = search rules
@@ -40,7 +40,7 @@ loop-less c = search rules
 loop-again : tie.Need-loop-preserved invariant-loop decreases-loop
 loop-again c =
     let l = c.before.before.before.before in
-    l.loop.invariant ∙ count-on gaps gap gaps-counts l.before.before.args.l.now l.loop.i (omega arith) (sym c.before.is-gap.ensures ∙ not-false _ c.if1.false)
+    l.loop.invariant ∙ count_on gaps gap gaps-counts l.before.before.args.l.now l.loop.i (omega arith) (sym c.before.is-gap.ensures ∙ not-false _ c.if1.false)
 
 returns-2 : tie.Need-returns-2 invariant-loop decreases-loop
 returns-2 c =

@@ -7,7 +7,7 @@ use mathlib.Core.Path.{◌≡◌, refl, sym, ap, ◌∙◌}
 use mathlib.Core.Bool.{not}
 use lib.ListN.{length, drop}
 use Rattle.fields.specs.Fields.{gap, run}
-use Rattle.fields.proofs.CountLaws.{run-counts, count-on, count-stop, count-end}
+use Rattle.fields.proofs.CountLaws.{run-counts, count_on, count_stop, count-end}
 use Rattle.fields.proofs.field.past_run.Statement.{statement}
 use Rattle.fields.proofs.field.past_run.Tie as tie
 
@@ -29,7 +29,7 @@ is-gap-requires c κs = search rules
 returns : tie.Need-returns invariant-loop decreases-loop
 returns c =
     let l = c.before.before.before.before in
-    sym (l.loop.invariant ∙ count-stop run (λ b. not (gap b)) run-counts l.before.before.args.l.now l.loop.i (omega arith) (ap not (sym c.before.is-gap.ensures ∙ c.if1.true)))
+    sym (l.loop.invariant ∙ count_stop run (λ b. not (gap b)) run-counts l.before.before.args.l.now l.loop.i (omega arith) (ap not (sym c.before.is-gap.ensures ∙ c.if1.true)))
 
 add-i : tie.Need-overflow-add-i invariant-loop decreases-loop
 add-i c = search rules
@@ -40,7 +40,7 @@ loop-less c = search rules
 loop-again : tie.Need-loop-preserved invariant-loop decreases-loop
 loop-again c =
     let l = c.before.before.before.before in
-    l.loop.invariant ∙ count-on run (λ b. not (gap b)) run-counts l.before.before.args.l.now l.loop.i (omega arith) (ap not (sym c.before.is-gap.ensures ∙ c.if1.false))
+    l.loop.invariant ∙ count_on run (λ b. not (gap b)) run-counts l.before.before.args.l.now l.loop.i (omega arith) (ap not (sym c.before.is-gap.ensures ∙ c.if1.false))
 
 returns-2 : tie.Need-returns-2 invariant-loop decreases-loop
 returns-2 c =

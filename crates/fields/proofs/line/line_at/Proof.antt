@@ -1,4 +1,4 @@
--- `fields::line::line_at` meets its contract: the tests on the way to each arm give the value of `lineEnding` at what `past_line` ensures.
+-- `fields::line::line_at` meets its contract: the tests on the way to each arm give the value of `line_ending` at what `past_line` ensures.
 -- Assumes nothing.
 use borrow.Author.Rules.{rules}
 use borrow.Author.Tests.{lt-ltb, le-ltb, eq-eqb, ne_eqb}
@@ -8,7 +8,7 @@ use mathlib.Core.List.{List}
 use mathlib.Core.Logic.{⊎_elim}
 use lib.ListN.{length, get_or, drop}
 use Rattle.fields.specs.Bytes.{cr}
-use Rattle.fields.specs.Lines.{untilLf, lineEnding, line_at}
+use Rattle.fields.specs.Lines.{until_lf, line_ending, line_at}
 use Rattle.fields.specs.declared.line.OneLine.{OneLine}
 use Rattle.fields.proofs.line.line_at.Statement.{statement}
 use Rattle.fields.proofs.line.line_at.Tie as tie
@@ -16,21 +16,21 @@ use Rattle.fields.proofs.line.line_at.Tie as tie
 abbrev one : ℕ → ℕ → OneLine
 one to next = record { to = to; next = next }
 
-module _ (t : List ℕ) (from e : ℕ) (p : e ≡ from + untilLf (drop from t)) where
+module _ (t : List ℕ) (from e : ℕ) (p : e ≡ from + until_lf (drop from t)) where
   at_last : length t ≤ e → one e e ≡ line_at t from
-  unfolding line_at lineEnding
+  unfolding line_at line_ending
   at_last h = rw (← p) (simp (le-ltb _ _ h))
 
   at-crlf : e < length t → from < e → get_or t (e - 1) 0 ≡ cr → one (e - 1) (e + 1) ≡ line_at t from
-  unfolding line_at lineEnding
+  unfolding line_at line_ending
   at-crlf h k q = rw (← p) (simp (lt-ltb _ _ h, lt-ltb _ _ k, eq-eqb _ _ q))
 
   at-lf : e < length t → (get_or t (e - 1) 0 ≡ cr → ⊥) → from < e → one e (e + 1) ≡ line_at t from
-  unfolding line_at lineEnding
+  unfolding line_at line_ending
   at-lf h q k = rw (← p) (simp (lt-ltb _ _ h, lt-ltb _ _ k, ne_eqb _ _ q))
 
   at-empty : e < length t → e ≤ from → one e (e + 1) ≡ line_at t from
-  unfolding line_at lineEnding
+  unfolding line_at line_ending
   at-empty h k = rw (← p) (simp (lt-ltb _ _ h, le-ltb _ _ k))
 
 past-line-requires : tie.Need-past-line-requires

@@ -6,14 +6,14 @@ use native.Mathlib.Omega.{arith}
 use Prim.Native.Nat.{ℕ, ◌+◌, ◌-◌, ◌≤◌}
 use mathlib.Core.Path.{◌≡◌, refl, sym, ap, ◌∙◌}
 use lib.ListN.{length}
-use Rattle.fields.specs.Lines.{lines_from, lineStart}
+use Rattle.fields.specs.Lines.{lines_from, line_start}
 use Rattle.fields.proofs.LineLaws.{LineIs, line-is, lines-blank, lines-some, lines_none, start-more}
 use Rattle.fields.proofs.line.next_line.Statement.{statement}
 use Rattle.fields.proofs.line.next_line.Tie as tie
 
 abbrev invariant-loop : tie.invariant-loop
 invariant-loop text from at₀ passed₀ at passed =
-    (from + passed ≤ at) × (at ≡ lineStart text from passed) × ((n : ℕ) → lines_from n text from ≡ lines_from (n + passed) text at)
+    (from + passed ≤ at) × (at ≡ line_start text from passed) × ((n : ℕ) → lines_from n text from ≡ lines_from (n + passed) text at)
 
 abbrev decreases-loop : tie.decreases-loop
 decreases-loop text from at₀ passed₀ at passed = length text - at
@@ -23,7 +23,7 @@ line : (c : tie.After-line-at invariant-loop decreases-loop) → LineIs c.before
 line c = line-is _ _ _ c.before.loop-test.true c.line_at_lem.ensures
 
 loop-holds : tie.Need-loop-init invariant-loop decreases-loop
-unfolding lineStart
+unfolding line_start
 loop-holds c = (omega arith, refl, λ n. let e : n + 0 ≡ n = omega arith in rw e)
 
 line-at-requires : tie.Need-line-at-requires invariant-loop decreases-loop

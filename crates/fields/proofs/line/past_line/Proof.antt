@@ -9,13 +9,13 @@ use mathlib.Core.Bool.{not}
 use lib.ListN.{length, drop}
 use lib.Dec.{eqb}
 use Rattle.fields.specs.Bytes.{lf}
-use Rattle.fields.specs.Lines.{untilLf}
-use Rattle.fields.proofs.CountLaws.{lf-counts, count-on, count-stop, count-end}
+use Rattle.fields.specs.Lines.{until_lf}
+use Rattle.fields.proofs.CountLaws.{lf-counts, count_on, count_stop, count-end}
 use Rattle.fields.proofs.line.past_line.Statement.{statement}
 use Rattle.fields.proofs.line.past_line.Tie as tie
 
 abbrev invariant-loop : tie.invariant-loop
-invariant-loop text from i₀ i = from + untilLf (drop from text) ≡ i + untilLf (drop i text)
+invariant-loop text from i₀ i = from + until_lf (drop from text) ≡ i + until_lf (drop i text)
 
 abbrev decreases-loop : tie.decreases-loop
 decreases-loop text from i₀ i = length text - i
@@ -29,7 +29,7 @@ shared-slice-read-if1 c = search rules
 returns : tie.Need-returns invariant-loop decreases-loop
 returns c =
     let l = c.before.before.before in
-    sym (l.loop.invariant ∙ count-stop untilLf (λ b. not (eqb b lf)) lf-counts l.before.args.text.now l.loop.i (omega arith) (ap not (eq-eqb _ _ c.if1.true)))
+    sym (l.loop.invariant ∙ count_stop until_lf (λ b. not (eqb b lf)) lf-counts l.before.args.text.now l.loop.i (omega arith) (ap not (eq-eqb _ _ c.if1.true)))
 
 add-i : tie.Need-overflow-add-i invariant-loop decreases-loop
 add-i c = search rules
@@ -40,12 +40,12 @@ loop-less c = search rules
 loop-again : tie.Need-loop-preserved invariant-loop decreases-loop
 loop-again c =
     let l = c.before.before.before in
-    l.loop.invariant ∙ count-on untilLf (λ b. not (eqb b lf)) lf-counts l.before.args.text.now l.loop.i (omega arith) (ap not (ne_eqb _ _ c.if1.false))
+    l.loop.invariant ∙ count_on until_lf (λ b. not (eqb b lf)) lf-counts l.before.args.text.now l.loop.i (omega arith) (ap not (ne_eqb _ _ c.if1.false))
 
 returns-2 : tie.Need-returns-2 invariant-loop decreases-loop
 returns-2 c =
     let l = c.before in
-    sym (l.loop.invariant ∙ count-end untilLf (λ b. not (eqb b lf)) lf-counts l.before.args.text.now l.loop.i (omega arith))
+    sym (l.loop.invariant ∙ count-end until_lf (λ b. not (eqb b lf)) lf-counts l.before.args.text.now l.loop.i (omega arith))
 
 pub past-line-spec : {M : Type 1} → statement M
 past-line-spec =

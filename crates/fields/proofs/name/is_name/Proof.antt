@@ -6,13 +6,13 @@ use mathlib.Core.Path.{◌≡◌, sym, ◌∙◌}
 use mathlib.Core.Bool.{and-false}
 use borrow.Author.Tests.{not-true, not-false, lt-leb, le-leb}
 use lib.ListN.{length, drop}
-use Rattle.fields.specs.Names.{nameMax, nameBytes, isName}
+use Rattle.fields.specs.Names.{name_max, name_bytes, is_name}
 use Rattle.fields.proofs.NameLaws.{name-bytes-at, name-bytes-end}
 use Rattle.fields.proofs.name.is_name.Statement.{statement}
 use Rattle.fields.proofs.name.is_name.Tie as tie
 
 abbrev invariant-loop : tie.invariant-loop
-invariant-loop f i₀ i = (i ≤ length f) × (isName f ≡ nameBytes (drop i f))
+invariant-loop f i₀ i = (i ≤ length f) × (is_name f ≡ name_bytes (drop i f))
 
 abbrev decreases-loop : tie.decreases-loop
 decreases-loop f i₀ i = length f - i
@@ -23,14 +23,14 @@ returns c = simp (lt-leb _ _ c.if1.true)
 returns-2 : tie.Need-returns-2 invariant-loop decreases-loop
 returns-2 c =
     let f = c.before.before.before.args.f.now in
-    let h : nameMax < length f = omega arith in
+    let h : name_max < length f = omega arith in
     simp (lt-leb _ _ h, and-false)
 
 loop-holds : tie.Need-loop-init invariant-loop decreases-loop
 loop-holds c =
     let f = c.before.before.before.args.f.now in
     let h : 1 ≤ length f = omega arith in
-    let k : length f ≤ nameMax = omega arith in
+    let k : length f ≤ name_max = omega arith in
     (omega arith, simp (le-leb _ _ h, le-leb _ _ k))
 
 shared-slice-read-b : tie.Need-shared-slice-read-b invariant-loop decreases-loop

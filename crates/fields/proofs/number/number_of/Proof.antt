@@ -8,13 +8,13 @@ use mathlib.Core.Bool.{and-false}
 use mathlib.Core.Logic.{⊎_elim}
 use borrow.Author.Tests.{le-ltb, ne_eqb, lt-leb, le-leb}
 use lib.ListN.{length, drop}
-use Rattle.fields.specs.Numbers.{decimalOf, digits, cap, cut}
+use Rattle.fields.specs.Numbers.{decimal_of, digits, cap, cut}
 use Rattle.fields.proofs.NumberLaws.{cut-same, digits-at, cut-end, decimal-start, decimal-zero, decimal-none}
 use Rattle.fields.proofs.number.number_of.Statement.{statement}
 use Rattle.fields.proofs.number.number_of.Tie as tie
 
 abbrev invariant-loop : tie.invariant-loop
-invariant-loop f v₀ i₀ v i = (i ≤ length f) × (v ≤ cap) × (cut (decimalOf f) ≡ cut (digits (drop i f) v))
+invariant-loop f v₀ i₀ v i = (i ≤ length f) × (v ≤ cap) × (cut (decimal_of f) ≡ cut (digits (drop i f) v))
 
 abbrev decreases-loop : tie.decreases-loop
 decreases-loop f v₀ i₀ v i = length f - i

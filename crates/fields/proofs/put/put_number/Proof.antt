@@ -4,14 +4,14 @@ use native.Mathlib.Omega.{arith}
 use mathlib.Core.Path.{ap}
 use lib.ListN.{length, length-drop}
 use Rattle.fields.specs.WrittenLines.{decimal}
-use Rattle.buffer.proofs.PutLaws.{partFrom, part-rest, count_most, end_none, in-none, part_end, part_in}
+use Rattle.buffer.proofs.PutLaws.{part_from, part-rest, count_most, end_none, in_none, part_end, part_in}
 use Rattle.fields.proofs.put.put_number.Statement.{statement}
 use Rattle.fields.proofs.put.put_number.Tie as tie
 
 returns : tie.Need-returns
 returns c =
     let s = c.before.before in
-    (end_none (decimal s.args.v) s.args.at s.args.buf.now (omega arith), in-none (decimal s.args.v) s.args.at s.args.buf.now (omega arith))
+    (end_none (decimal s.args.v) s.args.at s.args.buf.now (omega arith), in_none (decimal s.args.v) s.args.at s.args.buf.now (omega arith))
 
 sub-write-number : tie.Need-overflow-sub-write-number
 sub-write-number c = search rules
@@ -29,7 +29,7 @@ add-result : tie.Need-overflow-add-result
 add-result c =
     let k = c.before.before in
     let s = k.before.before.before.before in
-    omega (arith, k.write-number.ensures.0, count_most (decimal s.args.v) s.args.at (partFrom s.args.at s.args.buf.now), ap length (part-rest s.args.at s.args.buf.now), length-drop s.args.at s.args.buf.now)
+    omega (arith, k.write-number.ensures.0, count_most (decimal s.args.v) s.args.at (part_from s.args.at s.args.buf.now), ap length (part-rest s.args.at s.args.buf.now), length-drop s.args.at s.args.buf.now)
 
 same_length : tie.Need-same-length
 same_length c = search rules

@@ -1,37 +1,37 @@
--- `fields::reader::figure_at` meets its contract. What `next_field` names is the first field, by the law of fields; its number is cut at a cap
+-- `fields::reader::figure_at` meets its contract. What `next_field_lem` names is the first field, by the law of fields; its number is cut at a cap
 -- that is over both limits, so that the tests on the cut number are those on the number. The place answered is that field's end. Assumes
 -- nothing.
 use borrow.Author.Rules.{rules}
 use native.Mathlib.Omega.{arith}
 use mathlib.Core.Path.{◌≡◌, sym, ap, ◌∙◌}
 use lib.ListN.{drop}
-use Rattle.fields.specs.Fields.{fields_of, fieldEnd, part}
-use Rattle.fields.specs.Numbers.{decimalOf, cut}
+use Rattle.fields.specs.Fields.{fields_of, field_end, part}
+use Rattle.fields.specs.Numbers.{decimal_of, cut}
 use Rattle.fields.specs.Readers.{between, within}
 use Rattle.fields.specs.declared.number.Number.TheVariants.{Value}
-use Rattle.fields.proofs.FieldLaws.{FieldIs, next_field, next-end, next-nothing}
+use Rattle.fields.proofs.FieldLaws.{FieldIs, next_field_lem, next-end, next-nothing}
 use Rattle.fields.proofs.PlaceAnswerLaws.{number-no, number-got}
-use Rattle.fields.proofs.ReaderLaws.{within-bad, within-below, within-above, within-got}
+use Rattle.fields.proofs.ReaderLaws.{within_bad, within-below, within-above, within-got}
 use Rattle.fields.proofs.reader.figure_at.Statement.{statement}
 use Rattle.fields.proofs.reader.figure_at.Tie as tie
 
 -- the field that was found
 field : (c : tie.After-a) → let s = c.before.before.before.before in FieldIs s.args.l.now s.args.at c.a.given.0.0 c.a.given.0.1.0
-field c = next_field _ _ _ _ (sym c.before.before.next_field.ensures ∙ c.a.given.1)
+field c = next_field_lem _ _ _ _ (sym c.before.before.next_field.ensures ∙ c.a.given.1)
 
-end : (c : tie.After-a) → let s = c.before.before.before.before in fieldEnd s.args.l.now s.args.at ≡ c.a.given.0.1.0
+end : (c : tie.After-a) → let s = c.before.before.before.before in field_end s.args.l.now s.args.at ≡ c.a.given.0.1.0
 end c = next-end _ _ _ _ (sym c.before.before.next_field.ensures ∙ c.a.given.1)
 
 -- its number decides
 found : (c : tie.After-a) → let s = c.before.before.before.before in let l = s.args.l.now in
     between s.args.low s.args.high (fields_of (drop s.args.at l))
-    ≡ within s.args.low s.args.high (decimalOf (part l c.a.given.0.0 c.a.given.0.1.0)) (fields_of (drop c.a.given.0.1.0 l))
+    ≡ within s.args.low s.args.high (decimal_of (part l c.a.given.0.0 c.a.given.0.1.0)) (fields_of (drop c.a.given.0.1.0 l))
 unfolding between
 found c = let s = c.before.before.before.before in ap (between s.args.low s.args.high) (field c).is
 
 -- the number that was read
 value : (c : tie.After-v) → let a = c.before.before.before.before.before in
-    cut (decimalOf (part a.before.before.before.before.args.l.now a.a.given.0.0 a.a.given.0.1.0)) ≡ Value c.v.given.0.0
+    cut (decimal_of (part a.before.before.before.before.args.l.now a.a.given.0.0 a.a.given.0.1.0)) ≡ Value c.v.given.0.0
 value c = sym c.before.before.number_of_lem.ensures ∙ c.v.given.1
 
 next-field-requires : tie.Need-next-field-requires
@@ -83,7 +83,7 @@ returns-3 c =
 returns-4 : tie.Need-returns-4
 returns-4 c =
     let k = c.before.before in
-    number-no _ _ _ _ _ (found k.before.before.before ∙ within-bad _ _ _ _ (sym k.number_of_lem.ensures ∙ c.enum-told2.given.1))
+    number-no _ _ _ _ _ (found k.before.before.before ∙ within_bad _ _ _ _ (sym k.number_of_lem.ensures ∙ c.enum-told2.given.1))
 
 returns-5 : tie.Need-returns-5
 returns-5 c =

@@ -5,7 +5,7 @@ use native.Mathlib.Omega.{arith}
 use Prim.Native.Nat.{ℕ, ◌+◌, ◌/◌, ◌<◌}
 use mathlib.Core.Path.{sym, ap, ◌∙◌}
 use lib.ListN.{length}
-use Rattle.fields.proofs.WrittenLaws.{decimal-small, length-large, decimal-length}
+use Rattle.fields.proofs.WrittenLaws.{decimal-small, length_large, decimal-length}
 use borrow.Fn.Kinds.{In}
 use borrow.Fn.PlainCycle.{Measures, is, falls, and}
 use Rattle.fields.proofs.write.digit_count.Reads as digit-count
@@ -47,7 +47,7 @@ digit-count-returns-2 : (t : ℕ) → digit-count-lts.Need-returns-2 (
   digit-count-below t,
   digit-count.Post,
 ) (digit-count-at t) digit-count.Post
-digit-count-returns-2 t c = ap (λ k. k + 1) c.digit-count.ensures ∙ sym (length-large c.before.before.args.v c.before.if1.false)
+digit-count-returns-2 t c = ap (λ k. k + 1) c.digit-count.ensures ∙ sym (length_large c.before.before.args.v c.before.if1.false)
 
 pub +digit-count-spec : {M : Type 1} → statement M
 +digit-count-spec = close μ-digit-count λ t. digit-count-lts.spec (

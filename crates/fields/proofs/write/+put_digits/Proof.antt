@@ -6,7 +6,7 @@ use Prim.Native.Nat.{ℕ, ◌+◌, ◌/◌, ◌%◌, ◌≤◌, ◌<◌}
 use mathlib.Core.Path.{◌≡◌, refl, sym, ap, ◌∙◌}
 use lib.ListN.{length}
 use Rattle.fields.specs.WrittenLines.{decimal}
-use Rattle.fields.proofs.WrittenLaws.{decimal-small, decimal-large, length-large, decimal-length, put_first, put_last}
+use Rattle.fields.proofs.WrittenLaws.{decimal-small, decimal_large, length_large, decimal-length, put_first, put_last}
 use borrow.Fn.Kinds.{In}
 use borrow.Fn.PlainCycle.{Measures, is, falls, and}
 use Rattle.fields.proofs.write.put_digits.Reads as put-digits
@@ -72,7 +72,7 @@ put-digits-put-digits-requires : (t : ℕ) → put-digits-lts.Need-put-digits-re
 ) (put-digits-at t) put-digits.Post
 put-digits-put-digits-requires t c κs =
     let s = c.before.before.before in
-    (omega arith, omega (arith, s.requires.1, length-large s.args.v c.before.if1.false))
+    (omega arith, omega (arith, s.requires.1, length_large s.args.v c.before.if1.false))
 
 put-digits-add-buf-2 : (t : ℕ) → put-digits-lts.Need-overflow-add-buf-2 (
   put-digits-below t,
@@ -93,7 +93,7 @@ put-digits-slice-write-buf-2 : (t : ℕ) → put-digits-lts.Need-slice-write-buf
 put-digits-slice-write-buf-2 t c =
     let k = c.before.before in
     let s = k.before.before.before.before in
-    omega (arith, k.put-digits.ensures.0, k.put-digits.auto.0, s.requires.1, length-large s.args.v k.before.before.if1.false)
+    omega (arith, k.put-digits.ensures.0, k.put-digits.auto.0, s.requires.1, length_large s.args.v k.before.before.if1.false)
 
 put-digits-add-result : (t : ℕ) → put-digits-lts.Need-overflow-add-result (
   put-digits-below t,
@@ -118,10 +118,10 @@ put-digits-returns-2 t c =
     let s = k.before.before.before.before in
     let d = decimal (s.args.v / 10) in
     let x = 48 + s.args.v % 10 in
-    let n : length (decimal s.args.v) ≡ length d + 1 = length-large s.args.v k.before.before.if1.false in
+    let n : length (decimal s.args.v) ≡ length d + 1 = length_large s.args.v k.before.before.if1.false in
     let h : length d < length s.args.buf.now = omega (arith, s.requires.1) in (
       ap (λ m. m + 1) k.put-digits.ensures.0 ∙ sym n,
-      rw (k.put-digits.ensures.0, k.put-digits.ensures.1, decimal-large s.args.v k.before.before.if1.false) (put_last d s.args.buf.now x h),
+      rw (k.put-digits.ensures.0, k.put-digits.ensures.1, decimal_large s.args.v k.before.before.if1.false) (put_last d s.args.buf.now x h),
     )
 
 pub +put-digits-spec : {M : Type 1} → statement M

@@ -6,12 +6,12 @@ use mathlib.Core.Path.{◌≡◌, sym, ap, ◌∙◌}
 use mathlib.Core.Bool.{false}
 use lib.ListN.{drop}
 use Rattle.fields.specs.Fields.{fields_of, blank}
-use Rattle.fields.specs.Readers.{got, between, figureIs}
+use Rattle.fields.specs.Readers.{got, between, figure_is}
 use Rattle.fields.proofs.PlaceAnswerLaws.{number_is}
 use Rattle.fields.proofs.ReaderLaws.{after-no, after-got, between-within}
 use Rattle.text_lines.proofs.HeadLaws.{closed-no, closed-blank, closed-more}
-use Rattle.listing.specs.Asked.{askedMax, captureNumber, askedAnswer}
-use Rattle.listing.specs.Rest.{wanted, captureRest}
+use Rattle.listing.specs.Asked.{asked_max, capture_number, asked_answer}
+use Rattle.listing.specs.Rest.{wanted, capture_rest}
 use Rattle.listing.proofs.AskedLaws.{capture-none, capture-some}
 use Rattle.listing.proofs.asked.capture_to_end.Statement.{statement}
 use Rattle.listing.proofs.asked.capture_to_end.Tie as tie
@@ -22,30 +22,30 @@ left c = sym c.before.is-blank.ensures ∙ c.if1.false
 
 -- what the call answers
 answered : (c : tie.After-figure-at) → let s = c.before.before.before.before in let l = s.args.l.now in
-    figureIs l c.figure-at.result ≡ captureNumber (fields_of (drop s.args.at l))
+    figure_is l c.figure-at.result ≡ capture_number (fields_of (drop s.args.at l))
 answered c = number_is _ _ _ _ c.figure-at.ensures ∙ sym (capture-some _ (left c.before))
 
 -- the number that was read
 number : (c : tie.After-c2) → let s = c.before.before.before.before.before.before in let l = s.args.l.now in
-    captureNumber (fields_of (drop s.args.at l)) ≡ got c.c2.given.0.0 (fields_of (drop c.c2.given.0.1.0 l))
+    capture_number (fields_of (drop s.args.at l)) ≡ got c.c2.given.0.0 (fields_of (drop c.c2.given.0.1.0 l))
 number c =
     let k = c.before.before in
-    sym (answered k) ∙ ap (figureIs k.before.before.before.before.args.l.now) c.c2.given.1
+    sym (answered k) ∙ ap (figure_is k.before.before.before.before.args.l.now) c.c2.given.1
 
 all : (c : tie.After-c2) → let s = c.before.before.before.before.before.before in let l = s.args.l.now in
-    captureRest s.args.wires s.args.limit (fields_of (drop s.args.at l))
+    capture_rest s.args.wires s.args.limit (fields_of (drop s.args.at l))
     ≡ got (wanted s.args.wires s.args.limit c.c2.given.0.0) (fields_of (drop c.c2.given.0.1.0 l))
-unfolding captureRest
+unfolding capture_rest
 all c = after-got _ _ _ _ (number c)
 
 is-blank-requires : tie.Need-is-blank-requires
 is-blank-requires c κs = search rules
 
 returns : tie.Need-returns
-unfolding captureRest askedAnswer
+unfolding capture_rest asked_answer
 returns c =
     let b = sym c.before.is-blank.ensures ∙ c.if1.true in
-    sym (ap askedAnswer (closed-blank _ _ _ (after-got _ _ _ _ (capture-none _ b)) b))
+    sym (ap asked_answer (closed-blank _ _ _ (after-got _ _ _ _ (capture-none _ b)) b))
 
 figure-at-requires : tie.Need-figure-at-requires
 figure-at-requires c κs = search rules
@@ -66,19 +66,19 @@ cast-t13 c =
     record { fits = omega (arith, between-within _ _ _ _ _ (sym (capture-some _ e) ∙ number k)) }
 
 returns-2 : tie.Need-returns-2
-unfolding captureRest askedAnswer
+unfolding capture_rest asked_answer
 returns-2 c =
     let k = c.before.before.before in
     let s = k.before.before.before.before in
-    sym (ap askedAnswer (closed-no _ _ (after-no _ _ _ (sym (answered k) ∙ ap (figureIs s.args.l.now) c.before.c.given.1))))
+    sym (ap asked_answer (closed-no _ _ (after-no _ _ _ (sym (answered k) ∙ ap (figure_is s.args.l.now) c.before.c.given.1))))
 
 returns-3 : tie.Need-returns-3
-unfolding askedAnswer
-returns-3 c = sym (ap askedAnswer (closed-blank _ _ _ (all c.before.before.before) (sym c.before.is-blank2.ensures ∙ c.if2.true)))
+unfolding asked_answer
+returns-3 c = sym (ap asked_answer (closed-blank _ _ _ (all c.before.before.before) (sym c.before.is-blank2.ensures ∙ c.if2.true)))
 
 returns-4 : tie.Need-returns-4
-unfolding askedAnswer
-returns-4 c = sym (ap askedAnswer (closed-more _ _ _ (all c.before.before.before) (sym c.before.is-blank2.ensures ∙ c.if2.false)))
+unfolding asked_answer
+returns-4 c = sym (ap asked_answer (closed-more _ _ _ (all c.before.before.before) (sym c.before.is-blank2.ensures ∙ c.if2.false)))
 
 pub capture-to-end-spec : {M : Type 1} → statement M
 capture-to-end-spec =

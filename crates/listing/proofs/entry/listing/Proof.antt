@@ -7,12 +7,12 @@ use mathlib.Core.Path.{sym}
 use lib.ListN.{length, replicate, length-replicate}
 use lib.Seq.{length-take-le}
 use Rattle.buffer.proofs.PutLaws.{front-within, front-text}
-use Rattle.listing.specs.Listing.{listingMax, listingAnswer, listingLeaves}
+use Rattle.listing.specs.Listing.{listing_max, listing_answer, listing_leaves}
 use Rattle.listing.proofs.entry.listing.Statement.{statement}
 use Rattle.listing.proofs.entry.listing.Tie as tie
 
 -- the form's buffer is long enough
-long : (z : ℕ) → listingMax ≤ length (replicate listingMax z)
+long : (z : ℕ) → listing_max ≤ length (replicate listing_max z)
 long z = rw length-replicate (omega arith)
 
 slice-aggregate-put-listed : tie.Need-slice-aggregate-put-listed
@@ -34,7 +34,7 @@ same_length : tie.Need-same-length
 same_length c = search rules
 
 returns : tie.Need-returns
-unfolding listingAnswer listingLeaves
+unfolding listing_answer listing_leaves
 returns c =
     let w = c.before.before in
     let k = w.before.before.before.before in

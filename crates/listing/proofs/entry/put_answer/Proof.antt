@@ -3,11 +3,11 @@
 use borrow.Author.Rules.{rules}
 use native.Mathlib.Omega.{arith}
 use mathlib.Core.Path.{ap}
-use Rattle.fields.specs.WrittenLines.{writtenLines}
+use Rattle.fields.specs.WrittenLines.{written_lines}
 use Rattle.soc.proofs.GoodSocLaws.{soc-figures}
 use Rattle.plan_record.proofs.GoodPlanLaws.{GoodFigures, good-figures}
-use Rattle.plan.proofs.PlannerLaws.{planner-answers-good, planner-accepts-good}
-use Rattle.listing.specs.Room.{refusalRoom, planRoom}
+use Rattle.plan.proofs.PlannerLaws.{planner_answers_good, planner_accepts_good}
+use Rattle.listing.specs.Room.{refusal_room, plan_room}
 use Rattle.listing.proofs.ListingLaws.{put_as, plan-refused, plan-found}
 use Rattle.listing.proofs.entry.put_answer.Statement.{statement}
 use Rattle.listing.proofs.entry.put_answer.Tie as tie
@@ -18,7 +18,7 @@ found c =
     let p = c.before.before in
     let s = p.before.before in
     let a = s.args in
-    good-figures _ (planner-answers-good a.s a.wires a.limit a.capture _ p.plan.ensures c.if1.false)
+    good-figures _ (planner_answers_good a.s a.wires a.limit a.capture _ p.plan.ensures c.if1.false)
 
 plan-requires : tie.Need-plan-requires
 plan-requires c κs = search rules
@@ -36,7 +36,7 @@ returns c =
     let p = t.before.before in
     let s = p.before.before in
     let e = plan-refused s.args.s s.args.wires s.args.limit s.args.capture _ p.plan.ensures t.if1.true in
-    put_as refusalRoom (ap writtenLines e) (omega arith) k.put-refusal.ensures
+    put_as refusal_room (ap written_lines e) (omega arith) k.put-refusal.ensures
 
 put-plan-requires : tie.Need-put-plan-requires
 put-plan-requires c κs =
@@ -44,7 +44,7 @@ put-plan-requires c κs =
     let s = t.before.before.before.before in
     let f = found t in
     let p = t.before.before in (
-      (soc-figures s.args.s (planner-accepts-good s.args.s s.args.wires s.args.limit s.args.capture _ p.plan.ensures
+      (soc-figures s.args.s (planner_accepts_good s.args.s s.args.wires s.args.limit s.args.capture _ p.plan.ensures
           t.if1.false)).name-len,
       f.buses-high,
       f.modules-high,
@@ -61,7 +61,7 @@ returns-2 c =
     let p = t.before.before in
     let s = p.before.before in
     let e = plan-found s.args.s s.args.wires s.args.limit s.args.capture _ p.plan.ensures t.if1.false in
-    put_as planRoom (ap writtenLines e) (omega arith) k.put-plan.ensures
+    put_as plan_room (ap written_lines e) (omega arith) k.put-plan.ensures
 
 pub put-answer-spec : {M : Type 1} → statement M
 put-answer-spec = tie.close (tie.spec plan-requires put-refusal-requires same_length returns put-plan-requires same-length-2 returns-2)

@@ -8,16 +8,16 @@ use lib.ListN.{length, drop}
 use Rattle.units.specs.Refusals.{refused}
 use Rattle.units.specs.declared.Refusal.{Refusal}
 use Rattle.fields.specs.declared.line.OneLine.{OneLine}
-use Rattle.buffer.proofs.PutLaws.{partFrom, part-rest}
+use Rattle.buffer.proofs.PutLaws.{part_from, part-rest}
 use Rattle.text_lines.specs.Parts.{refuses, says}
-use Rattle.text_reader.specs.Reading.{readSoc}
-use Rattle.fields.specs.WrittenLines.{writtenLines}
-use Rattle.listing.specs.Asked.{Wanted, asked, textBehind}
-use Rattle.listing.specs.Listing.{refusalFields, textPrinted, listingMax}
-use Rattle.listing.specs.Room.{refusalRoom}
+use Rattle.text_reader.specs.Reading.{read_soc}
+use Rattle.fields.specs.WrittenLines.{written_lines}
+use Rattle.listing.specs.Asked.{Wanted, asked, text_behind}
+use Rattle.listing.specs.Listing.{refusal_fields, text_printed, listing_max}
+use Rattle.listing.specs.Room.{refusal_room}
 use Rattle.listing.specs.Rest.{wanted}
 use Rattle.listing.proofs.AskedLaws.{first-line}
-use Rattle.listing.proofs.ListingLaws.{put_as, answer-no, answer-for, listed-no, listed-says}
+use Rattle.listing.proofs.ListingLaws.{put_as, answer-no, answer_for, listed-no, listed-says}
 use Rattle.listing.proofs.entry.put_listed.Statement.{statement}
 use Rattle.listing.proofs.entry.put_listed.Tie as tie
 
@@ -26,7 +26,7 @@ inside : (c : tie.After-line-at) → let o = c.line_at_lem.result in (o.to ≤ o
 inside c = let f = first-line c.before.before.before.args.input.now in rw c.line_at_lem.ensures (f.end, f.inside)
 
 -- and is the part behind the first line
-behind : (c : tie.After-line-at) → let t = c.before.before.before.args.input.now in partFrom c.line_at_lem.result.next t ≡ textBehind t
+behind : (c : tie.After-line-at) → let t = c.before.before.before.args.input.now in part_from c.line_at_lem.result.next t ≡ text_behind t
 behind c =
     let t = c.before.before.before.args.input.now in
     part-rest c.line_at_lem.result.next t ∙ ap (λ (o : OneLine). drop o.next t) c.line_at_lem.ensures
@@ -73,7 +73,7 @@ returns c =
     let t = o.before.before.before.before.args.input.now in
     let e : asked t ≡ refuses k.c.given.0.0 = answer-no (asked t) _ (sym k.c.given.1 ∙ o.asked_of.ensures) in
     let l : a.at.result ≡ refused k.c.given.0.0 0 = a.at.ensures in
-    put_as refusalRoom (listed-no t _ e ∙ ap (λ (r : Refusal). writtenLines (refusalFields r ∷ [])) (sym l)) (omega arith) p.put-refusal.ensures
+    put_as refusal_room (listed-no t _ e ∙ ap (λ (r : Refusal). written_lines (refusal_fields r ∷ [])) (sym l)) (omega arith) p.put-refusal.ensures
 
 same-length-2 : tie.Need-same-length-2
 same-length-2 c = search rules
@@ -86,8 +86,8 @@ returns-2 c =
     let n = o.before in
     let t = n.before.before.before.args.input.now in
     let w : Wanted = wanted k.wires.given.0.0 k.wires.given.0.1.0 k.wires.given.0.1.1.0 in
-    let e : asked t ≡ says w = answer-for (asked t) _ _ _ (sym k.wires.given.1 ∙ o.asked_of.ensures) in
-    put_as listingMax (listed-says t w e ∙ ap (λ (x : List ℕ). writtenLines (textPrinted w (readSoc x))) (sym (behind n))) (omega arith) p.put-text.ensures
+    let e : asked t ≡ says w = answer_for (asked t) _ _ _ (sym k.wires.given.1 ∙ o.asked_of.ensures) in
+    put_as listing_max (listed-says t w e ∙ ap (λ (x : List ℕ). written_lines (text_printed w (read_soc x))) (sym (behind n))) (omega arith) p.put-text.ensures
 
 pub put-listed-spec : {M : Type 1} → statement M
 put-listed-spec =

@@ -2,9 +2,9 @@
 use borrow.Author.Rules.{rules}
 use native.Mathlib.Omega.{arith}
 use mathlib.Core.Path.{ap}
-use Rattle.fields.specs.WrittenLines.{writtenLines}
-use Rattle.listing.specs.Listing.{listingMax}
-use Rattle.listing.specs.Room.{refusalRoom}
+use Rattle.fields.specs.WrittenLines.{written_lines}
+use Rattle.listing.specs.Listing.{listing_max}
+use Rattle.listing.specs.Room.{refusal_room}
 use Rattle.listing.specs.Rest.{wanted}
 use Rattle.listing.proofs.ListingLaws.{put_as, text-refused, text-read}
 use Rattle.listing.proofs.entry.put_text.Statement.{statement}
@@ -27,7 +27,7 @@ returns c =
     let s = r.before.before.before in
     let w = wanted s.args.wires s.args.limit s.args.capture in
     let e = text-refused w s.args.text.now _ r.read-soc.ensures t.if1.true in
-    put_as refusalRoom (ap writtenLines e) (omega arith) k.put-refusal.ensures
+    put_as refusal_room (ap written_lines e) (omega arith) k.put-refusal.ensures
 
 put-answer-requires : tie.Need-put-answer-requires
 put-answer-requires c κs = c.before.before.before.before.before.before.requires
@@ -43,7 +43,7 @@ returns-2 c =
     let s = r.before.before.before in
     let w = wanted s.args.wires s.args.limit s.args.capture in
     let e = text-read w s.args.text.now _ r.read-soc.ensures t.if1.false in
-    put_as listingMax (ap writtenLines e) (omega arith) k.put-answer.ensures
+    put_as listing_max (ap written_lines e) (omega arith) k.put-answer.ensures
 
 pub put-text-spec : {M : Type 1} → statement M
 put-text-spec = tie.close (tie.spec read-soc-requires put-refusal-requires same_length returns put-answer-requires same-length-2 returns-2)

@@ -6,19 +6,19 @@ use Prim.Native.Nat.{◌+◌, ◌≤◌}
 use mathlib.Core.List.{[], ◌∷◌}
 use lib.ListN.{length}
 use Rattle.fields.specs.Bytes.{bytes}
-use Rattle.fields.specs.WrittenLines.{writtenLines}
-use Rattle.listing.specs.Listing.{busFields}
-use Rattle.listing.specs.Room.{busRoom}
+use Rattle.fields.specs.WrittenLines.{written_lines}
+use Rattle.listing.specs.Listing.{bus_fields}
+use Rattle.listing.specs.Room.{bus_room}
 use Rattle.listing.specs.Forms.{marks, formed}
-use Rattle.listing.proofs.LineLaws.{bus-formed, bus-size}
+use Rattle.listing.proofs.LineLaws.{bus-formed, bus_size}
 use Rattle.listing.proofs.put_lines.put_bus_line.Statement.{statement}
 use Rattle.listing.proofs.put_lines.put_bus_line.Tie as tie
 
 -- how long the line is, and that there is room for it
-short : (s : tie.Start) → length (writtenLines (busFields s.args.i s.args.b ∷ [])) ≤ busRoom
+short : (s : tie.Start) → length (written_lines (bus_fields s.args.i s.args.b ∷ [])) ≤ bus_room
 short s =
     let g = s.well-formed.1.1.1.0.1.1 in
-    bus-size s.args.i s.args.b (omega (arith, s.ranges.i)) (omega (arith, g.0.1.1.0.1)) (omega (arith, g.1.0.1.1.0.1))
+    bus_size s.args.i s.args.b (omega (arith, s.ranges.i)) (omega (arith, g.0.1.1.0.1)) (omega (arith, g.1.0.1.1.0.1))
 
 room : (s : tie.Start) →
     s.args.at + length (formed (bytes "bus # width # busy #\n") (s.args.i ∷ s.args.b.width.0 ∷ s.args.b.busy.0 ∷ []))

@@ -8,35 +8,35 @@ use mathlib.Core.List.{[], ◌∷◌, ◌++◌}
 use lib.ListN.{length, get_or, take, length-map, length-append}
 use Rattle.buffer.specs.Puts.{Put}
 use Rattle.buffer.proofs.PutLaws.{put-none, put_then}
-use Rattle.plan_record.specs.Record.{busPlaces, noBus}
-use Rattle.fields.specs.WrittenLines.{writtenLines}
-use Rattle.listing.specs.Listing.{busFields, busLines}
-use Rattle.listing.specs.Room.{busRoom}
-use Rattle.listing.proofs.LineLaws.{busesText, buses-more}
+use Rattle.plan_record.specs.Record.{bus_places, no_bus}
+use Rattle.fields.specs.WrittenLines.{written_lines}
+use Rattle.listing.specs.Listing.{bus_fields, bus_lines}
+use Rattle.listing.specs.Room.{bus_room}
+use Rattle.listing.proofs.LineLaws.{buses_text, buses-more}
 use Rattle.listing.proofs.put_lines.put_buses.Statement.{statement}
 use Rattle.listing.proofs.put_lines.put_buses.Tie as tie
 
 abbrev invariant-loop : tie.invariant-loop
-invariant-loop buf₀ at p n e₀ i₀ buf e i = (i ≤ n) × (length buf ≡ length buf₀) × Put (busesText (take i p.buses)) at buf₀ buf e × (length (busesText (take i p.buses)) ≤ i * busRoom)
+invariant-loop buf₀ at p n e₀ i₀ buf e i = (i ≤ n) × (length buf ≡ length buf₀) × Put (buses_text (take i p.buses)) at buf₀ buf e × (length (buses_text (take i p.buses)) ≤ i * bus_room)
 
 abbrev decreases-loop : tie.decreases-loop
 decreases-loop buf₀ at p n e₀ i₀ buf e i = n - i
 
-len : (c : tie.Start invariant-loop decreases-loop) → length c.args.t3.buses ≡ busPlaces
+len : (c : tie.Start invariant-loop decreases-loop) → length c.args.t3.buses ≡ bus_places
 len c = simp length-map at c.well-formed.1.1.0.1.1.1.1.1.0.1.0.1
 
 -- the text of one bus more
 more : (c : tie.In-loop invariant-loop decreases-loop) →
     let l = c.before in
     let p = l.before.before.args.t3 in
-    busesText (take (l.loop.i + 1) p.buses) ≡ busesText (take l.loop.i p.buses) ++ writtenLines (busFields (l.loop.i + 1) (get_or p.buses l.loop.i noBus) ∷ [])
+    buses_text (take (l.loop.i + 1) p.buses) ≡ buses_text (take l.loop.i p.buses) ++ written_lines (bus_fields (l.loop.i + 1) (get_or p.buses l.loop.i no_bus) ∷ [])
 more c =
     let l = c.before in
     let s = l.before.before in
-    buses-more l.loop.i s.args.t3.buses noBus (omega (arith, len s, s.requires.0))
+    buses-more l.loop.i s.args.t3.buses no_bus (omega (arith, len s, s.requires.0))
 
 loop-holds : tie.Need-loop-init invariant-loop decreases-loop
-unfolding busLines writtenLines
+unfolding bus_lines written_lines
 loop-holds c = (omega arith, refl, put-none _ _, omega arith)
 
 mul-b : tie.Need-overflow-mul-b invariant-loop decreases-loop

@@ -6,19 +6,19 @@ use Prim.Native.Nat.{◌+◌, ◌≤◌}
 use mathlib.Core.List.{[], ◌∷◌}
 use lib.ListN.{length}
 use Rattle.fields.specs.Bytes.{bytes}
-use Rattle.fields.specs.WrittenLines.{writtenLines}
-use Rattle.listing.specs.Listing.{countFields}
-use Rattle.listing.specs.Room.{countRoom}
+use Rattle.fields.specs.WrittenLines.{written_lines}
+use Rattle.listing.specs.Listing.{count_fields}
+use Rattle.listing.specs.Room.{count_room}
 use Rattle.listing.specs.Forms.{marks, formed}
-use Rattle.listing.proofs.LineLaws.{count-formed, count-size}
+use Rattle.listing.proofs.LineLaws.{count-formed, count_size}
 use Rattle.listing.proofs.put_lines.put_counts.Statement.{statement}
 use Rattle.listing.proofs.put_lines.put_counts.Tie as tie
 
 -- how long the line is, and that there is room for it
-short : (s : tie.Start) → length (writtenLines (countFields s.args.p ∷ [])) ≤ countRoom
+short : (s : tie.Start) → length (written_lines (count_fields s.args.p ∷ [])) ≤ count_room
 short s =
     let g = s.well-formed.1.1.0.1.1 in
-    count-size s.args.p (omega (arith, g.0.1.1.0.1)) (omega (arith, g.1.0.1)) (omega (arith, g.1.1.1.1.1.1.0.1.1.0.1))
+    count_size s.args.p (omega (arith, g.0.1.1.0.1)) (omega (arith, g.1.0.1)) (omega (arith, g.1.1.1.1.1.1.0.1.1.0.1))
 
 room : (s : tie.Start) →
     s.args.at + length (formed (bytes "wires # limit # time #\n") (s.args.p.wires.0 ∷ s.args.p.limit ∷ s.args.p.time.0 ∷ []))

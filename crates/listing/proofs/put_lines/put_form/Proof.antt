@@ -5,7 +5,7 @@ use native.Mathlib.Omega.{arith}
 use Prim.Native.Nat.{◌-◌, ◌<◌}
 use mathlib.Core.Logic.{⊎_elim}
 use lib.ListN.{length}
-use Rattle.listing.proofs.FormLaws.{Formed, formed-start, formed-end, figure-there, formed-figure, byte-room, formed-next}
+use Rattle.listing.proofs.FormLaws.{Formed, formed-start, formed-end, figure_there, formed-figure, byte-room, formed-next}
 use Rattle.listing.proofs.put_lines.put_form.Statement.{statement}
 use Rattle.listing.proofs.put_lines.put_form.Tie as tie
 
@@ -18,7 +18,7 @@ decreases-loop buf₀ at form figures e₀ k₀ i₀ buf e k i = length form - i
 -- a mark has its figure
 figure : (c : tie.Then1 invariant-loop decreases-loop) → let l = c.before.before.before in
     l.loop.k < length l.before.before.before.before.args.figures.now
-figure c = figure-there c.before.before.before.loop.invariant c.before.before.loop-test.true c.if1.true
+figure c = figure_there c.before.before.before.loop.invariant c.before.before.loop-test.true c.if1.true
 
 -- a byte has its room
 room : (c : tie.Else1 invariant-loop decreases-loop) → let l = c.before.before.before in l.loop.e < length l.loop.buf

@@ -6,27 +6,27 @@ use Prim.Native.Nat.{◌+◌, ◌≤◌}
 use mathlib.Core.List.{[], ◌∷◌}
 use lib.ListN.{length}
 use Rattle.fields.specs.Bytes.{bytes}
-use Rattle.fields.specs.WrittenLines.{writtenLines}
-use Rattle.listing.specs.Listing.{moduleFields}
-use Rattle.listing.specs.Room.{moduleRoom}
+use Rattle.fields.specs.WrittenLines.{written_lines}
+use Rattle.listing.specs.Listing.{module_fields}
+use Rattle.listing.specs.Room.{module_room}
 use Rattle.listing.specs.Forms.{marks, formed}
-use Rattle.listing.proofs.LineLaws.{module-formed, module-size}
+use Rattle.listing.proofs.LineLaws.{module_formed, module_size}
 use Rattle.listing.proofs.put_lines.put_module_line.Statement.{statement}
 use Rattle.listing.proofs.put_lines.put_module_line.Tie as tie
 
 -- how long the line is, and that there is room for it
-short : (s : tie.Start) → length (writtenLines (moduleFields s.args.m ∷ [])) ≤ moduleRoom
+short : (s : tie.Start) → length (written_lines (module_fields s.args.m ∷ [])) ≤ module_room
 short s =
     let g = s.well-formed.1.1.0.1.1 in
     let h = g.1.1 in
-    module-size s.args.m (omega (arith, g.0.1)) (omega (arith, g.1.0.1))
+    module_size s.args.m (omega (arith, g.0.1)) (omega (arith, g.1.0.1))
     (omega (arith, h.0.1.1.0.1)) (omega (arith, h.1.0.1.1.0.1)) (omega (arith, h.1.1.0.1.1.0.1))
 
 room : (s : tie.Start) →
     s.args.at + length (formed (bytes "module # bus # wires # cycles # start #\n")
     (s.args.m.number ∷ s.args.m.bus ∷ s.args.m.wires.0 ∷ s.args.m.cycles.0 ∷ s.args.m.start.0 ∷ []))
     ≤ length s.args.buf.now
-room s = rw (← module-formed s.args.m) (omega (arith, short s, s.requires))
+room s = rw (← module_formed s.args.m) (omega (arith, short s, s.requires))
 
 cast-t8 : tie.Need-overflow-cast-t8
 cast-t8 c = search rules
@@ -48,7 +48,7 @@ returns : tie.Need-returns
 returns c =
     let k = c.before.before in
     let s = k.before.before.before.before.before.before in
-    (rw (module-formed s.args.m) k.put-form.ensures, short s)
+    (rw (module_formed s.args.m) k.put-form.ensures, short s)
 
 pub put-module-line-spec : {M : Type 1} → statement M
 put-module-line-spec =

@@ -8,35 +8,35 @@ use mathlib.Core.List.{[], ◌∷◌, ◌++◌}
 use lib.ListN.{length, get_or, take, length-map, length-append}
 use Rattle.buffer.specs.Puts.{Put}
 use Rattle.buffer.proofs.PutLaws.{put-none, put_then}
-use Rattle.plan_record.specs.Record.{modulePlaces, noPlaced}
-use Rattle.fields.specs.WrittenLines.{writtenLines}
-use Rattle.listing.specs.Listing.{moduleFields, moduleLines}
-use Rattle.listing.specs.Room.{moduleRoom}
-use Rattle.listing.proofs.LineLaws.{modulesText, modules-more}
+use Rattle.plan_record.specs.Record.{module_places, no_placed}
+use Rattle.fields.specs.WrittenLines.{written_lines}
+use Rattle.listing.specs.Listing.{module_fields, module_lines}
+use Rattle.listing.specs.Room.{module_room}
+use Rattle.listing.proofs.LineLaws.{modules_text, modules-more}
 use Rattle.listing.proofs.put_lines.put_modules.Statement.{statement}
 use Rattle.listing.proofs.put_lines.put_modules.Tie as tie
 
 abbrev invariant-loop : tie.invariant-loop
-invariant-loop buf₀ at p n e₀ i₀ buf e i = (i ≤ n) × (length buf ≡ length buf₀) × Put (modulesText (take i p.modules)) at buf₀ buf e × (length (modulesText (take i p.modules)) ≤ i * moduleRoom)
+invariant-loop buf₀ at p n e₀ i₀ buf e i = (i ≤ n) × (length buf ≡ length buf₀) × Put (modules_text (take i p.modules)) at buf₀ buf e × (length (modules_text (take i p.modules)) ≤ i * module_room)
 
 abbrev decreases-loop : tie.decreases-loop
 decreases-loop buf₀ at p n e₀ i₀ buf e i = n - i
 
-len : (c : tie.Start invariant-loop decreases-loop) → length c.args.t3.modules ≡ modulePlaces
+len : (c : tie.Start invariant-loop decreases-loop) → length c.args.t3.modules ≡ module_places
 len c = simp length-map at c.well-formed.1.1.0.1.1.1.1.1.1.1.0.1.0.1
 
 -- the text of one module more
 more : (c : tie.In-loop invariant-loop decreases-loop) →
     let l = c.before in
     let p = l.before.before.args.t3 in
-    modulesText (take (l.loop.i + 1) p.modules) ≡ modulesText (take l.loop.i p.modules) ++ writtenLines (moduleFields (get_or p.modules l.loop.i noPlaced) ∷ [])
+    modules_text (take (l.loop.i + 1) p.modules) ≡ modules_text (take l.loop.i p.modules) ++ written_lines (module_fields (get_or p.modules l.loop.i no_placed) ∷ [])
 more c =
     let l = c.before in
     let s = l.before.before in
-    modules-more l.loop.i s.args.t3.modules noPlaced (omega (arith, len s, s.requires.0))
+    modules-more l.loop.i s.args.t3.modules no_placed (omega (arith, len s, s.requires.0))
 
 loop-holds : tie.Need-loop-init invariant-loop decreases-loop
-unfolding moduleLines writtenLines
+unfolding module_lines written_lines
 loop-holds c = (omega arith, refl, put-none _ _, omega arith)
 
 mul-m : tie.Need-overflow-mul-m invariant-loop decreases-loop

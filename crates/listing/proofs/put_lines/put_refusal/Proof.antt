@@ -6,22 +6,22 @@ use Prim.Native.Nat.{◌+◌, ◌≤◌}
 use mathlib.Core.List.{[], ◌∷◌}
 use lib.ListN.{length}
 use Rattle.fields.specs.Bytes.{bytes}
-use Rattle.fields.specs.WrittenLines.{writtenLines}
-use Rattle.listing.specs.Listing.{refusalFields}
-use Rattle.listing.specs.Room.{refusalRoom}
+use Rattle.fields.specs.WrittenLines.{written_lines}
+use Rattle.listing.specs.Listing.{refusal_fields}
+use Rattle.listing.specs.Room.{refusal_room}
 use Rattle.listing.specs.Forms.{marks, formed}
-use Rattle.listing.proofs.LineLaws.{refusal-formed, refusal-size}
+use Rattle.listing.proofs.LineLaws.{refusal_formed, refusal_size}
 use Rattle.listing.proofs.put_lines.put_refusal.Statement.{statement}
 use Rattle.listing.proofs.put_lines.put_refusal.Tie as tie
 
 -- how long the line is, and that there is room for it
-short : (s : tie.Start) → length (writtenLines (refusalFields s.args.r ∷ [])) ≤ refusalRoom
-short s = refusal-size s.args.r (omega (arith, s.well-formed.1.1.0.1.1.0.1)) (omega (arith, s.well-formed.1.1.0.1.1.1.0.1))
+short : (s : tie.Start) → length (written_lines (refusal_fields s.args.r ∷ [])) ≤ refusal_room
+short s = refusal_size s.args.r (omega (arith, s.well-formed.1.1.0.1.1.0.1)) (omega (arith, s.well-formed.1.1.0.1.1.1.0.1))
 
 room : (s : tie.Start) →
     s.args.at + length (formed (bytes "refused # line #\n") (s.args.r.number ∷ s.args.r.line ∷ []))
     ≤ length s.args.buf.now
-room s = rw (← refusal-formed s.args.r) (omega (arith, short s, s.requires))
+room s = rw (← refusal_formed s.args.r) (omega (arith, short s, s.requires))
 
 cast-t6 : tie.Need-overflow-cast-t6
 cast-t6 c = search rules
@@ -43,7 +43,7 @@ returns : tie.Need-returns
 returns c =
     let k = c.before.before in
     let s = k.before.before.before.before.before.before in
-    (rw (refusal-formed s.args.r) k.put-form.ensures, short s)
+    (rw (refusal_formed s.args.r) k.put-form.ensures, short s)
 
 pub put-refusal-spec : {M : Type 1} → statement M
 put-refusal-spec = tie.close (tie.spec cast-t6 slice-aggregate-put-form slice-aggregate-put-form-2 put-form-requires same_length returns)

@@ -7,22 +7,22 @@ use mathlib.Core.Path.{◌≡◌, sym, ◌∙◌}
 use mathlib.Core.List.{[], ◌∷◌}
 use lib.ListN.{length, length-map}
 use lib.Seq.{length-take-le}
-use Rattle.fields.specs.Names.{nameMax}
-use Rattle.fields.specs.WrittenLines.{writtenLines}
-use Rattle.listing.specs.Listing.{socFields}
-use Rattle.listing.specs.Room.{nameRoom, countRoom}
-use Rattle.listing.proofs.LineLaws.{soc-size, soc-front}
+use Rattle.fields.specs.Names.{name_max}
+use Rattle.fields.specs.WrittenLines.{written_lines}
+use Rattle.listing.specs.Listing.{soc_fields}
+use Rattle.listing.specs.Room.{name_room, count_room}
+use Rattle.listing.proofs.LineLaws.{soc_size, soc-front}
 use Rattle.listing.proofs.put_lines.put_soc_line.Statement.{statement}
 use Rattle.listing.proofs.put_lines.put_soc_line.Tie as tie
 
-len : (c : tie.Start) → length c.args.s.name ≡ nameMax
+len : (c : tie.Start) → length c.args.s.name ≡ name_max
 len c = simp length-map at c.well-formed.1.1.0.1.1.1.0.1.0.1
 
 -- how long the line is, and that there is room for it
-short : (s : tie.Start) → length (writtenLines (socFields s.args.s s.args.p ∷ [])) ≤ nameRoom + countRoom
-short s = let g = s.well-formed.1.1.1.0.1.1 in soc-size s.args.p s.args.s s.requires.0 (omega (arith, g.0.1.1.0.1)) (omega (arith, g.1.0.1)) (omega (arith, g.1.1.1.1.1.1.0.1.1.0.1))
+short : (s : tie.Start) → length (written_lines (soc_fields s.args.s s.args.p ∷ [])) ≤ name_room + count_room
+short s = let g = s.well-formed.1.1.1.0.1.1 in soc_size s.args.p s.args.s s.requires.0 (omega (arith, g.0.1.1.0.1)) (omega (arith, g.1.0.1)) (omega (arith, g.1.1.1.1.1.1.0.1.1.0.1))
 
-room : (s : tie.Start) → s.args.at + length (writtenLines (socFields s.args.s s.args.p ∷ [])) ≤ length s.args.buf.now
+room : (s : tie.Start) → s.args.at + length (written_lines (soc_fields s.args.s s.args.p ∷ [])) ≤ length s.args.buf.now
 room s = omega (arith, short s, s.requires.1)
 
 slice-aggregate-put-bytes : tie.Need-slice-aggregate-put-bytes

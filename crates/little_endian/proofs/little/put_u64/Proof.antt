@@ -1,7 +1,7 @@
 -- `little_endian::little::put_u64` meets its contract: the eight bytes are those of the number. Assumes nothing.
 use borrow.Author.Rules.{rules}
 use native.Mathlib.Omega.{arith}
-use Rattle.little_endian.proofs.LittleLaws.{little-eight}
+use Rattle.little_endian.proofs.LittleLaws.{little_eight}
 use Rattle.little_endian.proofs.little.put_u64.Statement.{statement}
 use Rattle.little_endian.proofs.little.put_u64.Tie as tie
 
@@ -39,7 +39,7 @@ same_length : tie.Need-same-length
 same_length c = search rules
 
 returns : tie.Need-returns
-returns c = rw little-eight c.before.before.put-bytes.ensures
+returns c = rw little_eight c.before.before.put-bytes.ensures
 
 pub put-u64-spec : {M : Type 1} → statement M
 put-u64-spec =

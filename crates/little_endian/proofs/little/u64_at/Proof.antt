@@ -2,7 +2,7 @@
 use borrow.Author.Rules.{rules}
 use native.Mathlib.Omega.{arith}
 use mathlib.Core.Path.{sym}
-use Rattle.little_endian.proofs.LittleLaws.{number_behind, number-eight}
+use Rattle.little_endian.proofs.LittleLaws.{number_behind, number_eight}
 use Rattle.little_endian.proofs.little.u64_at.Statement.{statement}
 use Rattle.little_endian.proofs.little.u64_at.Tie as tie
 
@@ -35,7 +35,7 @@ add-result c = search rules
 returns-2 : tie.Need-returns-2
 returns-2 c =
     let a = c.before.before.before.before.args in
-    rw (number-eight a.b.now a.at, c.before.u32-at.ensures, c.u32-at2.ensures)
+    rw (number_eight a.b.now a.at, c.before.u32-at.ensures, c.u32-at2.ensures)
 
 pub u64-at-spec : {M : Type 1} → statement M
 u64-at-spec =

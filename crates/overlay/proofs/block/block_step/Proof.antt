@@ -4,8 +4,8 @@ use native.Mathlib.Omega.{arith}
 use mathlib.Core.Path.{sym, ap, ◌∙◌}
 use Rattle.fields.specs.Readers.{no}
 use Rattle.text_line_reader.specs.Due.{LineIs}
-use Rattle.text_reader.proofs.StepLaws.{line-missing, line-refuses, line-says, due-found, due-missing}
-use Rattle.overlay.proofs.BlockLaws.{as-refused, as-taken}
+use Rattle.text_reader.proofs.StepLaws.{line_missing, line-refuses, line-says, due-found, due_missing}
+use Rattle.overlay.proofs.BlockLaws.{as_refused, as_taken}
 use Rattle.overlay.proofs.block.block_step.Statement.{statement}
 use Rattle.overlay.proofs.block.block_step.Tie as tie
 
@@ -55,19 +55,19 @@ enum-told-2 c = search rules
 returns : tie.Need-returns
 returns c =
     let m = c.before.before in
-    record { is = ap no m.missing.ensures ∙ sym (line-missing _ _ (due-missing _ _ _ c.before.before.before.before.before.due-line.ensures c.before.before.before.enum_told.given.1)); inside = tt }
+    record { is = ap no m.missing.ensures ∙ sym (line_missing _ _ (due_missing _ _ _ c.before.before.before.before.before.due-line.ensures c.before.before.before.enum_told.given.1)); inside = tt }
 
 returns-2 : tie.Need-returns-2
 returns-2 c =
     record {
-      is = ap no c.at.ensures ∙ sym (line-refuses _ _ _ _ _ _ _ (found c.before.before.before.before.before.before.before.before) _ (as-refused _ _ _ c.before.before.before.before.before.block-line.ensures _ c.before.before.verdict.given.1));
+      is = ap no c.at.ensures ∙ sym (line-refuses _ _ _ _ _ _ _ (found c.before.before.before.before.before.before.before.before) _ (as_refused _ _ _ c.before.before.before.before.before.block-line.ensures _ c.before.before.verdict.given.1));
       inside = tt;
     }
 
 returns-3 : tie.Need-returns-3
 returns-3 c =
     let f = found c.before.before.before.before.before.before in
-    record { is = sym (line-says _ _ _ _ _ _ _ f _ (as-taken _ _ _ c.before.before.before.block-line.ensures c.enum-told2.given.1)); inside = f.inside }
+    record { is = sym (line-says _ _ _ _ _ _ _ f _ (as_taken _ _ _ c.before.before.before.block-line.ensures c.enum-told2.given.1)); inside = f.inside }
 
 pub block-step-spec : {M : Type 1} → statement M
 block-step-spec =

@@ -12,13 +12,13 @@ use lib.ListN.{length, get_or, length-set}
 use lib.Seq.{get_or-set_other}
 use Rattle.fields.specs.Readers.{got, after}
 use Rattle.text_lines.specs.Kinds.{Options}
-use Rattle.text_line_reader.specs.Due.{linesAt, Inside}
-use Rattle.text_reader.proofs.MarkLaws.{Marking, marking-start, marking-next}
-use Rattle.text_reader.proofs.StepLaws.{step-no, step-next}
+use Rattle.text_line_reader.specs.Due.{lines_at, Inside}
+use Rattle.text_reader.proofs.MarkLaws.{Marking, marking_start, marking_next}
+use Rattle.text_reader.proofs.StepLaws.{step_no, step_next}
 use Rattle.overlay.specs.Overlay.{block, blocks, puts, places}
-use Rattle.overlay.specs.Steps.{blockIn}
-use Rattle.overlay.proofs.BlockLaws.{block_within, filledBy, blocks-no, blocks_more}
-use Rattle.overlay.proofs.BlockMarks.{block-lines, none-there, goes_end}
+use Rattle.overlay.specs.Steps.{block_in}
+use Rattle.overlay.proofs.BlockLaws.{block_within, filled_by, blocks-no, blocks_more}
+use Rattle.overlay.proofs.BlockMarks.{block-lines, none_there, goes_end}
 use Rattle.overlay.proofs.block.blocks_step.Statement.{statement}
 use Rattle.overlay.proofs.block.blocks_step.Tie as tie
 
@@ -29,22 +29,22 @@ invariant-loop text power xy m has₀ modules₀ marks₀ place₀ low₀ count�
     × (length has ≡ 40)
     × (length modules ≡ 40)
     × Inside text place
-    × (places (record { power = power; xy = xy }) (linesAt text place₀)
-    ≡ filledBy (record { has = has; modules = modules })
-    (cond more (blocks (record { power = power; xy = xy }) (41 - count) low (linesAt text place)) (got [] (linesAt text place))))
-    × (more ≡ false → linesAt text place ≡ [])
-    × Marking m low (get_or has m false) text (linesAt text place₀) (linesAt text place) marks
+    × (places (record { power = power; xy = xy }) (lines_at text place₀)
+    ≡ filled_by (record { has = has; modules = modules })
+    (cond more (blocks (record { power = power; xy = xy }) (41 - count) low (lines_at text place)) (got [] (lines_at text place))))
+    × (more ≡ false → lines_at text place ≡ [])
+    × Marking m low (get_or has m false) text (lines_at text place₀) (lines_at text place) marks
 
 abbrev decreases-loop : tie.decreases-loop
 decreases-loop text power xy m has₀ modules₀ marks₀ place₀ low₀ count₀ more₀ has modules marks place low count more = 41 - count
 
 -- the places are filled by the blocks from here
-here : (c : tie.In-loop invariant-loop decreases-loop) → let p = c.before.loop in let s = c.before.before.before.before in let o : Options = record { power = s.args.power; xy = s.args.xy } in let t = s.args.text.now in places o (linesAt t s.args.p) ≡ filledBy (record { has = p.has; modules = p.modules }) (blocks o (41 - p.count) p.low (linesAt t p.place))
+here : (c : tie.In-loop invariant-loop decreases-loop) → let p = c.before.loop in let s = c.before.before.before.before in let o : Options = record { power = s.args.power; xy = s.args.xy } in let t = s.args.text.now in places o (lines_at t s.args.p) ≡ filled_by (record { has = p.has; modules = p.modules }) (blocks o (41 - p.count) p.low (lines_at t p.place))
 here c = rw c.loop-test.true at c.before.loop.invariant.5
 
 -- the block that was read
-read : (c : tie.After-step2 invariant-loop decreases-loop) → let p = c.before.before.before.before.loop in let s = c.before.before.before.before.before.before.before in let t = s.args.text.now in let q = c.step2.given.0.0 in (block (record { power = s.args.power; xy = s.args.xy }) p.low (linesAt t p.place) ≡ got (blockIn c.before.before.one_block.result) (linesAt t q)) × Inside t q
-read c = step-next _ _ _ _ c.before.before.one_block.ensures _ c.step2.given.1
+read : (c : tie.After-step2 invariant-loop decreases-loop) → let p = c.before.before.before.before.loop in let s = c.before.before.before.before.before.before.before in let t = s.args.text.now in let q = c.step2.given.0.0 in (block (record { power = s.args.power; xy = s.args.xy }) p.low (lines_at t p.place) ≡ got (block_in c.before.before.one_block.result) (lines_at t q)) × Inside t q
+read c = step_next _ _ _ _ c.before.before.one_block.ensures _ c.step2.given.1
 
 -- its number
 bound : (c : tie.After-step2 invariant-loop decreases-loop) → let p = c.before.before.before.before.loop in let n = c.before.before.one_block.result.number in (p.low ≤ n) × (n ≤ 39)
@@ -64,7 +64,7 @@ loop-holds c =
       c.before.before.requires,
       rw c.no-module.ensures,
       λ h. absurd (true≢false h),
-      marking-start m _ _ _ _ (none-there 40 m),
+      marking_start m _ _ _ _ (none_there 40 m),
     )
 
 one-block-requires : tie.Need-one-block-requires invariant-loop decreases-loop
@@ -76,7 +76,7 @@ enum-known-step c = search rules
 returns : tie.Need-returns invariant-loop decreases-loop
 returns c =
     let p = c.before.before.before.before.before.loop in
-    let n = step-no _ _ _ _ c.before.before.before.one_block.ensures _ c.before.step.given.1 in
+    let n = step_no _ _ _ _ c.before.before.before.one_block.ensures _ c.before.step.given.1 in
     (record { is = sym (here c.before.before.before.before ∙ blocks-no _ 41 p.count p.low _ _ (omega arith) _ n); inside = tt }, tt)
 
 enum-known-step-2 : tie.Need-enum-known-step-2 invariant-loop decreases-loop
@@ -125,7 +125,7 @@ loop-again c =
       (read f).1,
       here f.before.before.before ∙ blocks_more _ 41 p.count p.low _ _ (omega arith) _ _ (read f).0 ∙ rw c.goes_on.ensures,
       λ h. goes_end _ (sym c.goes_on.ensures ∙ h),
-      marking-next s.args.m p.low f.before.before.one_block.result.number _ _ _ _ _ _ _ _ p.invariant.7 b.0
+      marking_next s.args.m p.low f.before.before.one_block.result.number _ _ _ _ _ _ _ _ p.invariant.7 b.0
           (block-lines _ _ _ _ _ (read f).0) (λ n. get_or-set_other p.has _ s.args.m true false (λ q. n (sym q)))
           c.before.before.marked.ensures,
     )

@@ -1,7 +1,7 @@
--- `overlay::block::goes_on` meets its contract. Assumes nothing.
+-- `overlay::block::goes_on_lem` meets its contract. Assumes nothing.
 use borrow.Author.Rules.{rules}
 use mathlib.Core.Path.{sym}
-use Rattle.text_reader.proofs.StepLaws.{due-found, due-missing}
+use Rattle.text_reader.proofs.StepLaws.{due-found, due_missing}
 use Rattle.overlay.proofs.BlockLaws.{goes_none, goes-line}
 use Rattle.overlay.proofs.block.goes_on.Statement.{statement}
 use Rattle.overlay.proofs.block.goes_on.Tie as tie
@@ -16,7 +16,7 @@ enum-told-2 : tie.Need-enum-told-2
 enum-told-2 c = search rules
 
 returns : tie.Need-returns
-returns c = sym (goes_none _ (due-missing _ _ _ c.before.before.due-line.ensures c.enum_told.given.1))
+returns c = sym (goes_none _ (due_missing _ _ _ c.before.before.due-line.ensures c.enum_told.given.1))
 
 returns-2 : tie.Need-returns-2
 returns-2 c = sym (goes-line _ _ _ _ _ _ (due-found _ _ _ c.before.before.due-line.ensures _ _ _ _ c.enum-told2.given.1))

@@ -6,20 +6,20 @@ use mathlib.Core.Path.{◌≡◌, sym, ap, ◌∙◌}
 use lib.ListN.{drop}
 use Rattle.fields.specs.Bytes.{bytes}
 use Rattle.fields.specs.Fields.{fields_of}
-use Rattle.fields.specs.Readers.{got, figureIs}
+use Rattle.fields.specs.Readers.{got, figure_is}
 use Rattle.fields.proofs.PlaceAnswerLaws.{key-number-is}
 use Rattle.fields.proofs.ReaderLaws.{after-no, after-got, key-between-within}
-use Rattle.soc.specs.Limits.{levelMax}
+use Rattle.soc.specs.Limits.{level_max}
 use Rattle.text_lines.specs.Parts.{closed}
-use Rattle.text_lines.specs.Kinds.{levelKey, blockShape}
-use Rattle.text_lines.specs.LineAnswers.{levelAnswer}
+use Rattle.text_lines.specs.Kinds.{level_key, block_shape}
+use Rattle.text_lines.specs.LineAnswers.{level_answer}
 use Rattle.text_lines.proofs.HeadLaws.{closed-no}
 use Rattle.overlay.proofs.line.block_shape.Statement.{statement}
 use Rattle.overlay.proofs.line.block_shape.Tie as tie
 
 -- the level that was read
-found : (c : tie.After-v) → let l = c.before.before.before.before.before.args.l.now in levelKey (fields_of (drop c.before.before.before.before.before.args.at l)) ≡ got c.v.given.0.0 (fields_of (drop c.v.given.0.1.0 l))
-found c = sym (key-number-is _ _ _ _ _ c.before.before.key-figure.ensures) ∙ ap (figureIs c.before.before.before.before.before.args.l.now) c.v.given.1
+found : (c : tie.After-v) → let l = c.before.before.before.before.before.args.l.now in level_key (fields_of (drop c.before.before.before.before.before.args.at l)) ≡ got c.v.given.0.0 (fields_of (drop c.v.given.0.1.0 l))
+found c = sym (key-number-is _ _ _ _ _ c.before.before.key-figure.ensures) ∙ ap (figure_is c.before.before.before.before.before.args.l.now) c.v.given.1
 
 slice-aggregate-key-figure : tie.Need-slice-aggregate-key-figure
 slice-aggregate-key-figure c = search rules
@@ -37,20 +37,20 @@ enum-known-v : tie.Need-enum-known-v
 enum-known-v c = search rules
 
 cast-shape-to-end : tie.Need-overflow-cast-shape-to-end
-cast-shape-to-end c = let w = key-between-within (bytes "Level") 0 levelMax _ _ _ (found c.before) in omega arith
+cast-shape-to-end c = let w = key-between-within (bytes "Level") 0 level_max _ _ _ (found c.before) in omega arith
 
 shape-to-end-requires : tie.Need-shape-to-end-requires
 shape-to-end-requires c κs = search rules
 
 returns : tie.Need-returns
-unfolding blockShape
+unfolding block_shape
 returns c =
     c.no-level.ensures
-    ∙ sym (ap levelAnswer (closed-no _ _ (after-no _ _ _ (sym (key-number-is _ _ _ _ _ c.before.before.before.before.key-figure.ensures) ∙ ap (figureIs c.before.before.before.before.before.before.before.args.l.now) c.before.before.c.given.1))))
+    ∙ sym (ap level_answer (closed-no _ _ (after-no _ _ _ (sym (key-number-is _ _ _ _ _ c.before.before.before.before.key-figure.ensures) ∙ ap (figure_is c.before.before.before.before.before.before.before.args.l.now) c.before.before.c.given.1))))
 
 returns-2 : tie.Need-returns-2
-unfolding blockShape
-returns-2 c = c.shape-to-end.ensures ∙ sym (ap (λ g. levelAnswer (closed g)) (after-got _ _ _ _ (found c.before.before)))
+unfolding block_shape
+returns-2 c = c.shape-to-end.ensures ∙ sym (ap (λ g. level_answer (closed g)) (after-got _ _ _ _ (found c.before.before)))
 
 pub block-shape-spec : {M : Type 1} → statement M
 block-shape-spec =

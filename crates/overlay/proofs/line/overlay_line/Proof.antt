@@ -1,6 +1,6 @@
 -- `overlay::line::overlay_line` meets its contract: the keyword is the overlay's. Assumes nothing.
 use borrow.Author.Rules.{rules}
-use Rattle.text_lines.specs.Kinds.{overlayLine}
+use Rattle.text_lines.specs.Kinds.{overlay_line}
 use Rattle.overlay.proofs.line.overlay_line.Statement.{statement}
 use Rattle.overlay.proofs.line.overlay_line.Tie as tie
 
@@ -11,7 +11,7 @@ key-name-requires : tie.Need-key-name-requires
 key-name-requires c κs = search rules
 
 returns : tie.Need-returns
-unfolding overlayLine
+unfolding overlay_line
 returns c = c.key-name.ensures
 
 pub overlay-line-spec : {M : Type 1} → statement M

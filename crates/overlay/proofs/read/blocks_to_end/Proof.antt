@@ -2,9 +2,9 @@
 use borrow.Author.Rules.{rules}
 use mathlib.Core.Path.{sym, ap}
 use Rattle.fields.proofs.ReaderLaws.{after-no, after-got}
-use Rattle.text_reader.proofs.StepLaws.{step-no, step-next}
+use Rattle.text_reader.proofs.StepLaws.{step_no, step_next}
 use Rattle.overlay.specs.Overlay.{with_blocks, answer}
-use Rattle.overlay.proofs.BlockMarks.{blocks-marked, refused-marked, accepted-marked}
+use Rattle.overlay.proofs.BlockMarks.{blocks_marked, refused_marked_lem, accepted_marked_lem}
 use Rattle.overlay.proofs.read.blocks_to_end.Statement.{statement}
 use Rattle.overlay.proofs.read.blocks_to_end.Tie as tie
 
@@ -27,17 +27,17 @@ returns : tie.Need-returns
 unfolding with_blocks answer
 returns c =
     let b = c.before.before.before.before.Blocks-step in
-    refused-marked _ _ _ _ _ _ c.refused-overlay.ensures
-    (sym (ap answer (after-no _ _ _ (step-no _ _ _ _ b.ensures.0 _ c.before.before.step.given.1))))
+    refused_marked_lem _ _ _ _ _ _ c.refused-overlay.ensures
+    (sym (ap answer (after-no _ _ _ (step_no _ _ _ _ b.ensures.0 _ c.before.before.step.given.1))))
 
 returns-2 : tie.Need-returns-2
 unfolding with_blocks answer
 returns-2 c =
     let e = c.before.before.before.before in
     let b = e.before.before.Blocks-step in
-    accepted-marked _ _ _ _ _ _ _ c.accepted-overlay.ensures
-    (sym (ap answer (after-got _ _ _ _ (step-next _ _ _ _ b.ensures.0 _ e.enum_told.given.1).0)))
-    (λ h. blocks-marked _ _ _ _ _ b.ensures.1 e.enum_told.given.1 h)
+    accepted_marked_lem _ _ _ _ _ _ _ c.accepted-overlay.ensures
+    (sym (ap answer (after-got _ _ _ _ (step_next _ _ _ _ b.ensures.0 _ e.enum_told.given.1).0)))
+    (λ h. blocks_marked _ _ _ _ _ b.ensures.1 e.enum_told.given.1 h)
 
 pub blocks-to-end-spec : {M : Type 1} → statement M
 blocks-to-end-spec =

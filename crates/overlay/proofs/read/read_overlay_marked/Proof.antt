@@ -4,9 +4,9 @@ use borrow.Author.Rules.{rules}
 use borrow.Author.Tests.{le-leb, lt-leb}
 use mathlib.Core.Path.{sym, ap, ◌∙◌}
 use lib.ListN.{length}
-use Rattle.soc.specs.Limits.{textMax}
-use Rattle.overlay.specs.Overlay.{refusedOverlay, unlessBad, readOverlay}
-use Rattle.overlay.proofs.BlockMarks.{refused-marked}
+use Rattle.soc.specs.Limits.{text_max}
+use Rattle.overlay.specs.Overlay.{refused_overlay, unless_bad, read_overlay}
+use Rattle.overlay.proofs.BlockMarks.{refused_marked_lem}
 use Rattle.overlay.proofs.read.read_overlay_marked.Statement.{statement}
 use Rattle.overlay.proofs.read.read_overlay_marked.Tie as tie
 
@@ -17,12 +17,12 @@ refused-overlay-requires : tie.Need-refused-overlay-requires
 refused-overlay-requires c κs = search rules
 
 returns : tie.Need-returns
-unfolding readOverlay
+unfolding read_overlay
 returns c =
     let i = c.before.before in
     let t = i.before.before.args.text.now in
-    rw (lt-leb (length t) textMax i.if1.true)
-    (refused-marked _ _ _ _ _ _ c.refused-overlay.ensures (ap refusedOverlay c.before.at.ensures))
+    rw (lt-leb (length t) text_max i.if1.true)
+    (refused_marked_lem _ _ _ _ _ _ c.refused-overlay.ensures (ap refused_overlay c.before.at.ensures))
 
 bad-byte-requires : tie.Need-bad-byte-requires
 bad-byte-requires c κs = search rules
@@ -43,23 +43,23 @@ read-lines-requires : tie.Need-read-lines-requires
 read-lines-requires c κs = search rules
 
 returns-2 : tie.Need-returns-2
-unfolding readOverlay unlessBad
+unfolding read_overlay unless_bad
 returns-2 c =
     let n = c.before.before.before in
     let b = n.before.before in
     let i = b.before in
     let t = i.before.before.args.text.now in
-    rw (le-leb (length t) textMax i.if1.false, sym b.bad-byte.ensures ∙ n.n.given.1)
-    (refused-marked _ _ _ _ _ _ c.refused-overlay2.ensures (ap refusedOverlay c.before.at2.ensures))
+    rw (le-leb (length t) text_max i.if1.false, sym b.bad-byte.ensures ∙ n.n.given.1)
+    (refused_marked_lem _ _ _ _ _ _ c.refused-overlay2.ensures (ap refused_overlay c.before.at2.ensures))
 
 returns-3 : tie.Need-returns-3
-unfolding readOverlay unlessBad
+unfolding read_overlay unless_bad
 returns-3 c =
     let n = c.before in
     let b = n.before.before in
     let i = b.before in
     let t = i.before.before.args.text.now in
-    rw (le-leb (length t) textMax i.if1.false, sym b.bad-byte.ensures ∙ n.enum_told.given.1) c.read-lines.ensures
+    rw (le-leb (length t) text_max i.if1.false, sym b.bad-byte.ensures ∙ n.enum_told.given.1) c.read-lines.ensures
 
 pub read-overlay-marked-spec : {M : Type 1} → statement M
 read-overlay-marked-spec =

@@ -2,7 +2,7 @@
 use borrow.Author.Rules.{rules}
 use borrow.Author.Tests.{not-true, not-false}
 use mathlib.Core.Path.{sym, ◌∙◌}
-use Rattle.units.proofs.TestLaws.{and-stops, and-goes}
+use Rattle.units.proofs.TestLaws.{and_stops, and_goes}
 use Rattle.pair.specs.Pair.{fits}
 use Rattle.pair.proofs.read.fits_base.Statement.{statement}
 use Rattle.pair.proofs.read.fits_base.Tie as tie
@@ -12,14 +12,14 @@ has-same-head-requires c κs = search rules
 
 returns : tie.Need-returns
 unfolding fits
-returns c = sym (and-stops _ _ (sym c.before.has-same-head.ensures ∙ not-true _ c.if1.true))
+returns c = sym (and_stops _ _ (sym c.before.has-same-head.ensures ∙ not-true _ c.if1.true))
 
 places-fit-requires : tie.Need-places-fit-requires
 places-fit-requires c κs = search rules
 
 returns-2 : tie.Need-returns-2
 unfolding fits
-returns-2 c = c.places-fit.ensures ∙ sym (and-goes _ _ (sym c.before.before.before.before.before.has-same-head.ensures ∙ not-false _ c.before.before.before.before.if1.false))
+returns-2 c = c.places-fit.ensures ∙ sym (and_goes _ _ (sym c.before.before.before.before.before.has-same-head.ensures ∙ not-false _ c.before.before.before.before.if1.false))
 
 pub fits-base-spec : {M : Type 1} → statement M
 fits-base-spec = tie.close (tie.spec has-same-head-requires returns places-fit-requires returns-2)

@@ -3,7 +3,7 @@ use borrow.Author.Rules.{rules}
 use borrow.Author.Tests.{not-true, not-false}
 use mathlib.Core.Bool.{true, false}
 use mathlib.Core.Path.{◌≡◌, sym, ap, ◌∙◌}
-use Rattle.pair.specs.Pair.{fits, refusedPair, joined}
+use Rattle.pair.specs.Pair.{fits, refused_pair, joined}
 use Rattle.pair.specs.declared.read.Meant.TheVariants as meant
 use Rattle.pair.proofs.read.joined_pair.Statement.{statement}
 use Rattle.pair.proofs.read.joined_pair.Tie as tie
@@ -22,7 +22,7 @@ unfolding joined
 returns c =
     let s = c.before.before.before.before.args in
     let e : fits s.s s.o ≡ false = sym c.before.before.before.fits-base.ensures ∙ not-true _ c.before.before.if1.true in
-    rw e (c.refused-pair.ensures ∙ ap (λ r. refusedPair r meant.Overlay) c.before.at.ensures)
+    rw e (c.refused-pair.ensures ∙ ap (λ r. refused_pair r meant.Overlay) c.before.at.ensures)
 
 none-requires : tie.Need-none-requires
 none-requires c κs = search rules

@@ -6,13 +6,13 @@ use borrow.Author.Tests.{not-true, not-false}
 use Prim.Native.Nat.{◌-◌, ◌≤◌}
 use mathlib.Core.Path.{◌≡◌, refl, sym, ◌∙◌}
 use lib.ListN.{length, drop}
-use Rattle.pair.specs.Pair.{placesFit}
-use Rattle.pair.proofs.PairLaws.{fit-stops, fit-goes, fit-end}
+use Rattle.pair.specs.Pair.{places_fit}
+use Rattle.pair.proofs.PairLaws.{fit_stops, fit_goes, fit_end}
 use Rattle.pair.proofs.read.places_fit.Statement.{statement}
 use Rattle.pair.proofs.read.places_fit.Tie as tie
 
 abbrev invariant-loop : tie.invariant-loop
-invariant-loop n has over base m₀ m = (m ≤ 40) × (placesFit n 0 has over base ≡ placesFit n m (drop m has) (drop m over) (drop m base))
+invariant-loop n has over base m₀ m = (m ≤ 40) × (places_fit n 0 has over base ≡ places_fit n m (drop m has) (drop m over) (drop m base))
 
 abbrev decreases-loop : tie.decreases-loop
 decreases-loop n has over base m₀ m = 40 - m
@@ -51,7 +51,7 @@ returns : tie.Need-returns invariant-loop decreases-loop
 returns c =
     let s = c.before.before.before.before.before.before in
     let l = c.before.before.before.before.before.loop in
-    sym (l.invariant.1 ∙ fit-stops l.m s.args.t2 s.args.t3 s.args.t4 _ _ _ (omega (arith, len-has s)) (omega (arith, len-over s)) (omega (arith, len-base s)) s.args.n (sym c.before.place-fits.ensures ∙ not-true _ c.if1.true))
+    sym (l.invariant.1 ∙ fit_stops l.m s.args.t2 s.args.t3 s.args.t4 _ _ _ (omega (arith, len-has s)) (omega (arith, len-over s)) (omega (arith, len-base s)) s.args.n (sym c.before.place-fits.ensures ∙ not-true _ c.if1.true))
 
 add-m : tie.Need-overflow-add-m invariant-loop decreases-loop
 add-m c = search rules
@@ -64,14 +64,14 @@ loop-again c =
     let s = c.before.before.before.before.before.before in
     let l = c.before.before.before.before.before.loop in (
       omega arith,
-      l.invariant.1 ∙ fit-goes l.m s.args.t2 s.args.t3 s.args.t4 _ _ _ (omega (arith, len-has s)) (omega (arith, len-over s)) (omega (arith, len-base s)) s.args.n (sym c.before.place-fits.ensures ∙ not-false _ c.if1.false),
+      l.invariant.1 ∙ fit_goes l.m s.args.t2 s.args.t3 s.args.t4 _ _ _ (omega (arith, len-has s)) (omega (arith, len-over s)) (omega (arith, len-base s)) s.args.n (sym c.before.place-fits.ensures ∙ not-false _ c.if1.false),
     )
 
 returns-2 : tie.Need-returns-2 invariant-loop decreases-loop
 returns-2 c =
     let s = c.before.before in
     let l = c.before.loop in
-    sym (l.invariant.1 ∙ fit-end s.args.n l.m s.args.t2 _ _ (omega (arith, len-has s)))
+    sym (l.invariant.1 ∙ fit_end s.args.n l.m s.args.t2 _ _ (omega (arith, len-has s)))
 
 pub places-fit-spec : {M : Type 1} → statement M
 places-fit-spec =

@@ -2,11 +2,11 @@
 -- nothing.
 use borrow.Author.Rules.{rules}
 use mathlib.Core.Path.{sym, ap, ◌∙◌}
-use Rattle.text_reader.specs.Reading.{readSoc}
-use Rattle.overlay.specs.Overlay.{readOverlay}
-use Rattle.pair.specs.Pair.{pair_of, readPair}
-use Rattle.pair.proofs.PairLaws.{pair-base, pair-overlay, pair-joined}
-use Rattle.pair.proofs.PairMarkLaws.{refused-marked, joined-marked}
+use Rattle.text_reader.specs.Reading.{read_soc}
+use Rattle.overlay.specs.Overlay.{read_overlay}
+use Rattle.pair.specs.Pair.{pair_of, read_pair}
+use Rattle.pair.proofs.PairLaws.{pair_base, pair-overlay, pair-joined}
+use Rattle.pair.proofs.PairMarkLaws.{refused_marked_lem, joined_marked}
 use Rattle.pair.proofs.read.read_pair_marked.Statement.{statement}
 use Rattle.pair.proofs.read.read_pair_marked.Tie as tie
 
@@ -17,12 +17,12 @@ refused-marked-requires : tie.Need-refused-marked-requires
 refused-marked-requires c κs = search rules
 
 returns : tie.Need-returns
-unfolding readPair
+unfolding read_pair
 returns c =
     let b = c.before.before.before.read-soc-marked in
     let t = c.before.before.before.before.before.before.args.overlay.now in
-    refused-marked _ _ _ _ _ _ c.refused-marked.ensures
-    (sym (pair-base b.result.read (readOverlay t) c.before.if1.true) ∙ ap (λ r. pair_of r (readOverlay t)) b.ensures.read)
+    refused_marked_lem _ _ _ _ _ _ c.refused-marked.ensures
+    (sym (pair_base b.result.read (read_overlay t) c.before.if1.true) ∙ ap (λ r. pair_of r (read_overlay t)) b.ensures.read)
 
 read-overlay-marked-requires : tie.Need-read-overlay-marked-requires
 read-overlay-marked-requires c κs = search rules
@@ -31,31 +31,31 @@ refused-marked-requires-2 : tie.Need-refused-marked-requires-2
 refused-marked-requires-2 c κs = search rules
 
 returns-2 : tie.Need-returns-2
-unfolding readPair
+unfolding read_pair
 returns-2 c =
     let b = c.before.before.before.before.before.before.read-soc-marked in
     let o = c.before.before.before.read-overlay-marked in
     let t = c.before.before.before.before.before.before.before.before.before.args.base.now in
-    refused-marked _ _ _ _ _ _ c.refused-marked2.ensures
+    refused_marked_lem _ _ _ _ _ _ c.refused-marked2.ensures
     (sym (pair-overlay b.result.read o.result.read c.before.before.before.before.if1.false c.before.if2.true)
     ∙ ap (λ r. pair_of r o.result.read) b.ensures.read
-    ∙ ap (pair_of (readSoc t)) o.ensures.read)
+    ∙ ap (pair_of (read_soc t)) o.ensures.read)
 
 joined-pair-requires : tie.Need-joined-pair-requires
 joined-pair-requires c κs = search rules
 
 returns-3 : tie.Need-returns-3
-unfolding readPair
+unfolding read_pair
 returns-3 c =
     let k = c.before.before.before.before.before in
     let o = k.before.before.read-overlay-marked in
     let f = k.before.before.before.before.before in
     let b = f.read-soc-marked in
     let t = f.before.before.before.args.base.now in
-    joined-marked _ _ _ _ _ _ c.joined-pair.ensures
+    joined_marked _ _ _ _ _ _ c.joined-pair.ensures
     (sym (pair-joined b.result.read o.result.read k.before.before.before.if1.false k.if2.false)
     ∙ ap (λ r. pair_of r o.result.read) b.ensures.read
-    ∙ ap (pair_of (readSoc t)) o.ensures.read)
+    ∙ ap (pair_of (read_soc t)) o.ensures.read)
     b.ensures.marks o.ensures.marks
 
 pub read-pair-marked-spec : {M : Type 1} → statement M

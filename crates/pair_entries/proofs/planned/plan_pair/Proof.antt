@@ -1,9 +1,9 @@
 -- `pair_entries::planned::plan_pair` meets its contract: the pair is read first, then the planner is asked. Assumes nothing.
 use borrow.Author.Rules.{rules}
 use mathlib.Core.Path.{sym, ap, ◌∙◌}
-use Rattle.pair_entries.specs.OfPair.{ofPair}
-use Rattle.pair_entries.specs.PlannedPair.{refusedPlan, plan_of, planPair}
-use Rattle.pair_entries.proofs.EntryLaws.{of-refused, of-accepted}
+use Rattle.pair_entries.specs.OfPair.{of_pair}
+use Rattle.pair_entries.specs.PlannedPair.{refused_plan, plan_of, plan_pair}
+use Rattle.pair_entries.proofs.EntryLaws.{of_refused, of_accepted}
 use Rattle.pair_entries.proofs.planned.plan_pair.Statement.{statement}
 use Rattle.pair_entries.proofs.planned.plan_pair.Tie as tie
 
@@ -14,25 +14,25 @@ refused-plan-requires : tie.Need-refused-plan-requires
 refused-plan-requires c κs = search rules
 
 returns : tie.Need-returns
-unfolding planPair
+unfolding plan_pair
 returns c =
     let p = c.before.before.before.read-pair in
     let s = c.before.before.before.before.before.before in
     let answers = plan_of s.args.wires.0 s.args.limit s.args.capture.0 in
-    c.refused-plan.ensures ∙ sym (of-refused p.result refusedPlan answers c.before.if1.true)
-    ∙ ap (λ r. ofPair r refusedPlan answers) p.ensures
+    c.refused-plan.ensures ∙ sym (of_refused p.result refused_plan answers c.before.if1.true)
+    ∙ ap (λ r. of_pair r refused_plan answers) p.ensures
 
 plan-requires : tie.Need-plan-requires
 plan-requires c κs = search rules
 
 returns-2 : tie.Need-returns-2
-unfolding planPair
+unfolding plan_pair
 returns-2 c =
     let p = c.before.before.before.before.read-pair in
     let s = c.before.before.before.before.before.before.before in
     let answers = plan_of s.args.wires.0 s.args.limit s.args.capture.0 in
     rw c.plan.ensures
-    (sym (of-accepted p.result refusedPlan answers c.before.before.if1.false) ∙ ap (λ r. ofPair r refusedPlan answers) p.ensures)
+    (sym (of_accepted p.result refused_plan answers c.before.before.if1.false) ∙ ap (λ r. of_pair r refused_plan answers) p.ensures)
 
 pub plan-pair-spec : {M : Type 1} → statement M
 plan-pair-spec = tie.close (tie.spec read-pair-requires refused-plan-requires returns plan-requires returns-2)

@@ -7,20 +7,20 @@ use mathlib.Core.Path.{◌≡◌, sym, ◌∙◌}
 use lib.ListN.{length, take}
 use Rattle.units.specs.Places.{padded}
 use Rattle.units.proofs.PlaceLaws.{padded-none}
-use Rattle.plan_search.specs.Search.{foundBuses, tableTime}
-use Rattle.plan_record.specs.Record.{busPlaces, noBus}
-use Rattle.plan.proofs.EntryLaws.{cycles-of, busFront, front-none, front-fill, front-all}
+use Rattle.plan_search.specs.Search.{found_buses, table_time}
+use Rattle.plan_record.specs.Record.{bus_places, no_bus}
+use Rattle.plan.proofs.EntryLaws.{cycles_of_lem, bus_front, front-none, front_fill, front-all}
 use Rattle.plan.proofs.entry.buses_of.Statement.{statement}
 use Rattle.plan.proofs.entry.buses_of.Tie as tie
 
 abbrev invariant-loop : tie.invariant-loop
 invariant-loop table n f list₀ b₀ list b =
-    (b ≤ f.count) × (list ≡ padded busPlaces noBus (busFront (tableTime table) (take n f.buses) f.widths b))
+    (b ≤ f.count) × (list ≡ padded bus_places no_bus (bus_front (table_time table) (take n f.buses) f.widths b))
 
 abbrev decreases-loop : tie.decreases-loop
 decreases-loop table n f list₀ b₀ list b = f.count - b
 
-len : (c : tie.Start invariant-loop decreases-loop) → length c.args.t2.widths ≡ foundBuses
+len : (c : tie.Start invariant-loop decreases-loop) → length c.args.t2.widths ≡ found_buses
 len c = search rules
 
 no-bus-requires : tie.Need-no-bus-requires invariant-loop decreases-loop
@@ -29,8 +29,8 @@ no-bus-requires c κs = search rules
 loop-holds : tie.Need-loop-init invariant-loop decreases-loop
 loop-holds c =
     let a = c.before.before.args in
-    let none = front-none (tableTime a.table.now) (take a.n a.t2.buses) a.t2.widths in
-    (omega arith, rw (c.no-bus.ensures, none) (sym (padded-none busPlaces noBus)))
+    let none = front-none (table_time a.table.now) (take a.n a.t2.buses) a.t2.widths in
+    (omega arith, rw (c.no-bus.ensures, none) (sym (padded-none bus_places no_bus)))
 
 mul-t10 : tie.Need-overflow-mul-t10 invariant-loop decreases-loop
 mul-t10 c = search rules
@@ -67,17 +67,17 @@ loop-again c =
     let f = s.args.t2 in
     let h : b < f.count = c.before.before.before.loop-test.true in
     let m : b < length f.widths = omega (arith, len s, s.requires.1.few) in
-    let time = tableTime s.args.table.now in
+    let time = table_time s.args.table.now in
     let bs = take s.args.n f.buses in
-    let fill = front-fill time bs f.widths b l.loop.list m (omega (arith, s.requires.1.few)) l.loop.invariant.1 in
-    (omega arith, rw (cycles-of c.busy-of.ensures) fill)
+    let fill = front_fill time bs f.widths b l.loop.list m (omega (arith, s.requires.1.few)) l.loop.invariant.1 in
+    (omega arith, rw (cycles_of_lem c.busy-of.ensures) fill)
 
 returns : tie.Need-returns invariant-loop decreases-loop
 returns c =
     let l = c.before.loop in
     let s = c.before.before.before.before in
     let e : l.b ≡ s.args.t2.count = omega (arith, l.invariant.0, c.loop-test.false) in
-    l.invariant.1 ∙ rw e (front-all (tableTime s.args.table.now) s.args.t2 s.args.n)
+    l.invariant.1 ∙ rw e (front-all (table_time s.args.table.now) s.args.t2 s.args.n)
 
 pub buses-of-spec : {M : Type 1} → statement M
 buses-of-spec =

@@ -4,9 +4,9 @@ use borrow.Author.Rules.{rules}
 use native.Mathlib.Omega.{arith}
 use mathlib.Core.Path.{◌≡◌, refl, ap, ◌∙◌}
 use lib.ListN.{length}
-use Rattle.soc.specs.Planned.{plannedOf}
+use Rattle.soc.specs.Planned.{planned_of}
 use Rattle.plan_search.specs.Search.{AreTimes, IsTable}
-use Rattle.plan.specs.Tables.{tablePlaces, Plannable}
+use Rattle.plan.specs.Tables.{table_places, Plannable}
 use Rattle.plan.proofs.TableLaws.{times-are, table_is}
 use Rattle.plan.proofs.EntryLaws.{found-fits, record_is, best-plan, found-best}
 use Rattle.plan.proofs.entry.found_plan.Statement.{statement}
@@ -16,10 +16,10 @@ module _ (c : tie.After-tables-of) where
   abbrev pre : Plannable c.before.args.capture.0 c.before.args.s c.before.args.p c.before.args.wires.0
   pre = c.before.requires.0
 
-  count : c.before.args.p.count ≡ length (plannedOf c.before.args.s)
+  count : c.before.args.p.count ≡ length (planned_of c.before.args.s)
   count = ap (λ x. x.count) pre.numbers
 
-  long : length c.tables-of.result.cycles ≡ tablePlaces
+  long : length c.tables-of.result.cycles ≡ table_places
   long = search rules
 
   -- the tables of the planned modules are a table to search over

@@ -7,22 +7,22 @@ use mathlib.Core.Path.{◌≡◌, sym, ◌∙◌}
 use lib.ListN.{length, get_or, take}
 use Rattle.units.specs.Places.{padded}
 use Rattle.units.proofs.PlaceLaws.{padded-none}
-use Rattle.plan_record.specs.Record.{modulePlaces, noPlaced}
-use Rattle.wrapper_fit.specs.Maxima.{widthMax}
-use Rattle.plan_search.specs.Search.{foundModules, rowPlaces}
-use Rattle.plan.specs.Records.{placedFrom}
-use Rattle.plan.specs.Tables.{tablePlaces}
-use Rattle.plan.proofs.EntryLaws.{cycles-of, times-fewer, placed-none, placed-fill, placed-all}
+use Rattle.plan_record.specs.Record.{module_places, no_placed}
+use Rattle.wrapper_fit.specs.Maxima.{width_max}
+use Rattle.plan_search.specs.Search.{found_modules, row_places}
+use Rattle.plan.specs.Records.{placed_from}
+use Rattle.plan.specs.Tables.{table_places}
+use Rattle.plan.proofs.EntryLaws.{cycles_of_lem, times-fewer, placed-none, placed_fill, placed-all}
 use Rattle.plan.proofs.entry.modules_of.Statement.{statement}
 use Rattle.plan.proofs.entry.modules_of.Tie as tie
 
 abbrev invariant-loop : tie.invariant-loop
-invariant-loop p t f list₀ n times buses i₀ list i = (i ≤ n) × (list ≡ padded modulePlaces noPlaced (placedFrom p t f 0 (take i f.buses)))
+invariant-loop p t f list₀ n times buses i₀ list i = (i ≤ n) × (list ≡ padded module_places no_placed (placed_from p t f 0 (take i f.buses)))
 
 abbrev decreases-loop : tie.decreases-loop
 decreases-loop p t f list₀ n times buses i₀ list i = n - i
 
-buses-length : (c : tie.Start invariant-loop decreases-loop) → length c.args.t3.buses ≡ foundModules
+buses-length : (c : tie.Start invariant-loop decreases-loop) → length c.args.t3.buses ≡ found_modules
 buses-length c = search rules
 
 -- where a turn began from
@@ -41,11 +41,11 @@ bus-in : (c : tie.In-loop invariant-loop decreases-loop) → (1 ≤ bus c) × (b
 bus-in c = (start c).requires.1.placed c.before.loop.i c.loop-test.true
 
 -- and its width one of the widths
-width-in : (c : tie.In-loop invariant-loop decreases-loop) → (1 ≤ width c) × (width c ≤ widthMax)
-width-in c = (start c).requires.1.wide (bus c - 1) (omega (arith, bus-in c))
+width_in : (c : tie.In-loop invariant-loop decreases-loop) → (1 ≤ width c) × (width c ≤ width_max)
+width_in c = (start c).requires.1.wide (bus c - 1) (omega (arith, bus-in c))
 
-place_in : (c : tie.In-loop invariant-loop decreases-loop) → c.before.loop.i * rowPlaces + (width c - 1) < tablePlaces
-place_in c = omega (arith, width-in c, (start c).requires.0.few, c.loop-test.true)
+place_in : (c : tie.In-loop invariant-loop decreases-loop) → c.before.loop.i * row_places + (width c - 1) < table_places
+place_in c = omega (arith, width_in c, (start c).requires.0.few, c.loop-test.true)
 
 no-placed-requires : tie.Need-no-placed-requires invariant-loop decreases-loop
 no-placed-requires c κs = search rules
@@ -54,7 +54,7 @@ loop-holds : tie.Need-loop-init invariant-loop decreases-loop
 loop-holds c =
     let n = c.before.before in
     let a = n.before.args in
-    (omega arith, rw (n.no-placed.ensures, placed-none a.t1 a.t2 a.t3) (sym (padded-none modulePlaces noPlaced)))
+    (omega arith, rw (n.no-placed.ensures, placed-none a.t1 a.t2 a.t3) (sym (padded-none module_places no_placed)))
 
 mul-number : tie.Need-overflow-mul-number invariant-loop decreases-loop
 mul-number c = search rules
@@ -84,7 +84,7 @@ cast-at : tie.Need-overflow-cast-at invariant-loop decreases-loop
 cast-at c = search rules
 
 sub_at : tie.Need-overflow-sub-at invariant-loop decreases-loop
-sub_at c = (width-in c.before.before.before.before).0
+sub_at c = (width_in c.before.before.before.before).0
 
 add_at : tie.Need-overflow-add-at invariant-loop decreases-loop
 add_at c = omega (arith, place_in c.before.before.before.before)
@@ -108,7 +108,7 @@ busy-of-requires : tie.Need-busy-of-requires invariant-loop decreases-loop
 busy-of-requires c κs =
     let i = c.before.before.before.before.before.before.before in
     let h : i.before.loop.i < (start i).args.t1.count = i.loop-test.true in
-    (times-fewer (start i).requires.0 (omega arith), (width-in i).0, (width-in i).1)
+    (times-fewer (start i).requires.0 (omega arith), (width_in i).0, (width_in i).1)
 
 mul-list : tie.Need-overflow-mul-list invariant-loop decreases-loop
 mul-list c = search rules
@@ -130,8 +130,8 @@ loop-again c =
     let a = s.args in
     let h : l.loop.i < a.t1.count = i.loop-test.true in
     let b : l.loop.i < length a.t3.buses = omega (arith, buses-length s, s.pre.0.few) in
-    let fill = placed-fill a.t1 a.t2 a.t3 l.loop.i l.loop.list b (omega (arith, s.pre.0.few)) l.loop.invariant.1 in
-    (omega arith, rw (cycles-of c.busy-of.ensures) fill)
+    let fill = placed_fill a.t1 a.t2 a.t3 l.loop.i l.loop.list b (omega (arith, s.pre.0.few)) l.loop.invariant.1 in
+    (omega arith, rw (cycles_of_lem c.busy-of.ensures) fill)
 
 returns : tie.Need-returns invariant-loop decreases-loop
 returns c =

@@ -1,24 +1,24 @@
--- `plan::entry::refused_number` meets its contract: its tests are those of `numberRefused`, in order. Assumes nothing.
+-- `plan::entry::refused_number` meets its contract: its tests are those of `number_refused`, in order. Assumes nothing.
 use borrow.Author.Rules.{rules}
 use mathlib.Core.Path.{◌≡◌, sym, ◌∙◌}
 use mathlib.Core.Bool.{true, ◌&&◌}
 use lib.Dec.{leb}
 use borrow.Author.Tests.{not-true, not-false}
-use Rattle.wrapper_fit.specs.Maxima.{widthMax, captureMax}
-use Rattle.plan.specs.PlanAnswers.{limitMax, plannedMax}
-use Rattle.plan.specs.Refused.{numberRefused}
+use Rattle.wrapper_fit.specs.Maxima.{width_max, capture_max}
+use Rattle.plan.specs.PlanAnswers.{limit_max, planned_max}
+use Rattle.plan.specs.Refused.{number_refused}
 use Rattle.plan.proofs.entry.refused_number.Statement.{statement}
 use Rattle.plan.proofs.entry.refused_number.Tie as tie
 
-wide : (c : tie.Else1) → let v = c.before.before.before.before.args.wires.0 in (leb 1 v && leb v widthMax) ≡ true
+wide : (c : tie.Else1) → let v = c.before.before.before.before.args.wires.0 in (leb 1 v && leb v width_max) ≡ true
 wide c = let w = c.before.before.before.is_Within in sym w.ensures ∙ not-false w.result c.if1.false
 
-limited : (c : tie.Else2) → let v = c.before.before.before.before.before.args.limit in (leb 1 v && leb v limitMax) ≡ true
+limited : (c : tie.Else2) → let v = c.before.before.before.before.before.args.limit in (leb 1 v && leb v limit_max) ≡ true
 limited c = let w = c.before.before.before.is-within2 in sym w.ensures ∙ not-false w.result c.if2.false
 
 captured : (c : tie.Else3) →
     let v = c.before.before.before.before.before.before.args.capture.0 in
-    (leb 1 v && leb v captureMax) ≡ true
+    (leb 1 v && leb v capture_max) ≡ true
 captured c = let w = c.before.before.before.is-within3 in sym w.ensures ∙ not-false w.result c.if3.false
 
 some : (c : tie.Else4) → leb 1 c.before.before.before.before.before.before.before.args.n ≡ true
@@ -34,32 +34,32 @@ is-within-requires-3 : tie.Need-is-within-requires-3
 is-within-requires-3 c κs = search rules
 
 returns : tie.Need-returns
-unfolding numberRefused
+unfolding number_refused
 returns c = let w = c.before.before.before.is_Within in rw (sym w.ensures ∙ not-true w.result c.if1.true)
 
 returns-2 : tie.Need-returns-2
-unfolding numberRefused
+unfolding number_refused
 returns-2 c =
     let e = c.before in
     let w = e.before.before.is-within2 in
     rw (wide e, sym w.ensures ∙ not-true w.result c.if2.true)
 
 returns-3 : tie.Need-returns-3
-unfolding numberRefused
+unfolding number_refused
 returns-3 c =
     let e = c.before in
     let w = e.before.before.is-within3 in
     rw (wide e.before, limited e, sym w.ensures ∙ not-true w.result c.if3.true)
 
 returns-4 : tie.Need-returns-4
-unfolding numberRefused
+unfolding number_refused
 returns-4 c =
     let e = c.before in
     let n = e.before.before.before.before.before.before.args.n in
     rw (wide e.before.before, limited e.before, captured e, not-true (leb 1 n) c.if4.true)
 
 returns-5 : tie.Need-returns-5
-unfolding numberRefused
+unfolding number_refused
 returns-5 c =
     let e = c.before in
     let n = e.before.before.before.before.before.before.before.args.n in
@@ -68,11 +68,11 @@ returns-5 c =
       limited e.before.before,
       captured e.before,
       some e,
-      not-true (leb n plannedMax) c.if5.true,
+      not-true (leb n planned_max) c.if5.true,
     )
 
 returns-6 : tie.Need-returns-6
-unfolding numberRefused
+unfolding number_refused
 returns-6 c =
     let e = c.before in
     let n = e.before.before.before.before.before.before.before.args.n in
@@ -81,7 +81,7 @@ returns-6 c =
       limited e.before.before,
       captured e.before,
       some e,
-      not-false (leb n plannedMax) c.if5.false,
+      not-false (leb n planned_max) c.if5.false,
     )
 
 pub refused-number-spec : {M : Type 1} → statement M

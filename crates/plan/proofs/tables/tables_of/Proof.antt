@@ -5,13 +5,13 @@ use Prim.Native.Nat.{◌-◌, ◌≤◌, ◌<◌}
 use mathlib.Core.Path.{◌≡◌, ap, ◌∙◌}
 use native.Mathlib.Omega.{arith}
 use lib.ListN.{length, get_or}
-use Rattle.soc.specs.Limits.{modulesMax}
-use Rattle.soc.specs.Planned.{plannedOf}
+use Rattle.soc.specs.Limits.{modules_max}
+use Rattle.soc.specs.Planned.{planned_of}
 use Rattle.wrapper_scans.proofs.KeptLaws.{good-count}
 use Rattle.units.proofs.PlaceLaws.{padded-at}
-use Rattle.wrapper_times.specs.TimeAnswers.{moduleTimesAnswer}
+use Rattle.wrapper_times.specs.TimeAnswers.{module_times_answer}
 use Rattle.plan.specs.Tables.{TablesAre}
-use Rattle.plan.proofs.TableLaws.{planned-number, tables-none, tables_more}
+use Rattle.plan.proofs.TableLaws.{planned-number, tables_none, tables_more}
 use Rattle.plan.proofs.tables.tables_of.Statement.{statement}
 use Rattle.plan.proofs.tables.tables_of.Tie as tie
 
@@ -22,21 +22,21 @@ abbrev decreases-loop : tie.decreases-loop
 decreases-loop s w x p t₀ n k₀ t k = n - k
 
 -- there are as many places in use as planned modules
-count : (c : tie.Start invariant-loop decreases-loop) → c.args.t2.count ≡ length (plannedOf c.args.s)
+count : (c : tie.Start invariant-loop decreases-loop) → c.args.t2.count ≡ length (planned_of c.args.s)
 count c = ap (λ p. p.count) c.requires.numbers
 
 -- the next one is one of them
-below : (c : tie.In-loop invariant-loop decreases-loop) → c.before.loop.k < length (plannedOf c.before.before.args.s)
+below : (c : tie.In-loop invariant-loop decreases-loop) → c.before.loop.k < length (planned_of c.before.before.args.s)
 below c = rw (count c.before.before) at c.loop-test.true
 
 -- and its number stands in its place
-number_is : (c : tie.In-loop invariant-loop decreases-loop) → get_or c.before.before.args.t2.numbers c.before.loop.k 0 ≡ get_or (plannedOf c.before.before.args.s) c.before.loop.k 0
+number_is : (c : tie.In-loop invariant-loop decreases-loop) → get_or c.before.before.args.t2.numbers c.before.loop.k 0 ≡ get_or (planned_of c.before.before.args.s) c.before.loop.k 0
 number_is c =
     let a = c.before.before in
-    ap (λ p. get_or p.numbers c.before.loop.k 0) a.requires.numbers ∙ padded-at modulesMax 0 (plannedOf a.args.s) c.before.loop.k
+    ap (λ p. get_or p.numbers c.before.loop.k 0) a.requires.numbers ∙ padded-at modules_max 0 (planned_of a.args.s) c.before.loop.k
 
 loop-holds : tie.Need-loop-init invariant-loop decreases-loop
-loop-holds c = (omega arith, tables-none c.args.capture.0 c.args.s c.args.w.0)
+loop-holds c = (omega arith, tables_none c.args.capture.0 c.args.s c.args.w.0)
 
 mul-number : tie.Need-overflow-mul-number invariant-loop decreases-loop
 mul-number c = omega (arith, below c, c.before.before.requires.most)
@@ -68,8 +68,8 @@ loop-again c =
     let i = m.before.before in
     let a = i.before.before in
     let k = i.before.loop.k in
-    let number = get_or (plannedOf a.args.s) k 0 in
-    let e : m.module-times.result.times ≡ (moduleTimesAnswer a.args.s number a.args.w.0 a.args.capture.0).times =
+    let number = get_or (planned_of a.args.s) k 0 in
+    let e : m.module-times.result.times ≡ (module_times_answer a.args.s number a.args.w.0 a.args.capture.0).times =
     ap (λ r. r.times) m.module-times.ensures ∙ rw (number_is i)
     in
     let r = rw e at c.with-times.ensures in
@@ -82,7 +82,7 @@ loop-again c =
 returns : tie.Need-returns invariant-loop decreases-loop
 returns c =
     let l = c.before in
-    let e : l.loop.k ≡ length (plannedOf l.before.args.s) = omega (arith, count l.before) in
+    let e : l.loop.k ≡ length (planned_of l.before.args.s) = omega (arith, count l.before) in
     rw e at l.loop.invariant.1
 
 pub tables-of-spec : {M : Type 1} → statement M

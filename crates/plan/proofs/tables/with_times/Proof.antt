@@ -9,25 +9,25 @@ use native.Mathlib.Omega.{arith}
 use lib.Seq.{get_or-set_same, get_or-set_other}
 use lib.ListN.{length, length-set, length-map, get_or, set}
 use Rattle.wrapper_fit.specs.Counts as counts
-use Rattle.plan_search.specs.Search.{rowPlaces}
-use Rattle.plan_record.specs.Record.{modulePlaces}
-use Rattle.plan.specs.Tables.{tablePlaces}
+use Rattle.plan_search.specs.Search.{row_places}
+use Rattle.plan_record.specs.Record.{module_places}
+use Rattle.plan.specs.Tables.{table_places}
 use Rattle.plan.proofs.tables.with_times.Statement.{statement}
 use Rattle.plan.proofs.tables.with_times.Tie as tie
 
 -- the first j values of xs stand from `at` on in what was old, and nothing else has changed
 record Stands {A : Type 0} (f : A → ℕ) (z : A) (at j : ℕ) (xs : List A) (old new : List ℕ) : Type 0 where
-  long : length new ≡ tablePlaces
+  long : length new ≡ table_places
   here : (w : ℕ) → w < j → get_or new (at + w) 0 ≡ f (get_or xs w z)
   front : (i : ℕ) → i < at → get_or new i 0 ≡ get_or old i 0
   behind : (i : ℕ) → at + j ≤ i → get_or new i 0 ≡ get_or old i 0
 
 module _ {A : Type 0} {f : A → ℕ} {z : A} {at : ℕ} {xs : List A} {old : List ℕ} where
-  stands-none : length old ≡ tablePlaces → Stands f z at 0 xs old old
+  stands-none : length old ≡ table_places → Stands f z at 0 xs old old
   stands-none l = record { long = l; here = λ w h. absurd (omega arith); front = λ i h. refl; behind = λ i h. refl }
 
-  stands-more : {j : ℕ} {new : List ℕ} → at + j < tablePlaces → Stands f z at j xs old new → Stands f z at (j + 1) xs old (set new (at + j) (f (get_or xs j z)))
-  stands-more {j} {new} l s =
+  stands_more : {j : ℕ} {new : List ℕ} → at + j < table_places → Stands f z at j xs old new → Stands f z at (j + 1) xs old (set new (at + j) (f (get_or xs j z)))
+  stands_more {j} {new} l s =
       let v = f (get_or xs j z) in
       record {
         long = simp length-set s.long;
@@ -41,18 +41,18 @@ module _ {A : Type 0} {f : A → ℕ} {z : A} {at : ℕ} {xs : List A} {old : Li
 
 abbrev invariant-loop : tie.invariant-loop
 invariant-loop k times cycles₀ wires₀ j₀ cycles wires j =
-    (j ≤ rowPlaces) × (k < modulePlaces)
-    × Stands (λ c. c.0) (counts.cycles 0) (k * rowPlaces) j times.cycles cycles₀ cycles
-    × Stands (λ c. c.0) (counts.wires 0) (k * rowPlaces) j times.wires wires₀ wires
+    (j ≤ row_places) × (k < module_places)
+    × Stands (λ c. c.0) (counts.cycles 0) (k * row_places) j times.cycles cycles₀ cycles
+    × Stands (λ c. c.0) (counts.wires 0) (k * row_places) j times.wires wires₀ wires
 
 abbrev decreases-loop : tie.decreases-loop
-decreases-loop k times cycles₀ wires₀ j₀ cycles wires j = rowPlaces - j
+decreases-loop k times cycles₀ wires₀ j₀ cycles wires j = row_places - j
 
 -- the tables have their places
-len-cycles : (c : tie.Start invariant-loop decreases-loop) → length c.args.t.cycles ≡ tablePlaces
+len-cycles : (c : tie.Start invariant-loop decreases-loop) → length c.args.t.cycles ≡ table_places
 len-cycles c = simp length-map at c.well-formed.0.1.1.0.1.0.1
 
-len-wires : (c : tie.Start invariant-loop decreases-loop) → length c.args.t.wires ≡ tablePlaces
+len-wires : (c : tie.Start invariant-loop decreases-loop) → length c.args.t.wires ≡ table_places
 len-wires c = simp length-map at c.well-formed.0.1.1.1.0.1.0.1
 
 loop-holds : tie.Need-loop-init invariant-loop decreases-loop
@@ -104,21 +104,21 @@ loop-again : tie.Need-loop-preserved invariant-loop decreases-loop
 loop-again c =
     let l = c.before.before.before in
     let i = l.loop.invariant in
-    let at = l.before.before.before.args.k * rowPlaces + l.loop.j in
-    let m : at < tablePlaces = omega arith in
-    (omega arith, i.1, stands-more m i.2, stands-more m i.3)
+    let at = l.before.before.before.args.k * row_places + l.loop.j in
+    let m : at < table_places = omega arith in
+    (omega arith, i.1, stands_more m i.2, stands_more m i.3)
 
 returns : tie.Need-returns invariant-loop decreases-loop
 returns c =
     let i = c.before.loop.invariant in
-    let e : c.before.loop.j ≡ rowPlaces = omega arith in
+    let e : c.before.loop.j ≡ row_places = omega arith in
     let x = rw e at i.2 in
     let y = rw e at i.3 in
     record {
       cycles-here = x.here;
       wires-here = y.here;
-      cycles-else = λ j. (x.front j, x.behind j);
-      wires-else = λ j. (y.front j, y.behind j);
+      cycles_else = λ j. (x.front j, x.behind j);
+      wires_else = λ j. (y.front j, y.behind j);
     }
 
 pub with-times-spec : {M : Type 1} → statement M

@@ -2,7 +2,7 @@
 use borrow.Author.Rules.{rules}
 use mathlib.Core.List.{[], ◌∷◌}
 use Rattle.little_endian.specs.Little.{little}
-use Rattle.plan_file.specs.Bytes.{busBytes}
+use Rattle.plan_file.specs.Bytes.{bus_bytes}
 use Rattle.plan_file.proofs.FileLaws.{put-number}
 use Rattle.plan_file.proofs.put.put_bus.Statement.{statement}
 use Rattle.plan_file.proofs.put.put_bus.Tie as tie
@@ -23,7 +23,7 @@ same_length : tie.Need-same-length
 same_length c = search rules
 
 returns : tie.Need-returns
-unfolding busBytes little
+unfolding bus_bytes little
 returns c =
     let n = c.before.before in
     let w = n.before.before.before.before in

@@ -2,7 +2,7 @@
 use borrow.Author.Rules.{rules}
 use mathlib.Core.List.{[], ◌∷◌}
 use Rattle.little_endian.specs.Little.{little}
-use Rattle.plan_file.specs.Bytes.{moduleBytes}
+use Rattle.plan_file.specs.Bytes.{module_bytes}
 use Rattle.plan_file.proofs.FileLaws.{put-numbers}
 use Rattle.plan_file.proofs.put.put_module.Statement.{statement}
 use Rattle.plan_file.proofs.put.put_module.Tie as tie
@@ -32,7 +32,7 @@ same_length : tie.Need-same-length
 same_length c = search rules
 
 returns : tie.Need-returns
-unfolding moduleBytes little
+unfolding module_bytes little
 returns c =
     let k = c.before.before in
     let n = k.before.before.before.before in

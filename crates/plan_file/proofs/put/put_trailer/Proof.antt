@@ -3,7 +3,7 @@ use Prim.Native.Nat.{ℕ, ◌*◌, ◌/◌, ◌%◌}
 use borrow.Author.Rules.{rules}
 use mathlib.Core.List.{List, [], ◌∷◌}
 use Rattle.little_endian.specs.Little.{little}
-use Rattle.plan_file.specs.Bytes.{moduleStride, trailerBytes}
+use Rattle.plan_file.specs.Bytes.{module_stride, trailer_bytes}
 use Rattle.plan_file.proofs.FileLaws.{put-number}
 use Rattle.plan_file.proofs.put.put_trailer.Statement.{statement}
 use Rattle.plan_file.proofs.put.put_trailer.Tie as tie
@@ -42,13 +42,13 @@ same_length : tie.Need-same-length
 same_length c = search rules
 
 returns : tie.Need-returns
-unfolding trailerBytes little
+unfolding trailer_bytes little
 returns c =
     let n = c.before.before in
     let a = n.before.before.before.before in
     let s = a.before.before.before.before.before.before.before.before.before in
     let p = s.args.p in
-    let o = moduleStride * p.module_count in
+    let o = module_stride * p.module_count in
     let w : List ℕ = 0 ∷ 0 ∷ o % 256 ∷ o / 256 % 256 ∷ p.wires.0 ∷ p.limit ∷ p.bus_count ∷ p.module_count ∷ [] in
     put-number w p.time.0 s.args.b.now s.requires.0 a.put-bytes.ensures n.put-u64.ensures
 

@@ -6,15 +6,15 @@ use Prim.Native.Nat.{◌-◌, ◌≤◌}
 use mathlib.Core.Path.{◌≡◌, ◌∙◌}
 use Rattle.units.specs.Places.{padded}
 use Rattle.little_endian.specs.Rows.{rows}
-use Rattle.little_endian.proofs.RowLaws.{filled_none, filled-step}
-use Rattle.plan_record.specs.Record.{busPlaces, noBus}
-use Rattle.plan_file.specs.Bytes.{busStride}
-use Rattle.plan_file.specs.Files.{busAt}
+use Rattle.little_endian.proofs.RowLaws.{filled_none, filled_step}
+use Rattle.plan_record.specs.Record.{bus_places, no_bus}
+use Rattle.plan_file.specs.Bytes.{bus_stride}
+use Rattle.plan_file.specs.Files.{bus_at}
 use Rattle.plan_file.proofs.read.buses_in.Statement.{statement}
 use Rattle.plan_file.proofs.read.buses_in.Tie as tie
 
 abbrev invariant-loop : tie.invariant-loop
-invariant-loop f from n list₀ i₀ list i = (i ≤ n) × (list ≡ padded busPlaces noBus (rows (busAt f) busStride i from))
+invariant-loop f from n list₀ i₀ list i = (i ≤ n) × (list ≡ padded bus_places no_bus (rows (bus_at f) bus_stride i from))
 
 abbrev decreases-loop : tie.decreases-loop
 decreases-loop f from n list₀ i₀ list i = n - i
@@ -25,7 +25,7 @@ no-bus-requires c κs = search rules
 loop-holds : tie.Need-loop-init invariant-loop decreases-loop
 loop-holds c =
     let a = c.before.before.args in
-    (omega arith, rw c.no-bus.ensures (filled_none busPlaces noBus (busAt a.f.now) busStride a.from))
+    (omega arith, rw c.no-bus.ensures (filled_none bus_places no_bus (bus_at a.f.now) bus_stride a.from))
 
 mul_at : tie.Need-overflow-mul-at invariant-loop decreases-loop
 mul_at c = search rules
@@ -61,7 +61,7 @@ loop-again : tie.Need-loop-preserved invariant-loop decreases-loop
 loop-again c =
     let l = c.before.before.before in
     let a = l.before.before.before.args in
-    let v = filled-step busPlaces noBus _ (busAt a.f.now) busStride l.loop.i a.from in
+    let v = filled_step bus_places no_bus _ (bus_at a.f.now) bus_stride l.loop.i a.from in
     (omega arith, rw l.loop.invariant.1 (v (omega arith) (rw (c.before.figure-at.ensures.0, c.u64-at.ensures))))
 
 returns : tie.Need-returns invariant-loop decreases-loop

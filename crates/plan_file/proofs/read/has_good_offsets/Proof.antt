@@ -1,11 +1,11 @@
--- `plan_file::read::has_good_offsets` meets its contract: its tests are those of `goodOffsets`, in order. Assumes nothing.
+-- `plan_file::read::has_good_offsets` meets its contract: its tests are those of `good_offsets`, in order. Assumes nothing.
 use borrow.Author.Rules.{rules}
 use borrow.Author.Tests.{eq-eqb, ne_eqb}
 use native.Mathlib.Omega.{arith}
 use mathlib.Core.Path.{sym, ap, ◌∙◌}
 use lib.Dec.{eqb}
-use Rattle.units.proofs.TestLaws.{and-stops, and-goes}
-use Rattle.plan_file.specs.Files.{busOffset, goodOffsets}
+use Rattle.units.proofs.TestLaws.{and_stops, and_goes}
+use Rattle.plan_file.specs.Files.{bus_offset, good_offsets}
 use Rattle.plan_file.proofs.ReadLaws.{Fitting, length-fits}
 use Rattle.plan_file.proofs.read.has_good_offsets.Statement.{statement}
 use Rattle.plan_file.proofs.read.has_good_offsets.Tie as tie
@@ -26,8 +26,8 @@ offset-at-requires : tie.Need-offset-at-requires
 offset-at-requires c κs = omega (arith, fits c.before.before)
 
 returns : tie.Need-returns
-unfolding goodOffsets
-returns c = sym (and-stops _ _ (ne_eqb _ _ (λ e. c.if1.true (c.before.offset_at.ensures ∙ e))))
+unfolding good_offsets
+returns c = sym (and_stops _ _ (ne_eqb _ _ (λ e. c.if1.true (c.before.offset_at.ensures ∙ e))))
 
 add-offset-at : tie.Need-overflow-add-offset-at
 add-offset-at c = search rules
@@ -39,12 +39,12 @@ mul-result : tie.Need-overflow-mul-result
 mul-result c = search rules
 
 returns-2 : tie.Need-returns-2
-unfolding goodOffsets
+unfolding good_offsets
 returns-2 c =
     let n = c.before.before.before in
     rw n.figure-at.ensures.0
-    (ap (λ k. eqb k (busOffset n.before.before.args.f.now)) c.offset-at2.ensures
-    ∙ sym (and-goes _ _ (eq-eqb _ _ (sym c.before.before.offset_at.ensures ∙ c.before.if1.false))))
+    (ap (λ k. eqb k (bus_offset n.before.before.args.f.now)) c.offset-at2.ensures
+    ∙ sym (and_goes _ _ (eq-eqb _ _ (sym c.before.before.offset_at.ensures ∙ c.before.if1.false))))
 
 pub has-good-offsets-spec : {M : Type 1} → statement M
 has-good-offsets-spec =

@@ -6,15 +6,15 @@ use Prim.Native.Nat.{◌+◌, ◌-◌, ◌*◌, ◌≤◌}
 use mathlib.Core.Path.{◌≡◌, ◌∙◌}
 use Rattle.units.specs.Places.{padded}
 use Rattle.little_endian.specs.Rows.{rows}
-use Rattle.little_endian.proofs.RowLaws.{filled_none, filled-step}
-use Rattle.plan_record.specs.Record.{modulePlaces, noPlaced}
-use Rattle.plan_file.specs.Bytes.{moduleStride}
-use Rattle.plan_file.specs.Files.{moduleAt}
+use Rattle.little_endian.proofs.RowLaws.{filled_none, filled_step}
+use Rattle.plan_record.specs.Record.{module_places, no_placed}
+use Rattle.plan_file.specs.Bytes.{module_stride}
+use Rattle.plan_file.specs.Files.{module_at}
 use Rattle.plan_file.proofs.read.modules_in.Statement.{statement}
 use Rattle.plan_file.proofs.read.modules_in.Tie as tie
 
 abbrev invariant-loop : tie.invariant-loop
-invariant-loop f n list₀ i₀ list i = (i ≤ n) × (list ≡ padded modulePlaces noPlaced (rows (moduleAt f) moduleStride i 0))
+invariant-loop f n list₀ i₀ list i = (i ≤ n) × (list ≡ padded module_places no_placed (rows (module_at f) module_stride i 0))
 
 abbrev decreases-loop : tie.decreases-loop
 decreases-loop f n list₀ i₀ list i = n - i
@@ -25,7 +25,7 @@ no-placed-requires c κs = search rules
 loop-holds : tie.Need-loop-init invariant-loop decreases-loop
 loop-holds c =
     let a = c.before.before.args in
-    (omega arith, rw c.no-placed.ensures (filled_none modulePlaces noPlaced (moduleAt a.f.now) moduleStride 0))
+    (omega arith, rw c.no-placed.ensures (filled_none module_places no_placed (module_at a.f.now) module_stride 0))
 
 mul_at : tie.Need-overflow-mul-at invariant-loop decreases-loop
 mul_at c = search rules
@@ -80,8 +80,8 @@ loop-again c =
     let n = b.before in
     let l = n.before.before in
     let a = l.before.before.before.args in
-    let e : 0 + moduleStride * l.loop.i ≡ moduleStride * l.loop.i = omega arith in
-    let v = filled-step modulePlaces noPlaced _ (moduleAt a.f.now) moduleStride l.loop.i 0 in
+    let e : 0 + module_stride * l.loop.i ≡ module_stride * l.loop.i = omega arith in
+    let v = filled_step module_places no_placed _ (module_at a.f.now) module_stride l.loop.i 0 in
     let number = n.figure-at.ensures.0 in
     let bus = b.figure-at2.ensures.0 in
     let wires = w.figure-at3.ensures.0 in

@@ -1,6 +1,6 @@
 -- `plan_file::read::offset_at` meets its contract: two bytes, each below 256, make the number. Assumes nothing.
 use borrow.Author.Rules.{rules}
-use Rattle.little_endian.proofs.LittleLaws.{number-two}
+use Rattle.little_endian.proofs.LittleLaws.{number_two}
 use Rattle.plan_file.proofs.read.offset_at.Statement.{statement}
 use Rattle.plan_file.proofs.read.offset_at.Tie as tie
 
@@ -22,7 +22,7 @@ add-result c = search rules
 returns : tie.Need-returns
 returns c =
     let a = c.before.before.before.args in
-    rw (number-two a.f.now a.at, c.before.figure-at.ensures.0, c.figure-at2.ensures.0)
+    rw (number_two a.f.now a.at, c.before.figure-at.ensures.0, c.figure-at2.ensures.0)
 
 pub offset-at-spec : {M : Type 1} → statement M
 offset-at-spec =

@@ -1,7 +1,7 @@
--- `plan_file::read::plan_in` meets its contract: its fields are those of `planIn`, and a good length holds what is read. Assumes nothing.
+-- `plan_file::read::plan_in` meets its contract: its fields are those of `plan_in`, and a good length holds what is read. Assumes nothing.
 use borrow.Author.Rules.{rules}
 use native.Mathlib.Omega.{arith}
-use Rattle.plan_file.specs.Files.{planIn}
+use Rattle.plan_file.specs.Files.{plan_in}
 use Rattle.plan_file.proofs.ReadLaws.{Fitting, length-fits}
 use Rattle.plan_file.proofs.read.plan_in.Statement.{statement}
 use Rattle.plan_file.proofs.read.plan_in.Tie as tie
@@ -63,7 +63,7 @@ u64-at-requires : tie.Need-u64-at-requires
 u64-at-requires c κs = search rules
 
 returns : tie.Need-returns
-unfolding planIn
+unfolding plan_in
 returns c =
     let ms = c.before in
     let bs = ms.before in

@@ -5,28 +5,28 @@ use mathlib.Core.Path.{◌≡◌}
 use native.Mathlib.Omega.{arith}
 use borrow.Author.Rules.{rules}
 use lib.ListN.{length, length-map}
-use Rattle.plan_record.specs.Record.{busPlaces, noBus, busesOf}
+use Rattle.plan_record.specs.Record.{bus_places, no_bus, buses_of}
 use lib.Seq.{length-take-le, get_or-take}
 use Rattle.little_endian.proofs.RowLaws.{Run, run_none}
-use Rattle.plan_file.specs.Bytes.{busStride, busBytes}
+use Rattle.plan_file.specs.Bytes.{bus_stride, bus_bytes}
 use Rattle.plan_file.proofs.FileLaws.{part_room, run_lent, run-front, bus-length}
 use Rattle.plan_file.proofs.write.put_buses.Statement.{statement}
 use Rattle.plan_file.proofs.write.put_buses.Tie as tie
 
 abbrev invariant-loop : tie.invariant-loop
-invariant-loop b₀ p n i₀ b i = (i ≤ n) × Run busBytes busStride (busesOf p) 0 b₀ i b (busStride * i)
+invariant-loop b₀ p n i₀ b i = (i ≤ n) × Run bus_bytes bus_stride (buses_of p) 0 b₀ i b (bus_stride * i)
 
 abbrev decreases-loop : tie.decreases-loop
 decreases-loop b₀ p n i₀ b i = n - i
 
 -- the buses that the record has places for
-len : (s : tie.Start invariant-loop decreases-loop) → length (busesOf s.args.t2) ≡ s.args.t2.bus_count
+len : (s : tie.Start invariant-loop decreases-loop) → length (buses_of s.args.t2) ≡ s.args.t2.bus_count
 len s =
-    let whole : length s.args.t2.buses ≡ busPlaces = simp length-map at s.well-formed.1.0.1.1.1.1.1.0.1.0.1 in
+    let whole : length s.args.t2.buses ≡ bus_places = simp length-map at s.well-formed.1.0.1.1.1.1.1.0.1.0.1 in
     length-take-le s.args.t2.bus_count s.args.t2.buses (omega (arith, s.requires.0.trailer.buses))
 
 loop-holds : tie.Need-loop-init invariant-loop decreases-loop
-loop-holds c = let a = c.before.args in (omega arith, run_none busBytes busStride (busesOf a.t2) 0 a.b.now)
+loop-holds c = let a = c.before.args in (omega arith, run_none bus_bytes bus_stride (buses_of a.t2) 0 a.b.now)
 
 mul-x : tie.Need-overflow-mul-x invariant-loop decreases-loop
 mul-x c = search rules
@@ -51,7 +51,7 @@ put-bus-requires c κs =
     let l = c.before.before.before in
     let s = l.before.before in
     let h : l.loop.i < s.args.t2.bus_count = omega arith in
-    let room = part_room (busStride * l.loop.i) busStride l.loop.b (omega (arith, s.requires.1, l.loop.invariant.1.kept)) in
+    let room = part_room (bus_stride * l.loop.i) bus_stride l.loop.b (omega (arith, s.requires.1, l.loop.invariant.1.kept)) in
     (room, s.requires.0.width l.loop.i h)
 
 add-i : tie.Need-overflow-add-i invariant-loop decreases-loop
@@ -66,9 +66,9 @@ loop-again c =
     let s = l.before.before in
     let i = l.loop.i in
     let h : i < s.args.t2.bus_count = omega arith in
-    let x = get_or-take s.args.t2.bus_count s.args.t2.buses i noBus h in
-    let room : busStride * (i + 1) ≤ length l.loop.b = omega (arith, s.requires.1, l.loop.invariant.1.kept) in
-    (omega arith, run_lent l.loop.invariant.1 noBus bus-length (omega (arith, len s)) x room c.before.before.put-bus.ensures)
+    let x = get_or-take s.args.t2.bus_count s.args.t2.buses i no_bus h in
+    let room : bus_stride * (i + 1) ≤ length l.loop.b = omega (arith, s.requires.1, l.loop.invariant.1.kept) in
+    (omega arith, run_lent l.loop.invariant.1 no_bus bus-length (omega (arith, len s)) x room c.before.before.put-bus.ensures)
 
 same_length : tie.Need-same-length invariant-loop decreases-loop
 same_length c = c.before.loop.invariant.1.kept

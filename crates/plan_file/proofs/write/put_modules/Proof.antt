@@ -5,28 +5,28 @@ use mathlib.Core.Path.{◌≡◌}
 use native.Mathlib.Omega.{arith}
 use borrow.Author.Rules.{rules}
 use lib.ListN.{length, length-map}
-use Rattle.plan_record.specs.Record.{modulePlaces, noPlaced, modulesOf}
+use Rattle.plan_record.specs.Record.{module_places, no_placed, modules_of}
 use lib.Seq.{length-take-le, get_or-take}
 use Rattle.little_endian.proofs.RowLaws.{Run, run_none}
-use Rattle.plan_file.specs.Bytes.{moduleStride, moduleBytes}
-use Rattle.plan_file.proofs.FileLaws.{part_room, run_lent, run-front, module-length}
+use Rattle.plan_file.specs.Bytes.{module_stride, module_bytes}
+use Rattle.plan_file.proofs.FileLaws.{part_room, run_lent, run-front, module_length_lem}
 use Rattle.plan_file.proofs.write.put_modules.Statement.{statement}
 use Rattle.plan_file.proofs.write.put_modules.Tie as tie
 
 abbrev invariant-loop : tie.invariant-loop
-invariant-loop b₀ p n i₀ b i = (i ≤ n) × Run moduleBytes moduleStride (modulesOf p) 0 b₀ i b (moduleStride * i)
+invariant-loop b₀ p n i₀ b i = (i ≤ n) × Run module_bytes module_stride (modules_of p) 0 b₀ i b (module_stride * i)
 
 abbrev decreases-loop : tie.decreases-loop
 decreases-loop b₀ p n i₀ b i = n - i
 
 -- the modules that the record has places for
-len : (s : tie.Start invariant-loop decreases-loop) → length (modulesOf s.args.t2) ≡ s.args.t2.module_count
+len : (s : tie.Start invariant-loop decreases-loop) → length (modules_of s.args.t2) ≡ s.args.t2.module_count
 len s =
-    let whole : length s.args.t2.modules ≡ modulePlaces = simp length-map at s.well-formed.1.0.1.1.1.1.1.1.1.0.1.0.1 in
+    let whole : length s.args.t2.modules ≡ module_places = simp length-map at s.well-formed.1.0.1.1.1.1.1.1.1.0.1.0.1 in
     length-take-le s.args.t2.module_count s.args.t2.modules (omega (arith, s.requires.0.trailer.modules))
 
 loop-holds : tie.Need-loop-init invariant-loop decreases-loop
-loop-holds c = let a = c.before.args in (omega arith, run_none moduleBytes moduleStride (modulesOf a.t2) 0 a.b.now)
+loop-holds c = let a = c.before.args in (omega arith, run_none module_bytes module_stride (modules_of a.t2) 0 a.b.now)
 
 mul-m : tie.Need-overflow-mul-m invariant-loop decreases-loop
 mul-m c = search rules
@@ -51,7 +51,7 @@ put-module-requires c κs =
     let l = c.before.before.before in
     let s = l.before.before in
     let h : l.loop.i < s.args.t2.module_count = omega arith in
-    let room = part_room (moduleStride * l.loop.i) moduleStride l.loop.b (omega (arith, s.requires.1, l.loop.invariant.1.kept)) in
+    let room = part_room (module_stride * l.loop.i) module_stride l.loop.b (omega (arith, s.requires.1, l.loop.invariant.1.kept)) in
     (room, s.requires.0.placed l.loop.i h)
 
 add-i : tie.Need-overflow-add-i invariant-loop decreases-loop
@@ -66,9 +66,9 @@ loop-again c =
     let s = l.before.before in
     let i = l.loop.i in
     let h : i < s.args.t2.module_count = omega arith in
-    let x = get_or-take s.args.t2.module_count s.args.t2.modules i noPlaced h in
-    let room : moduleStride * (i + 1) ≤ length l.loop.b = omega (arith, s.requires.1, l.loop.invariant.1.kept) in
-    (omega arith, run_lent l.loop.invariant.1 noPlaced module-length (omega (arith, len s)) x room c.before.before.put-module.ensures)
+    let x = get_or-take s.args.t2.module_count s.args.t2.modules i no_placed h in
+    let room : module_stride * (i + 1) ≤ length l.loop.b = omega (arith, s.requires.1, l.loop.invariant.1.kept) in
+    (omega arith, run_lent l.loop.invariant.1 no_placed module_length_lem (omega (arith, len s)) x room c.before.before.put-module.ensures)
 
 same_length : tie.Need-same-length invariant-loop decreases-loop
 same_length c = c.before.loop.invariant.1.kept

@@ -6,16 +6,16 @@ use native.Mathlib.Omega.{arith}
 use borrow.Author.Rules.{rules}
 use borrow.Author.Tests.{not-true, not-false}
 use lib.ListN.{length, length-map}
-use Rattle.plan_record.specs.Good.{goodPlan}
+use Rattle.plan_record.specs.Good.{good_plan}
 use Rattle.plan_record.specs.Whole.{Whole}
-use Rattle.plan_file.specs.Bytes.{fileLength, fileBytes}
+use Rattle.plan_file.specs.Bytes.{file_length, file_bytes}
 use Rattle.plan_record.proofs.GoodPlanLaws.{good-figures}
-use Rattle.plan_file.proofs.FileLaws.{good-small, file-length, write-bad, write-short, write-whole}
+use Rattle.plan_file.proofs.FileLaws.{good-small, file-length, write_bad, write_short, write_whole}
 use Rattle.plan_file.proofs.write.write_plan.Statement.{statement}
 use Rattle.plan_file.proofs.write.write_plan.Tie as tie
 
 -- a plan that is not refused is good, and its arrays have all their places
-good : (e : tie.Else1) → goodPlan e.before.before.before.args.p ≡ true
+good : (e : tie.Else1) → good_plan e.before.before.before.args.p ≡ true
 good e = sym e.before.is-good-plan.ensures ∙ not-false _ e.if1.false
 
 whole : (s : tie.Start) → Whole s.args.p
@@ -27,7 +27,7 @@ whole s =
 
 len-file : (e : tie.Else1) →
     let p = e.before.before.before.args.p in
-    length (fileBytes p) ≡ fileLength p.module_count p.bus_count
+    length (file_bytes p) ≡ file_length p.module_count p.bus_count
 len-file e = let s = e.before.before.before in file-length s.args.p (whole s) (good e)
 
 is-good-plan-requires : tie.Need-is-good-plan-requires
@@ -40,7 +40,7 @@ returns : tie.Need-returns
 returns c =
     let s = c.before.before.before.before in
     let bad = sym c.before.before.is-good-plan.ensures ∙ not-true _ c.before.if1.true in
-    let w = write-bad s.args.p s.args.buf.now bad in
+    let w = write_bad s.args.p s.args.buf.now bad in
     (c.refused-write.ensures ∙ w.0, w.1)
 
 mul-n : tie.Need-overflow-mul-n
@@ -62,7 +62,7 @@ returns-2 : tie.Need-returns-2
 returns-2 c =
     let e = c.before.before.before.before in
     let s = e.before.before.before in
-    let w = write-short s.args.p s.args.buf.now (good e) (omega (arith, len-file e, c.before.if2.true)) in
+    let w = write_short s.args.p s.args.buf.now (good e) (omega (arith, len-file e, c.before.if2.true)) in
     (c.refused-write2.ensures ∙ w.0, w.1)
 
 put-file-requires : tie.Need-put-file-requires
@@ -81,7 +81,7 @@ returns-3 c =
     let e = c.before.before.before.before.before.before.before.before in
     let s = e.before.before.before in
     let room = c.before.before.before.before.before.if2.false in
-    let w = write-whole s.args.p s.args.buf.now (good e) (omega (arith, len-file e, room)) in
+    let w = write_whole s.args.p s.args.buf.now (good e) (omega (arith, len-file e, room)) in
     (rw (c.none.ensures, ← len-file e) w.0, c.before.before.before.put-file.ensures ∙ w.1)
 
 pub write-plan-spec : {M : Type 1} → statement M

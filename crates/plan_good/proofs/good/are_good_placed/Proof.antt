@@ -8,19 +8,19 @@ use mathlib.Core.Logic.{inl}
 use native.Mathlib.Omega.{arith}
 use lib.ListN.{length, length-map, take, drop}
 use Rattle.units.specs.Places.{all_of}
-use Rattle.units.proofs.PlaceLaws.{all-front-step, all-front-fails, all-front-end}
-use Rattle.plan_record.specs.Record.{modulePlaces, noPlaced}
-use Rattle.plan_record.specs.Good.{goodPlaced}
+use Rattle.units.proofs.PlaceLaws.{all-front_step, all-front_fails, all-front-end}
+use Rattle.plan_record.specs.Record.{module_places, no_placed}
+use Rattle.plan_record.specs.Good.{good_placed}
 use Rattle.plan_good.proofs.good.are_good_placed.Statement.{statement}
 use Rattle.plan_good.proofs.good.are_good_placed.Tie as tie
 
 abbrev invariant-loop : tie.invariant-loop
-invariant-loop p n i₀ i = (i ≤ n) × (all_of (goodPlaced p) (take n p.modules) ≡ all_of (goodPlaced p) (drop i (take n p.modules)))
+invariant-loop p n i₀ i = (i ≤ n) × (all_of (good_placed p) (take n p.modules) ≡ all_of (good_placed p) (drop i (take n p.modules)))
 
 abbrev decreases-loop : tie.decreases-loop
 decreases-loop p n i₀ i = n - i
 
-len : (c : tie.Start invariant-loop decreases-loop) → length c.args.t1.modules ≡ modulePlaces
+len : (c : tie.Start invariant-loop decreases-loop) → length c.args.t1.modules ≡ module_places
 len c = simp length-map at c.well-formed.0.1.1.1.1.1.1.1.0.1.0.1
 
 loop-holds : tie.Need-loop-init invariant-loop decreases-loop
@@ -40,7 +40,7 @@ returns c =
     let l = c.before.before.before.before in
     let p = l.before.args.t1 in
     sym (l.loop.invariant.1
-    ∙ all-front-fails (goodPlaced p) p.module_count p.modules l.loop.i noPlaced (omega arith) (omega (arith, len l.before)) (sym c.before.is-good-placed.ensures ∙ not-true _ c.if1.true))
+    ∙ all-front_fails (good_placed p) p.module_count p.modules l.loop.i no_placed (omega arith) (omega (arith, len l.before)) (sym c.before.is-good-placed.ensures ∙ not-true _ c.if1.true))
 
 add-i : tie.Need-overflow-add-i invariant-loop decreases-loop
 add-i c = search rules
@@ -54,14 +54,14 @@ loop-again c =
     let p = l.before.args.t1 in (
       omega arith,
       l.loop.invariant.1
-          ∙ all-front-step (goodPlaced p) p.module_count p.modules l.loop.i noPlaced (omega arith) (omega (arith, len l.before)) (sym c.before.is-good-placed.ensures ∙ not-false _ c.if1.false),
+          ∙ all-front_step (good_placed p) p.module_count p.modules l.loop.i no_placed (omega arith) (omega (arith, len l.before)) (sym c.before.is-good-placed.ensures ∙ not-false _ c.if1.false),
     )
 
 returns-2 : tie.Need-returns-2 invariant-loop decreases-loop
 returns-2 c =
     let l = c.before in
     let p = l.before.args.t1 in
-    sym (l.loop.invariant.1 ∙ all-front-end (goodPlaced p) p.module_count p.modules l.loop.i (inl c.loop-test.false))
+    sym (l.loop.invariant.1 ∙ all-front-end (good_placed p) p.module_count p.modules l.loop.i (inl c.loop-test.false))
 
 pub are-good-placed-spec : {M : Type 1} → statement M
 are-good-placed-spec =

@@ -7,19 +7,19 @@ use mathlib.Core.Path.{◌≡◌, refl, sym, ◌∙◌}
 use native.Mathlib.Omega.{arith}
 use lib.ListN.{length, length-map, drop}
 use Rattle.units.specs.Places.{all_of}
-use Rattle.units.proofs.PlaceLaws.{all-step, all-fails, all_end}
-use Rattle.plan_record.specs.Record.{modulePlaces, noPlaced}
-use Rattle.plan_record.specs.Good.{sparePlaced}
+use Rattle.units.proofs.PlaceLaws.{all_step, all_fails, all_end}
+use Rattle.plan_record.specs.Record.{module_places, no_placed}
+use Rattle.plan_record.specs.Good.{spare_placed}
 use Rattle.plan_good.proofs.good.are_spare_placed.Statement.{statement}
 use Rattle.plan_good.proofs.good.are_spare_placed.Tie as tie
 
 abbrev invariant-loop : tie.invariant-loop
-invariant-loop n p i₀ i = (i ≤ modulePlaces) × (all_of sparePlaced (drop n p.modules) ≡ all_of sparePlaced (drop i p.modules))
+invariant-loop n p i₀ i = (i ≤ module_places) × (all_of spare_placed (drop n p.modules) ≡ all_of spare_placed (drop i p.modules))
 
 abbrev decreases-loop : tie.decreases-loop
-decreases-loop n p i₀ i = modulePlaces - i
+decreases-loop n p i₀ i = module_places - i
 
-len : (c : tie.Start invariant-loop decreases-loop) → length c.args.t1.modules ≡ modulePlaces
+len : (c : tie.Start invariant-loop decreases-loop) → length c.args.t1.modules ≡ module_places
 len c = simp length-map at c.well-formed.0.1.1.1.1.1.1.1.0.1.0.1
 
 loop-holds : tie.Need-loop-init invariant-loop decreases-loop
@@ -38,7 +38,7 @@ returns : tie.Need-returns invariant-loop decreases-loop
 returns c =
     let l = c.before.before.before.before in
     sym (l.loop.invariant.1
-    ∙ all-fails sparePlaced l.before.args.t1.modules l.loop.i noPlaced (omega (arith, len l.before)) (sym c.before.is-spare-placed.ensures ∙ not-true _ c.if1.true))
+    ∙ all_fails spare_placed l.before.args.t1.modules l.loop.i no_placed (omega (arith, len l.before)) (sym c.before.is-spare-placed.ensures ∙ not-true _ c.if1.true))
 
 add-i : tie.Need-overflow-add-i invariant-loop decreases-loop
 add-i c = search rules
@@ -51,13 +51,13 @@ loop-again c =
     let l = c.before.before.before.before in (
       omega arith,
       l.loop.invariant.1
-          ∙ all-step sparePlaced l.before.args.t1.modules l.loop.i noPlaced (omega (arith, len l.before)) (sym c.before.is-spare-placed.ensures ∙ not-false _ c.if1.false),
+          ∙ all_step spare_placed l.before.args.t1.modules l.loop.i no_placed (omega (arith, len l.before)) (sym c.before.is-spare-placed.ensures ∙ not-false _ c.if1.false),
     )
 
 returns-2 : tie.Need-returns-2 invariant-loop decreases-loop
 returns-2 c =
     let l = c.before in
-    sym (l.loop.invariant.1 ∙ all_end sparePlaced l.before.args.t1.modules l.loop.i (omega (arith, len l.before)))
+    sym (l.loop.invariant.1 ∙ all_end spare_placed l.before.args.t1.modules l.loop.i (omega (arith, len l.before)))
 
 pub are-spare-placed-spec : {M : Type 1} → statement M
 are-spare-placed-spec =

@@ -8,28 +8,28 @@ use mathlib.Core.Bool.{◌&&◌}
 use native.Mathlib.Omega.{arith}
 use lib.ListN.{length, length-map, get_or, take, drop}
 use lib.Dec.{leb}
-use Rattle.units.proofs.TestLaws.{and-stops, and-goes}
-use Rattle.plan_record.specs.Record.{busPlaces, noBus, busesOf, widthsOf}
-use Rattle.plan_record.specs.Good.{risingFrom}
+use Rattle.units.proofs.TestLaws.{and_stops, and_goes}
+use Rattle.plan_record.specs.Record.{bus_places, no_bus, buses_of, widths_of}
+use Rattle.plan_record.specs.Good.{rising_from}
 use Rattle.plan_record.proofs.GoodPlanLaws.{front-none, rising_step}
 use Rattle.plan_good.proofs.good.is_rising.Statement.{statement}
 use Rattle.plan_good.proofs.good.is_rising.Tie as tie
 
 abbrev invariant-loop : tie.invariant-loop
-invariant-loop p n low₀ i₀ low i = (i ≤ n) × (risingFrom 1 (widthsOf (take n p.buses)) ≡ risingFrom low (widthsOf (drop i (take n p.buses))))
+invariant-loop p n low₀ i₀ low i = (i ≤ n) × (rising_from 1 (widths_of (take n p.buses)) ≡ rising_from low (widths_of (drop i (take n p.buses))))
 
 abbrev decreases-loop : tie.decreases-loop
 decreases-loop p n low₀ i₀ low i = n - i
 
-len : (c : tie.Start invariant-loop decreases-loop) → length c.args.t1.buses ≡ busPlaces
+len : (c : tie.Start invariant-loop decreases-loop) → length c.args.t1.buses ≡ bus_places
 len c = simp length-map at c.well-formed.0.1.1.1.1.1.0.1.0.1
 
 -- what is left to decide in a turn
 turn : (c : tie.In-loop invariant-loop decreases-loop) →
     let l = c.before in
     let p = l.before.args.t1 in
-    let w = (get_or p.buses l.loop.i noBus).width.0 in
-    risingFrom 1 (widthsOf (busesOf p)) ≡ (leb l.loop.low w && risingFrom w (widthsOf (drop (l.loop.i + 1) (busesOf p))))
+    let w = (get_or p.buses l.loop.i no_bus).width.0 in
+    rising_from 1 (widths_of (buses_of p)) ≡ (leb l.loop.low w && rising_from w (widths_of (drop (l.loop.i + 1) (buses_of p))))
 turn c =
     let l = c.before in
     let p = l.before.args.t1 in
@@ -45,7 +45,7 @@ element-copy-out-b : tie.Need-element-copy-out-b invariant-loop decreases-loop
 element-copy-out-b c = search rules
 
 returns : tie.Need-returns invariant-loop decreases-loop
-returns c = sym (turn c.before.before.before ∙ and-stops _ _ (lt-leb _ _ c.if1.true))
+returns c = sym (turn c.before.before.before ∙ and_stops _ _ (lt-leb _ _ c.if1.true))
 
 add-i : tie.Need-overflow-add-i invariant-loop decreases-loop
 add-i c = search rules
@@ -54,10 +54,10 @@ loop-less : tie.Need-loop-smaller invariant-loop decreases-loop
 loop-less c = omega arith
 
 loop-again : tie.Need-loop-preserved invariant-loop decreases-loop
-loop-again c = (omega arith, turn c.before.before.before ∙ and-goes _ _ (le-leb _ _ c.if1.false))
+loop-again c = (omega arith, turn c.before.before.before ∙ and_goes _ _ (le-leb _ _ c.if1.false))
 
 returns-2 : tie.Need-returns-2 invariant-loop decreases-loop
-unfolding risingFrom
+unfolding rising_from
 returns-2 c =
     let l = c.before in
     let p = l.before.args.t1 in

@@ -8,18 +8,18 @@ use mathlib.Core.Bool.{true, false}
 use lib.ListN.{length, replicate, length-replicate}
 use lib.Seq.{length-take-le}
 use Rattle.buffer.proofs.PutLaws.{front-within, front-text}
-use Rattle.plan_record.specs.Good.{goodPlan}
+use Rattle.plan_record.specs.Good.{good_plan}
 use Rattle.plan_record.proofs.GoodPlanLaws.{good-figures}
-use Rattle.listing.specs.Listing.{listingMax, showAnswer, showLeaves}
-use Rattle.listing.specs.Room.{planRoom}
+use Rattle.listing.specs.Listing.{listing_max, show_answer, show_leaves}
+use Rattle.listing.specs.Room.{plan_room}
 use Rattle.plan_lines.proofs.shown.show.Statement.{statement}
 use Rattle.plan_lines.proofs.shown.show.Tie as tie
 
 -- the form's buffer is long enough
-long : (z : ℕ) → planRoom ≤ length (replicate listingMax z)
+long : (z : ℕ) → plan_room ≤ length (replicate listing_max z)
 long z = rw length-replicate (omega arith)
 
-good : (c : tie.Else1) → goodPlan c.before.before.before.args.p ≡ true
+good : (c : tie.Else1) → good_plan c.before.before.before.args.p ≡ true
 good c = sym c.before.is-good-plan.ensures ∙ not-false _ c.if1.false
 
 is-good-plan-requires : tie.Need-is-good-plan-requires
@@ -29,10 +29,10 @@ refused-write-requires : tie.Need-refused-write-requires
 refused-write-requires c κs = search rules
 
 returns : tie.Need-returns
-unfolding showAnswer showLeaves
+unfolding show_answer show_leaves
 returns c =
     let t = c.before in
-    let e : goodPlan t.before.before.before.args.p ≡ false = sym t.before.is-good-plan.ensures ∙ not-true _ t.if1.true in
+    let e : good_plan t.before.before.before.args.p ≡ false = sym t.before.is-good-plan.ensures ∙ not-true _ t.if1.true in
     (c.refused-write.ensures ∙ simp e, simp e)
 
 slice-aggregate-put-shown : tie.Need-slice-aggregate-put-shown
@@ -56,7 +56,7 @@ same_length : tie.Need-same-length
 same_length c = search rules
 
 returns-2 : tie.Need-returns-2
-unfolding showAnswer showLeaves
+unfolding show_answer show_leaves
 returns-2 c =
     let w = c.before.before in
     let k = w.before.before.before.before in

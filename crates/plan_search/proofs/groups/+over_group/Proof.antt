@@ -10,8 +10,8 @@ use lib.ListN.{length, take, set, length-set}
 use borrow.Author.Tests.{not-true}
 use lib.Seq.{take-take, take-set-le}
 use Rattle.plan_search.specs.Lists.{group, Group}
-use Rattle.plan_search.proofs.GroupLaws.{high-left, group-as, wide-front, wide-widths, group-none, group-split, group-next, group-one, last-widths, group-last, group-lower, group-upper}
-use Rattle.plan_search.proofs.SoughtLaws.{sought-none, sought-append, sought-le, sought-as, sought-rooms}
+use Rattle.plan_search.proofs.GroupLaws.{high-left, group_as, wide-front, wide-widths, group-none, group_split, group-next, group-one, last-widths, group-last, group-lower, group_upper}
+use Rattle.plan_search.proofs.SoughtLaws.{sought-none, sought-append, sought_le, sought_as, sought-rooms}
 use borrow.Fn.Kinds.{In}
 use borrow.Fn.PlainCycle.{Measures, is, falls, and}
 use Rattle.plan_search.proofs.groups.over_group.Reads as reads
@@ -99,7 +99,7 @@ returns t c =
     let s = c.before.before.before.before.before.before.before.before.before in
     let a = s.args in
     let e : suc a.at ≡ length a.widths.now = omega (arith, c.before.before.before.before.before.if1.true) in
-    (take-set-le a.at a.widths.now a.at a.left.0 (omega arith), sought-as (group-last s.requires.1.2 e) c.before.before.on-widths.ensures)
+    (take-set-le a.at a.widths.now a.at a.left.0 (omega arith), sought_as (group-last s.requires.1.2 e) c.before.before.on-widths.ensures)
 
 mul-widths-2 : (t : ℕ) → lts.Need-overflow-mul-widths-2 (calls t) (pre t) reads.Post
 mul-widths-2 t c =
@@ -167,7 +167,7 @@ returns-2 t c =
     let h : group (take a.at a.widths.now) (length a.widths.now - (a.at + 1)) a.low.0 a.high.0 a.left.0
     ≡ group (take a.at a.widths.now) (length a.widths.now - (a.at + 1)) a.low.0 a.low.0 a.left.0 = rw e in (
       front_same a.widths.now o.new.1.1.1.1.1.1.0 a.at a.low.0 o.ensures.0,
-      sought-as (h ∙ group-one (single t c.before.before.before.before.before.before.before.before.before.before) (less t c.before.before.before.before.before.before.before.before.before.before.before.before.before)) o.ensures.1,
+      sought_as (h ∙ group-one (single t c.before.before.before.before.before.before.before.before.before.before) (less t c.before.before.before.before.before.before.before.before.before.before.before.before.before)) o.ensures.1,
     )
 
 widen-requires : (t : ℕ) → lts.Need-widen-requires (calls t) (pre t) reads.Post
@@ -225,8 +225,8 @@ over-group-requires-3 t c κs =
       d,
       (
         s.requires.1.0,
-        omega (arith, s.requires.1.1, sought-le _ o.ensures.1),
-        group-upper g (less t c.before.before.before.before.before.before.before.before.before.before.before.before.before.before.before.before.before.before.before.before.before) c.before.before.before.before.before.before.before.before.before.before.before.before.before.before.before.before.before.before.if2.false n (o.ensures.0 ∙ rw w.ensures (wide-front g)),
+        omega (arith, s.requires.1.1, sought_le _ o.ensures.1),
+        group_upper g (less t c.before.before.before.before.before.before.before.before.before.before.before.before.before.before.before.before.before.before.before.before.before) c.before.before.before.before.before.before.before.before.before.before.before.before.before.before.before.before.before.before.if2.false n (o.ensures.0 ∙ rw w.ensures (wide-front g)),
         sought-rooms _ s.requires.1.3 n o.ensures.1,
       ),
     )
@@ -255,10 +255,10 @@ returns-4 t c =
     let n = w.auto.0 in
     let p : a.low.0 < a.high.0 = omega (arith, g.upward, c.before.before.before.before.before.before.before.before.before.before.before.before.before.before.before.before.before.before.before.before.before.before.before.if2.false) in (
       q.ensures.0 ∙ o.ensures.0 ∙ front,
-      sought-as (group-split (take a.at ws) (length ws - (a.at + 1)) a.low.0 middle a.high.0 a.left.0 (omega arith) (omega arith))
+      sought_as (group_split (take a.at ws) (length ws - (a.at + 1)) a.low.0 middle a.high.0 a.left.0 (omega arith) (omega arith))
           (sought-append _ _
-          (sought-as (group-as ws vs a.at a.low.0 middle a.left.0 front n) o.ensures.1)
-          (sought-as (group-as ws us a.at (middle + 1) a.high.0 a.left.0 (o.ensures.0 ∙ front) (o.auto.1.1.1.1.1.1.0 ∙ n)) q.ensures.1)),
+          (sought_as (group_as ws vs a.at a.low.0 middle a.left.0 front n) o.ensures.1)
+          (sought_as (group_as ws us a.at (middle + 1) a.high.0 a.left.0 (o.ensures.0 ∙ front) (o.auto.1.1.1.1.1.1.0 ∙ n)) q.ensures.1)),
     )
 
 pub +over-group-spec : {M : Type 1} → statement M

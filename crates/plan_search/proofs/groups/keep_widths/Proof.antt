@@ -6,7 +6,7 @@ use Prim.Native.Nat.{◌+◌, ◌-◌, ◌<◌}
 use mathlib.Core.Path.{◌∙◌}
 use lib.ListN.{length, set, length-set}
 use lib.Seq.{get_or-set_same, drop-set-lt}
-use Rattle.plan_search.proofs.CopyLaws.{Copied, copied-first, copied_more, copied_all, over-behind}
+use Rattle.plan_search.proofs.CopyLaws.{Copied, copied_first, copied_more, copied_all, over-behind}
 use Rattle.plan_search.proofs.groups.keep_widths.Statement.{statement}
 use Rattle.plan_search.proofs.groups.keep_widths.Tie as tie
 
@@ -26,7 +26,7 @@ loop-holds : tie.Need-loop-init invariant-loop decreases-loop
 loop-holds c =
     let found₀ = set c.args.found.now 0 (length c.args.widths.now) in
     let r : length c.args.widths.now < length found₀ = rw length-set c.requires.1 in
-    (r, copied-first c.args.widths.now found₀ 1 (omega arith))
+    (r, copied_first c.args.widths.now found₀ 1 (omega arith))
 
 mul-found : tie.Need-overflow-mul-found invariant-loop decreases-loop
 mul-found c = search rules

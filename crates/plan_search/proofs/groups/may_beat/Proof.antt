@@ -2,9 +2,9 @@
 use borrow.Author.Rules.{rules}
 use native.Mathlib.Omega.{arith}
 use borrow.Author.Tests.{ltb-false}
-use Rattle.plan_rules.specs.Plans.{timeOf}
-use Rattle.plan_rules.proofs.FirstLaws.{least-le}
-use Rattle.plan_search.specs.Search.{tableTime}
+use Rattle.plan_rules.specs.Plans.{time_of}
+use Rattle.plan_rules.proofs.FirstLaws.{least_le}
+use Rattle.plan_search.specs.Search.{table_time}
 use Rattle.plan_search.proofs.SoughtLaws.{not_found}
 use Rattle.plan_search.proofs.groups.may_beat.Statement.{statement}
 use Rattle.plan_search.proofs.groups.may_beat.Tie as tie
@@ -12,7 +12,7 @@ use Rattle.plan_search.proofs.groups.may_beat.Tie as tie
 returns : tie.Need-returns
 returns c =
     let s = c.before.before.before.before in
-    λ e. omega (arith, c.if1.true, least-le (timeOf (tableTime s.args.table.now)) s.args.n s.args.widths.now s.args.best.0)
+    λ e. omega (arith, c.if1.true, least_le (time_of (table_time s.args.table.now)) s.args.n s.args.widths.now s.args.best.0)
 
 sub-t7 : tie.Need-overflow-sub-t7
 sub-t7 c = search rules

@@ -1,7 +1,7 @@
 -- `groups::on_widths` meets its contract: what `least_on` answers is the least time on the widths (`found-exact`), and they are kept
 -- where it is less. Assumes nothing.
 use borrow.Author.Rules.{rules}
-use Rattle.plan_search.proofs.SoughtLaws.{found-exact, sought-less, sought-same}
+use Rattle.plan_search.proofs.SoughtLaws.{found-exact, sought_less, sought-same}
 use Rattle.plan_search.proofs.groups.on_widths.Statement.{statement}
 use Rattle.plan_search.proofs.groups.on_widths.Tie as tie
 
@@ -22,7 +22,7 @@ returns : tie.Need-returns
 returns c =
     let s = c.before.before.before.before.before.before.before.before.before.before.before in
     let k = c.before.before.keep-widths in
-    sought-less s.requires.3 (found-exact c.before.before.before.before.before.before.before.least_on.ensures) k.new.1.0 c.before.before.before.before.if1.true k.ensures
+    sought_less s.requires.3 (found-exact c.before.before.before.before.before.before.before.least_on.ensures) k.new.1.0 c.before.before.before.before.if1.true k.ensures
 
 returns-2 : tie.Need-returns-2
 returns-2 c =

@@ -5,7 +5,7 @@ use native.Mathlib.Omega.{arith}
 use Prim.Native.Nat.{◌-◌}
 use mathlib.Core.Path.{◌∙◌}
 use lib.ListN.{length, length-set}
-use Rattle.plan_search.proofs.GroupLaws.{high-left, Widened, widened-first, widened-less, widened-next, widened-all, widened-wide}
+use Rattle.plan_search.proofs.GroupLaws.{high-left, Widened, widened-first, widened_less, widened-next, widened-all, widened-wide}
 use Rattle.plan_search.proofs.groups.widen.Statement.{statement}
 use Rattle.plan_search.proofs.groups.widen.Tie as tie
 
@@ -52,7 +52,7 @@ sub-left-2 : tie.Need-overflow-sub-left-2 invariant-loop decreases-loop
 sub-left-2 c =
     let s = c.before.before.before.before.before in
     let l = c.before.before.loop in
-    omega (arith, widened-less l.invariant (rw length-set c.before.loop-test.true))
+    omega (arith, widened_less l.invariant (rw length-set c.before.loop-test.true))
 
 add-j-2 : tie.Need-overflow-add-j-2 invariant-loop decreases-loop
 add-j-2 c = let s = c.before.before.before.before.before in omega (arith, s.requires.few, c.before.loop-test.true)

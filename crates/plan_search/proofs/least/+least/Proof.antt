@@ -8,7 +8,7 @@ use mathlib.Core.Path.{◌≡◌, refl, ap, ◌∙◌}
 use mathlib.Core.List.{List}
 use lib.ListN.{length, get_or, length-set}
 use Rattle.plan_rules.proofs.FromLaws.{at_sum}
-use Rattle.plan_search.proofs.LeastLaws.{product-fits, Left, rest-most, out-top, out-load, out-end, left-start, time-in, left_end, loads-next, left-tried, left-enough, loads-back}
+use Rattle.plan_search.proofs.LeastLaws.{product_fits, Left, rest-most, out_top, out_load, out_end, left-start, time_in_lem, left_end, loads_next, left-tried, left_enough, loads_back}
 use borrow.Fn.Kinds.{In}
 use borrow.Fn.PlainCycle.{Measures, is, falls, and}
 use Rattle.plan_search.proofs.least.least.Reads as reads
@@ -58,12 +58,12 @@ less t l = omega (arith, (start t l).requires.1.2, l.before.if3.false)
 returns : (t : ℕ) → lts.Need-returns (calls t) (pre t) reads.Post invariant-loop decreases-loop
 returns t c =
     let s = c.before.before.before.before.before.before.before in
-    (refl, out-top s.requires.1.0 s.requires.1.1 s.requires.1.2 c.if1.true)
+    (refl, out_top s.requires.1.0 s.requires.1.1 s.requires.1.2 c.if1.true)
 
 mul-if2 : (t : ℕ) → lts.Need-overflow-mul-if2 (calls t) (pre t) reads.Post invariant-loop decreases-loop
 mul-if2 t c =
     let s = c.before.before.before.before.before.before.before.before in
-    omega (arith, product-fits (length s.args.widths.now) s.args.best.0 s.requires.1.0.widths.few s.requires.1.3)
+    omega (arith, product_fits (length s.args.widths.now) s.args.best.0 s.requires.1.0.widths.few s.requires.1.3)
 
 mul-if2-2 : (t : ℕ) → lts.Need-overflow-mul-if2-2 (calls t) (pre t) reads.Post invariant-loop decreases-loop
 mul-if2-2 t c = search rules
@@ -84,7 +84,7 @@ add-if2-2 t c =
 returns-2 : (t : ℕ) → lts.Need-returns-2 (calls t) (pre t) reads.Post invariant-loop decreases-loop
 returns-2 t c =
     let s = c.before.before.before.before.before.before.before.before.before.before.before in
-    (refl, out-load s.requires.1.0 s.requires.1.1 s.requires.1.2 c.if2.true)
+    (refl, out_load s.requires.1.0 s.requires.1.1 s.requires.1.2 c.if2.true)
 
 add-if3 : (t : ℕ) → lts.Need-overflow-add-if3 (calls t) (pre t) reads.Post invariant-loop decreases-loop
 add-if3 t c = search rules
@@ -92,7 +92,7 @@ add-if3 t c = search rules
 returns-3 : (t : ℕ) → lts.Need-returns-3 (calls t) (pre t) reads.Post invariant-loop decreases-loop
 returns-3 t c =
     let s = c.before.before.before.before.before.before.before.before.before.before.before.before in
-    (refl, out-end s.requires.1.0 s.requires.1.1 s.requires.1.2 c.before.before.before.before.before.if1.false c.if3.true)
+    (refl, out_end s.requires.1.0 s.requires.1.1 s.requires.1.2 c.before.before.before.before.before.if1.false c.if3.true)
 
 loop-holds : (t : ℕ) → lts.Need-loop-init (calls t) (pre t) reads.Post invariant-loop decreases-loop
 loop-holds t c =
@@ -109,7 +109,7 @@ time-at-requires : (t : ℕ) → lts.Need-time-at-requires (calls t) (pre t) rea
 time-at-requires t c κs =
     let l = c.before.before in
     let s = start t l in
-    time-in s.pre.1.0 s.pre.1.1 s.pre.1.2 (less t l) l.loop.b c.before.loop-test.true
+    time_in_lem s.pre.1.0 s.pre.1.1 s.pre.1.2 (less t l) l.loop.b c.before.loop-test.true
 
 mul-old : (t : ℕ) → lts.Need-overflow-mul-old (calls t) (pre t) reads.Post invariant-loop decreases-loop
 mul-old t c = search rules
@@ -173,7 +173,7 @@ least-requires t c κs =
       m,
       (
         s.pre.1.0,
-        loads-next s.pre.1.0 s.pre.1.1 s.pre.1.2 (less t l) l.loop.invariant c.before.before.before.before.before.before.before.before.loop-test.true
+        loads_next s.pre.1.0 s.pre.1.1 s.pre.1.2 (less t l) l.loop.invariant c.before.before.before.before.before.before.before.before.loop-test.true
             c.before.before.before.before.before.before.time-at.ensures refl c.before.before.before.larger.ensures,
         omega (arith, less t l),
         l.loop.invariant.small,
@@ -198,7 +198,7 @@ same_length t c =
     let l = c.before.before.before.before.before.before.before.before.before.before.before.before.before.before.before in
     let s = start t l in
     let k = c.before.before.before.before.before.least in
-    ap (λ (v : List ℕ). length v) (loads-back s.pre.1.0 s.pre.1.1 s.pre.1.2 (less t l) l.loop.invariant c.before.before.before.before.before.before.before.before.before.before.before.before.before.before.loop-test.true
+    ap (λ (v : List ℕ). length v) (loads_back s.pre.1.0 s.pre.1.1 s.pre.1.2 (less t l) l.loop.invariant c.before.before.before.before.before.before.before.before.before.before.before.before.before.before.loop-test.true
     c.before.before.before.before.before.before.before.before.before.before.before.before.time-at.ensures refl c.before.before.before.before.before.before.before.before.before.larger.ensures k.ensures.0 k.ensures.1)
 
 returns-4 : (t : ℕ) → lts.Need-returns-4 (calls t) (pre t) reads.Post invariant-loop decreases-loop
@@ -206,9 +206,9 @@ returns-4 t c =
     let l = c.before.before.before.before.before.before.before.before.before.before.before.before.before.before.before in
     let s = start t l in
     let k = c.before.before.before.before.before.least in (
-      loads-back s.pre.1.0 s.pre.1.1 s.pre.1.2 (less t l) l.loop.invariant c.before.before.before.before.before.before.before.before.before.before.before.before.before.before.loop-test.true
+      loads_back s.pre.1.0 s.pre.1.1 s.pre.1.2 (less t l) l.loop.invariant c.before.before.before.before.before.before.before.before.before.before.before.before.before.before.loop-test.true
           c.before.before.before.before.before.before.before.before.before.before.before.before.time-at.ensures refl c.before.before.before.before.before.before.before.before.before.larger.ensures k.ensures.0 k.ensures.1,
-      left-enough s.pre.1.0 s.pre.1.1 s.pre.1.2 (less t l) l.loop.invariant c.before.before.before.before.before.before.before.before.before.before.before.before.before.before.loop-test.true
+      left_enough s.pre.1.0 s.pre.1.1 s.pre.1.2 (less t l) l.loop.invariant c.before.before.before.before.before.before.before.before.before.before.before.before.before.before.loop-test.true
           c.before.before.before.before.before.before.before.before.before.before.before.before.time-at.ensures refl c.before.before.before.before.before.before.before.before.before.larger.ensures k.ensures.0 k.ensures.1 c.if4.true,
     )
 

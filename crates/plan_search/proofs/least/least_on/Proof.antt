@@ -6,11 +6,11 @@ use mathlib.Core.Path.{◌≡◌, ◌∙◌}
 use mathlib.Core.List.{◌++◌}
 use lib.ListN.{length, take, drop, replicate, length-take}
 use lib.Seq.{length_front, take_at}
-use Rattle.plan_search.specs.Search.{searchBuses, searchModules}
+use Rattle.plan_search.specs.Search.{search_buses, search_modules}
 use Rattle.plan_search.specs.Least.{Board}
 use Rattle.plan_search.proofs.WidthLaws.{last-is}
 use Rattle.plan_search.proofs.LentLaws.{take-replicate, lent_length}
-use Rattle.plan_search.proofs.LeastLaws.{loads-first, on-first}
+use Rattle.plan_search.proofs.LeastLaws.{loads_first, on_first}
 use Rattle.plan_search.proofs.least.least_on.Statement.{statement}
 use Rattle.plan_search.proofs.least.least_on.Tie as tie
 
@@ -18,18 +18,18 @@ use Rattle.plan_search.proofs.least.least_on.Tie as tie
 rest-length : (c : tie.After-sum-rest) → length c.sum-rest.new.1.1.0 ≡ c.before.before.before.before.before.args.n + 1
 rest-length c =
     let s = c.before.before.before.before.before in
-    c.sum-rest.auto.1.1.0 ∙ lent_length (s.args.n + 1) (searchModules + 1) (omega (arith, s.requires.0.few))
+    c.sum-rest.auto.1.1.0 ∙ lent_length (s.args.n + 1) (search_modules + 1) (omega (arith, s.requires.0.few))
 
-whole : (c : tie.After-sum-rest) → length (c.sum-rest.new.1.1.0 ++ drop (c.before.before.before.before.before.args.n + 1) (replicate (searchModules + 1) 0)) ≡ searchModules + 1
+whole : (c : tie.After-sum-rest) → length (c.sum-rest.new.1.1.0 ++ drop (c.before.before.before.before.before.args.n + 1) (replicate (search_modules + 1) 0)) ≡ search_modules + 1
 whole c =
     let s = c.before.before.before.before.before in
-    length_front (replicate (searchModules + 1) 0) c.sum-rest.new.1.1.0 (s.args.n + 1) c.sum-rest.auto.1.1.0
+    length_front (replicate (search_modules + 1) 0) c.sum-rest.new.1.1.0 (s.args.n + 1) c.sum-rest.auto.1.1.0
 
 rest-is : (c : tie.After-sum-rest)
-    → take (c.before.before.before.before.before.args.n + 1) (c.sum-rest.new.1.1.0 ++ drop (c.before.before.before.before.before.args.n + 1) (replicate (searchModules + 1) 0)) ≡ c.sum-rest.new.1.1.0
+    → take (c.before.before.before.before.before.args.n + 1) (c.sum-rest.new.1.1.0 ++ drop (c.before.before.before.before.before.args.n + 1) (replicate (search_modules + 1) 0)) ≡ c.sum-rest.new.1.1.0
 rest-is c =
     let s = c.before.before.before.before.before in
-    take_at c.sum-rest.new.1.1.0 (drop (s.args.n + 1) (replicate (searchModules + 1) 0)) (s.args.n + 1) (rest-length c)
+    take_at c.sum-rest.new.1.1.0 (drop (s.args.n + 1) (replicate (search_modules + 1) 0)) (s.args.n + 1) (rest-length c)
 
 board : (c : tie.After-sum-rest) → Board c.before.before.before.before.before.args.table.now c.before.before.before.before.before.args.widths.now c.sum-rest.new.1.1.0
 board c =
@@ -71,7 +71,7 @@ slice-aggregate-sum-rest c =
 sum-rest-requires : tie.Need-sum-rest-requires
 sum-rest-requires c κs =
     let s = c.before.before.before.before in
-    let e = lent_length (s.args.n + 1) (searchModules + 1) (omega (arith, s.requires.0.few)) in
+    let e = lent_length (s.args.n + 1) (search_modules + 1) (omega (arith, s.requires.0.few)) in
     let m : s.args.n + 1 - 1 ≡ s.args.n = omega arith in
     let one : 1 ≤ s.args.n + 1 = omega arith in
     let l = last-is s.requires.1 in
@@ -108,8 +108,8 @@ least-requires c κs =
     let k = c.before.before.before in
     let e = rest-length k in
     let n : 0 < s.args.n + 1 = omega arith in
-    let f = take-replicate (length s.args.widths.now) searchBuses 0 s.requires.1.few in
-    rw (rest-is k) (board k, loads-first s.args.widths.now f, rw e n, s.requires.2)
+    let f = take-replicate (length s.args.widths.now) search_buses 0 s.requires.1.few in
+    rw (rest-is k) (board k, loads_first s.args.widths.now f, rw e n, s.requires.2)
 
 returns : tie.Need-returns
 returns c =
@@ -117,8 +117,8 @@ returns c =
     let a = s.args in
     let k = c.before.before.before.before.before in
     let m : a.n + 1 - 1 ≡ a.n = omega arith in
-    let f = take-replicate (length a.widths.now) searchBuses 0 s.requires.1.few in
-    on-first a.table.now a.widths.now a.n a.best.0 f (rw (rest-is k, rest-length k, m) at c.before.least.ensures.1)
+    let f = take-replicate (length a.widths.now) search_buses 0 s.requires.1.few in
+    on_first a.table.now a.widths.now a.n a.best.0 f (rw (rest-is k, rest-length k, m) at c.before.least.ensures.1)
 
 pub least-on-spec : {M : Type 1} → statement M
 least-on-spec =

@@ -5,13 +5,13 @@ use Prim.Native.Nat.{ℕ, suc, ◌+◌, ◌-◌, ◌*◌, ◌≤◌, ◌<◌}
 use mathlib.Core.Path.{◌≡◌, refl, sym, ap, ◌∙◌}
 use native.Mathlib.Nat.{mul-le-mul_right}
 use lib.ListN.{length, get_or}
-use Rattle.plan_search.specs.Search.{searchModules, timeBound, tableTime}
-use Rattle.plan_search.proofs.RestLaws.{Summed, total-most, summed-first, summed-next}
+use Rattle.plan_search.specs.Search.{search_modules, time_bound, table_time}
+use Rattle.plan_search.proofs.RestLaws.{Summed, total-most, summed_first, summed_next}
 use Rattle.plan_search.proofs.least.sum_rest.Statement.{statement}
 use Rattle.plan_search.proofs.least.sum_rest.Tie as tie
 
 abbrev invariant-loop : tie.invariant-loop
-invariant-loop table w rest₀ n i₀ rest i = Summed (λ j. tableTime table j w.0) n rest i
+invariant-loop table w rest₀ n i₀ rest i = Summed (λ j. table_time table j w.0) n rest i
 
 abbrev decreases-loop : tie.decreases-loop
 decreases-loop table w rest₀ n i₀ rest i = i
@@ -28,7 +28,7 @@ slice-write-rest c = search rules
 loop-holds : tie.Need-loop-init invariant-loop decreases-loop
 loop-holds c =
     let s = c.before.before in
-    summed-first (λ j. tableTime s.args.table.now j s.args.w.0) (length s.args.rest.now - 1) s.args.rest.now (omega (arith, s.requires.1))
+    summed_first (λ j. table_time s.args.table.now j s.args.w.0) (length s.args.rest.now - 1) s.args.rest.now (omega (arith, s.requires.1))
 
 sub-time-at : tie.Need-overflow-sub-time-at invariant-loop decreases-loop
 sub-time-at c = search rules
@@ -49,12 +49,12 @@ add-rest c =
     let s = c.before.before.before.before.before.before.before in
     let l = c.before.before.before.before.loop in
     let n = length s.args.rest.now - 1 in
-    let k : n - l.i ≤ searchModules = omega (arith, s.requires.0.few) in
+    let k : n - l.i ≤ search_modules = omega (arith, s.requires.0.few) in
     omega (
       arith,
       l.invariant.sums l.i (omega arith) l.invariant.upto,
-      total-most (n - l.i) l.i timeBound (λ j. tableTime s.args.table.now j s.args.w.0) (λ j. s.requires.0.times j s.args.w.0),
-      mul-le-mul_right timeBound k,
+      total-most (n - l.i) l.i time_bound (λ j. table_time s.args.table.now j s.args.w.0) (λ j. s.requires.0.times j s.args.w.0),
+      mul-le-mul_right time_bound k,
       c.before.before.time-at.ensures,
       s.requires.0.times (l.i - 1) s.args.w.0,
     )
@@ -79,9 +79,9 @@ loop-again c =
     let s = c.before.before.before.before.before.before.before in
     let l = c.before.before.before.before.loop in
     let e : l.i ≡ suc (l.i - 1) = omega (arith, c.before.before.before.loop-test.true) in
-    let f : ℕ → ℕ = λ j. tableTime s.args.table.now j s.args.w.0 in
+    let f : ℕ → ℕ = λ j. table_time s.args.table.now j s.args.w.0 in
     let q : Summed f (length s.args.rest.now - 1) l.rest (suc (l.i - 1)) = rw (← e) l.invariant in
-    summed-next f (length s.args.rest.now - 1) l.rest (l.i - 1) c.before.before.time-at.result.0
+    summed_next f (length s.args.rest.now - 1) l.rest (l.i - 1) c.before.before.time-at.result.0
     (get_or l.rest l.i 0 + c.before.before.time-at.result.0) q c.before.before.time-at.ensures (rw (← e))
 
 same_length : tie.Need-same-length invariant-loop decreases-loop

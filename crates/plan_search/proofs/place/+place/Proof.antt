@@ -1,13 +1,13 @@
 -- The proof of the cycle of calls {place::place}. The measure is the number of modules that have no bus yet. The loop's invariant,
 -- `Left`: the best at the start, with all placements to come, gives what the present best gives with those whose next bus is b + 1 or
--- later; the loads and the bus numbers before i are those at the start. A turn is `left-tried` or `left-dropped`. Assumes nothing.
+-- later; the loads and the bus numbers before i are those at the start. A turn is `left-tried` or `left_dropped`. Assumes nothing.
 use borrow.Author.Rules.{rules}
 use native.Mathlib.Omega.{arith}
 use Prim.Native.Nat.{ℕ, ◌+◌, ◌-◌, ◌≤◌, ◌<◌}
 use mathlib.Core.Path.{◌≡◌, ap, ◌∙◌}
 use mathlib.Core.Logic.{⊎_elim}
-use Rattle.plan_search.specs.Search.{searchModules, timeBound}
-use Rattle.plan_search.proofs.PlaceLaws.{Left, length-loads, load-most, time-in, placed-all, left-start, left_end, ready-next, left-tried, left-dropped}
+use Rattle.plan_search.specs.Search.{search_modules, time_bound}
+use Rattle.plan_search.proofs.PlaceLaws.{Left, length_loads, load_most, time_in_lem, placed-all, left-start, left_end, ready_next, left-tried, left_dropped}
 use lib.ListN.{length, get_or, set, length-set}
 use borrow.Fn.Kinds.{In}
 use borrow.Fn.PlainCycle.{Measures, is, falls, and}
@@ -53,7 +53,7 @@ less t l = omega (arith, (start t l).requires.1.at, l.before.if1.false)
 in-range : (t : ℕ) (c : In-loop t) → c.before.loop.b < length c.before.loop.loads
 in-range t c =
     let s = start t c.before in
-    let e = length-loads s.pre.1 in
+    let e = length_loads s.pre.1 in
     omega (arith, e, ap length c.before.loop.invariant.loads-same, c.loop-test.true)
 
 place-keep-requires : (t : ℕ) → place-lts.Need-keep-requires (calls t) (place_at t) place.Post place-Inv-loop place-μ-loop
@@ -92,7 +92,7 @@ place-time-at-requires : (t : ℕ) → place-lts.Need-time-at-requires (calls t)
 place-time-at-requires t c κs =
     let l = c.before.before.before in
     let s = start t l in
-    time-in s.pre.1 l.loop.b (less t l) c.before.before.loop-test.true
+    time_in_lem s.pre.1 l.loop.b (less t l) c.before.before.loop-test.true
 
 place-add-if2 : (t : ℕ) → place-lts.Need-overflow-add-if2 (calls t) (place_at t) place.Post place-Inv-loop place-μ-loop
 place-add-if2 t c =
@@ -101,9 +101,9 @@ place-add-if2 t c =
     let s = start t l in
     let b = l.loop.b in
     let e : get_or l.loop.loads b 0 ≡ get_or s.args.loads.now b 0 = ap (λ x. get_or x b 0) l.loop.invariant.loads-same in
-    let m = load-most s.pre.1 b in
-    let u : v.time-at.result.0 ≤ timeBound = rw v.time-at.ensures (s.pre.1.times s.args.i (get_or s.args.widths.now b 0)) in
-    let k : s.args.i < searchModules = omega (arith, less t l, s.pre.1.modules) in
+    let m = load_most s.pre.1 b in
+    let u : v.time-at.result.0 ≤ time_bound = rw v.time-at.ensures (s.pre.1.times s.args.i (get_or s.args.widths.now b 0)) in
+    let k : s.args.i < search_modules = omega (arith, less t l, s.pre.1.modules) in
     omega (arith, e, m, u, k)
 
 place-larger-requires : (t : ℕ) → place-lts.Need-larger-requires (calls t) (place_at t) place.Post place-Inv-loop place-μ-loop
@@ -141,7 +141,7 @@ place-place-requires t c κs =
     let m : length next - (s.args.i + 1) < t = omega (arith, z, less t l, s.pre.0) in
     let e = ap (λ x. get_or l.loop.loads b 0 + x) g.before.before.before.time-at.ensures in (
       m,
-      ready-next s.pre.1 (less t l) l.loop.invariant g.before.before.before.before.before.before.loop-test.true
+      ready_next s.pre.1 (less t l) l.loop.invariant g.before.before.before.before.before.before.loop-test.true
           e g.larger.ensures (omega (arith, c.before.before.before.if2.true)),
     )
 
@@ -175,7 +175,7 @@ place-loop-again t c =
     g.before.before.before.before.before.before.loop-test.true (ap (λ x. get_or l.loop.loads l.loop.b 0 + x) g.before.before.before.time-at.ensures) g.larger.ensures w.4.ensures w.4.kept.1.1.1.1.1.0 w.4.kept.1.1.1.1.1.1.0))
     (λ w.
     rw (w.1, w.2, w.3)
-    (left-dropped s.pre.1 (less t l) l.loop.invariant
+    (left_dropped s.pre.1 (less t l) l.loop.invariant
     g.before.before.before.before.before.before.loop-test.true (ap (λ x. get_or l.loop.loads l.loop.b 0 + x) g.before.before.before.time-at.ensures) g.larger.ensures w.0.left))
     c.if2.branch
 

@@ -6,7 +6,7 @@ use mathlib.Core.Path.{◌≡◌, ◌∙◌}
 use mathlib.Core.List.{[], append-nil}
 use lib.ListN.{length, drop, set, length-set, drop_of_length-le}
 use lib.Seq.{get_or-set_same}
-use Rattle.plan_search.proofs.CopyLaws.{Copied, copied-first, copied_more, copied_all, over-behind}
+use Rattle.plan_search.proofs.CopyLaws.{Copied, copied_first, copied_more, copied_all, over-behind}
 use Rattle.plan_search.proofs.place.keep.Statement.{statement}
 use Rattle.plan_search.proofs.place.keep.Tie as tie
 
@@ -22,7 +22,7 @@ slice-write-best c = search rules
 loop-holds : tie.Need-loop-init invariant-loop decreases-loop
 loop-holds c =
     let r = length-set c.args.best.now 0 c.args.top.0 ∙ c.requires in
-    (r, copied-first c.args.buses.now (set c.args.best.now 0 c.args.top.0) 1 (omega arith))
+    (r, copied_first c.args.buses.now (set c.args.best.now 0 c.args.top.0) 1 (omega arith))
 
 mul-best : tie.Need-overflow-mul-best invariant-loop decreases-loop
 mul-best c = search rules

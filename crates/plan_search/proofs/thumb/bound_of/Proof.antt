@@ -4,13 +4,13 @@ use native.Mathlib.Omega.{arith}
 use Prim.Native.Nat.{◌+◌, ◌-◌, ◌≤◌}
 use mathlib.Core.Logic.{⊎_elim}
 use Rattle.plan_rules.specs.Least.{Reached}
-use Rattle.plan_search.specs.Search.{tableTime}
+use Rattle.plan_search.specs.Search.{table_time}
 use Rattle.plan_search.proofs.ThumbLaws.{reached-more}
 use Rattle.plan_search.proofs.thumb.bound_of.Statement.{statement}
 use Rattle.plan_search.proofs.thumb.bound_of.Tie as tie
 
 abbrev invariant-loop : tie.invariant-loop
-invariant-loop table wires limit n best₀ c₀ best c = (2 ≤ c) × Reached (tableTime table) wires.0 limit n best.0
+invariant-loop table wires limit n best₀ c₀ best c = (2 ≤ c) × Reached (table_time table) wires.0 limit n best.0
 
 abbrev decreases-loop : tie.decreases-loop
 decreases-loop table wires limit n best₀ c₀ best c = limit + 1 - c

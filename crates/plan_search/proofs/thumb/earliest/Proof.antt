@@ -5,7 +5,7 @@ use native.Mathlib.Omega.{arith}
 use Prim.Native.Nat.{◌+◌, ◌-◌, ◌≤◌, ◌<◌}
 use mathlib.Core.Logic.{⊎_elim}
 use lib.ListN.{length, get_or}
-use Rattle.plan_search.proofs.ThumbLaws.{bus-time, partly-length, partly-most}
+use Rattle.plan_search.proofs.ThumbLaws.{bus-time, partly_length, partly_most}
 use Rattle.plan_search.proofs.thumb.earliest.Statement.{statement}
 use Rattle.plan_search.proofs.thumb.earliest.Tie as tie
 
@@ -28,14 +28,14 @@ shared-slice-read-t15 : tie.Need-shared-slice-read-t15 invariant-loop decreases-
 shared-slice-read-t15 c =
     let s = c.before.before.before.before.before.before in
     let a = s.args in
-    omega (arith, partly-length a.table.now a.widths.now a.i a.loads.now s.requires.2, s.requires.1.some)
+    omega (arith, partly_length a.table.now a.widths.now a.i a.loads.now s.requires.2, s.requires.1.some)
 
 add-t16 : tie.Need-overflow-add-t16 invariant-loop decreases-loop
 add-t16 c =
     let s = c.before.before.before.before.before.before.before in
     let a = s.args in
     let f = c.before.before.time-at.ensures in
-    let most = partly-most a.table.now a.widths.now a.i a.loads.now s.requires.2 s.requires.0.times 0 in
+    let most = partly_most a.table.now a.widths.now a.i a.loads.now s.requires.2 s.requires.0.times 0 in
     omega (arith, most, f, s.requires.0.times a.i (get_or a.widths.now 0 0), s.requires.0.few)
 
 loop-holds : tie.Need-loop-init invariant-loop decreases-loop
@@ -63,7 +63,7 @@ shared-slice-read-t23 c =
     let t = c.before.before.before in
     let s = c.before.before.before.before.before.before.before.before.before.before.before.before in
     let a = s.args in
-    omega (arith, partly-length a.table.now a.widths.now a.i a.loads.now s.requires.2, t.loop-test.true)
+    omega (arith, partly_length a.table.now a.widths.now a.i a.loads.now s.requires.2, t.loop-test.true)
 
 add-t24 : tie.Need-overflow-add-t24 invariant-loop decreases-loop
 add-t24 c =
@@ -71,7 +71,7 @@ add-t24 c =
     let b = v.before.before.before.loop.b in
     let s = c.before.before.before.before.before.before.before.before.before.before.before.before.before in
     let a = s.args in
-    let most = partly-most a.table.now a.widths.now a.i a.loads.now s.requires.2 s.requires.0.times b in
+    let most = partly_most a.table.now a.widths.now a.i a.loads.now s.requires.2 s.requires.0.times b in
     omega (arith, most, v.time-at2.ensures, s.requires.0.times a.i (get_or a.widths.now b 0), s.requires.0.few)
 
 add-b : tie.Need-overflow-add-b invariant-loop decreases-loop

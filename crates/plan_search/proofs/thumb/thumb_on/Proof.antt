@@ -3,7 +3,7 @@ use borrow.Author.Rules.{rules}
 use native.Mathlib.Omega.{arith}
 use Prim.Native.Nat.{◌+◌, ◌-◌}
 use lib.ListN.{get_or, length-take}
-use Rattle.plan_search.proofs.ThumbLaws.{Thumbed, table-fewer, bus-time, thumbed-none, thumbed-most, thumbed-more, thumbed-all}
+use Rattle.plan_search.proofs.ThumbLaws.{Thumbed, table-fewer, bus-time, thumbed_none, thumbed_most, thumbed_more, thumbed_all}
 use Rattle.plan_search.proofs.thumb.thumb_on.Statement.{statement}
 use Rattle.plan_search.proofs.thumb.thumb_on.Tie as tie
 
@@ -16,7 +16,7 @@ decreases-loop table widths n c loads₀ top₀ i₀ loads top i = n - i
 loop-holds : tie.Need-loop-init invariant-loop decreases-loop
 loop-holds c =
     let s = c.before.before in
-    thumbed-none s.args.table.now s.args.widths.now s.args.n s.requires.1
+    thumbed_none s.args.table.now s.args.widths.now s.args.n s.requires.1
 
 array-share-prefix-loads : tie.Need-array-share-prefix-loads invariant-loop decreases-loop
 array-share-prefix-loads c =
@@ -66,7 +66,7 @@ add-t21 c =
     let s = t.before.before.before.before in
     let a = s.args in
     let b = e.earliest.result in
-    let most = thumbed-most a.table.now a.widths.now a.n l.i l.loads l.top.0 l.invariant s.requires.0.times b in
+    let most = thumbed_most a.table.now a.widths.now a.n l.i l.loads l.top.0 l.invariant s.requires.0.times b in
     let time = s.requires.0.times l.i (get_or a.widths.now b 0) in
     omega (arith, most e.earliest.ensures, v.time-at.ensures, time, t.loop-test.true, s.requires.0.few)
 
@@ -93,7 +93,7 @@ loop-again c =
     let l = t.before.loop in
     let s = t.before.before.before.before in
     let a = s.args in
-    thumbed-more a.table.now a.widths.now a.n l.i l.loads l.top.0
+    thumbed_more a.table.now a.widths.now a.n l.i l.loads l.top.0
     e.earliest.result v.time-at.result.0 c.larger.result.0
     s.requires.1.few l.invariant t.loop-test.true e.earliest.ensures v.time-at.ensures c.larger.ensures
 
@@ -101,7 +101,7 @@ returns : tie.Need-returns invariant-loop decreases-loop
 returns c =
     let s = c.before.before.before.before in
     let l = c.before.loop in
-    thumbed-all s.args.table.now s.args.widths.now s.args.n l.i l.loads l.top.0 l.invariant c.loop-test.false
+    thumbed_all s.args.table.now s.args.widths.now s.args.n l.i l.loads l.top.0 l.invariant c.loop-test.false
 
 pub thumb-on-spec : {M : Type 1} → statement M
 thumb-on-spec =

@@ -7,14 +7,14 @@ use mathlib.Core.Path.{◌≡◌, refl}
 use mathlib.Core.Logic.{⊎_elim}
 use lib.ListN.{length, replicate, length-take}
 use Rattle.plan_rules.specs.Least.{Reached}
-use Rattle.plan_search.specs.Search.{searchBuses, tableTime}
-use Rattle.plan_search.proofs.ThumbLaws.{Lent, lent-asked, lent-room, lent-count, lent-buses, lent-reached, share-fits}
+use Rattle.plan_search.specs.Search.{search_buses, table_time}
+use Rattle.plan_search.proofs.ThumbLaws.{Lent, lent_asked, lent_room, lent_count, lent_buses, lent_reached, share-fits}
 use Rattle.plan_search.proofs.thumb.thumb_with.Statement.{statement}
 use Rattle.plan_search.proofs.thumb.thumb_with.Tie as tie
 
 abbrev invariant-loop : tie.invariant-loop
 invariant-loop table c wires n widths₀ best₀ most w₀ widths best w =
-    (2 ≤ w) × (length widths ≡ searchBuses) × Reached (tableTime table) wires.0 c n best.0
+    (2 ≤ w) × (length widths ≡ search_buses) × Reached (table_time table) wires.0 c n best.0
 
 abbrev decreases-loop : tie.decreases-loop
 decreases-loop table c wires n widths₀ best₀ most w₀ widths best w = most + 1 - w
@@ -28,7 +28,7 @@ enough t = let s = start t in share-fits s.args.c t.before.loop.w s.args.wires.0
 
 -- the widths that come back, before the loop and in a turn
 first : (e : tie.After-even-widths invariant-loop decreases-loop)
-    → Lent e.before.before.before.args.c 1 e.before.before.before.args.wires.0 (replicate searchBuses 0)
+    → Lent e.before.before.before.args.c 1 e.before.before.before.args.wires.0 (replicate search_buses 0)
     e.even-widths.new.0
 first e =
     let p = e.before.before.before.requires in
@@ -71,16 +71,16 @@ even-widths-requires : tie.Need-even-widths-requires invariant-loop decreases-lo
 even-widths-requires c κs =
     let s = c.before.before in
     let a = s.args in
-    lent-asked a.c 1 a.wires.0 (replicate searchBuses 0) refl s.requires.1 s.requires.2 (omega (arith, s.requires.3)) s.requires.4
+    lent_asked a.c 1 a.wires.0 (replicate search_buses 0) refl s.requires.1 s.requires.2 (omega (arith, s.requires.3)) s.requires.4
 
 array-share-prefix-widths : tie.Need-array-share-prefix-widths invariant-loop decreases-loop
-array-share-prefix-widths c = omega (arith, lent-room (first c.before), c.before.before.before.before.requires.2)
+array-share-prefix-widths c = omega (arith, lent_room (first c.before), c.before.before.before.before.requires.2)
 
 slice-aggregate-thumb-on : tie.Need-slice-aggregate-thumb-on invariant-loop decreases-loop
-slice-aggregate-thumb-on c = lent-count (first c.before.before)
+slice-aggregate-thumb-on c = lent_count (first c.before.before)
 
 thumb-on-requires : tie.Need-thumb-on-requires invariant-loop decreases-loop
-thumb-on-requires c κs = let e = c.before.before in (e.before.before.before.requires.0, lent-buses (first e))
+thumb-on-requires c κs = let e = c.before.before in (e.before.before.before.requires.0, lent_buses (first e))
 
 cast-most : tie.Need-overflow-cast-most invariant-loop decreases-loop
 cast-most c = search rules
@@ -93,7 +93,7 @@ loop-holds c =
     let v = c.before in
     let e = v.before.before.before in
     let a = e.before.before.before.args in
-    (omega arith, lent-room (first e), lent-reached (first e) a.table.now a.n v.thumb-on.result.0 v.thumb-on.ensures)
+    (omega arith, lent_room (first e), lent_reached (first e) a.table.now a.n v.thumb-on.result.0 v.thumb-on.ensures)
 
 array-borrow-prefix-widths-2 : tie.Need-array-borrow-prefix-widths-2 invariant-loop decreases-loop
 array-borrow-prefix-widths-2 c = omega (arith, c.before.loop.invariant.1, (start c).requires.2)
@@ -106,16 +106,16 @@ even-widths-requires-2 c κs =
     let t = c.before in
     let l = t.before.loop in
     let s = start t in
-    lent-asked s.args.c l.w s.args.wires.0 l.widths l.invariant.1 s.pre.1 s.pre.2 (enough t) s.pre.4
+    lent_asked s.args.c l.w s.args.wires.0 l.widths l.invariant.1 s.pre.1 s.pre.2 (enough t) s.pre.4
 
 array-share-prefix-widths-2 : tie.Need-array-share-prefix-widths-2 invariant-loop decreases-loop
-array-share-prefix-widths-2 c = let e = c.before in omega (arith, lent-room (later e), (start e.before.before).pre.2)
+array-share-prefix-widths-2 c = let e = c.before in omega (arith, lent_room (later e), (start e.before.before).pre.2)
 
 slice-aggregate-thumb-on-2 : tie.Need-slice-aggregate-thumb-on-2 invariant-loop decreases-loop
-slice-aggregate-thumb-on-2 c = lent-count (later c.before.before)
+slice-aggregate-thumb-on-2 c = lent_count (later c.before.before)
 
 thumb-on-requires-2 : tie.Need-thumb-on-requires-2 invariant-loop decreases-loop
-thumb-on-requires-2 c κs = let e = c.before.before in ((start e.before.before).pre.0, lent-buses (later e))
+thumb-on-requires-2 c κs = let e = c.before.before in ((start e.before.before).pre.0, lent_buses (later e))
 
 add-w : tie.Need-overflow-add-w invariant-loop decreases-loop
 add-w c =
@@ -132,8 +132,8 @@ loop-again c =
     let e = v.before.before.before in
     let l = e.before.before.before.loop in
     let a = (start e.before.before).args in
-    let r = lent-reached (later e) a.table.now a.n v.thumb-on2.result.0 v.thumb-on2.ensures in
-    (omega (arith, l.invariant.0), lent-room (later e), ⊎_elim (λ w. rw w.1 r) (λ w. rw w.1 l.invariant.2) c.if1.branch)
+    let r = lent_reached (later e) a.table.now a.n v.thumb-on2.result.0 v.thumb-on2.ensures in
+    (omega (arith, l.invariant.0), lent_room (later e), ⊎_elim (λ w. rw w.1 r) (λ w. rw w.1 l.invariant.2) c.if1.branch)
 
 returns : tie.Need-returns invariant-loop decreases-loop
 returns c = c.before.loop.invariant.2

@@ -6,7 +6,7 @@ use Prim.Native.Nat.{◌+◌, ◌-◌}
 use mathlib.Core.Path.{refl}
 use mathlib.Core.Logic.{inl, inr}
 use lib.ListN.{length-take}
-use Rattle.plan_search.proofs.CountedLaws.{Counted, counted-first, counted-last, group-lent, rooms-lent, counted_next}
+use Rattle.plan_search.proofs.CountedLaws.{Counted, counted-first, counted-last, group_lent, rooms_lent, counted_next}
 use Rattle.plan_search.proofs.widths.first_list.Statement.{statement}
 use Rattle.plan_search.proofs.widths.first_list.Tie as tie
 
@@ -51,7 +51,7 @@ over-group-requires c κs =
     let l = c.before.before.before.before.before.before.loop in
     let h = c.before.before.before.before.before.loop-test.true in
     let k = c.before.before.before.if1.false in
-    (s.requires.table, l.invariant.small, group-lent a.table.now a.wires.0 a.limit a.n a.best.0 a.found.now s.requires l.invariant h k, rooms-lent a.table.now a.wires.0 a.limit a.n a.best.0 a.found.now s.requires l.invariant h k)
+    (s.requires.table, l.invariant.small, group_lent a.table.now a.wires.0 a.limit a.n a.best.0 a.found.now s.requires l.invariant h k, rooms_lent a.table.now a.wires.0 a.limit a.n a.best.0 a.found.now s.requires l.invariant h k)
 
 add-c : tie.Need-overflow-add-c invariant-loop decreases-loop
 add-c c =

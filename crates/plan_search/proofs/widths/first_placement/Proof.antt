@@ -5,9 +5,9 @@ use Prim.Native.Nat.{ℕ, ◌-◌, ◌≤◌}
 use mathlib.Core.Path.{◌≡◌, sym, ◌∙◌}
 use lib.ListN.{length, take, replicate, length-take}
 use Rattle.plan_rules.specs.Listed.{placements}
-use Rattle.plan_search.specs.Search.{searchBuses, searchModules, timeOn}
+use Rattle.plan_search.specs.Search.{search_buses, search_modules, time_on}
 use Rattle.plan_search.proofs.SearchLaws.{keep-none}
-use Rattle.plan_search.proofs.PlaceLaws.{ready-first, placed_first}
+use Rattle.plan_search.proofs.PlaceLaws.{ready_first, placed_first}
 use Rattle.plan_search.proofs.WidthLaws.{width-at}
 use Rattle.plan_search.proofs.LentLaws.{take-replicate, lent_length}
 use Rattle.plan_search.proofs.widths.first_placement.Statement.{statement}
@@ -20,7 +20,7 @@ returns : tie.Need-returns
 returns c =
     let s = c.before.before.before.before.before in
     let a = s.args in
-    sym (keep-none (timeOn a.table.now a.widths.now) a.best.now (placements (length a.best.now - 1) (length a.widths.now))
+    sym (keep-none (time_on a.table.now a.widths.now) a.best.now (placements (length a.best.now - 1) (length a.widths.now))
     (λ x m. omega (arith, c.if1.true)))
 
 array-borrow-prefix-loads : tie.Need-array-borrow-prefix-loads
@@ -54,9 +54,9 @@ place-requires c κs =
     let a = s.args in
     let n = length a.best.now - 1 in
     let ws = a.widths.now in
-    let e : length {A = ℕ} (take n (replicate searchModules 0)) ≡ n = lent_length n searchModules s.requires.0.few in
-    let f : take {A = ℕ} (length ws) (replicate searchBuses 0) ≡ replicate (length ws) 0 = take-replicate (length ws) searchBuses 0 s.requires.1.few in
-    rw f (ready-first (rw e s.requires.0.long) s.requires.0.times (width-at s.requires.1) (rw e s.requires.0.few) (omega (arith, c.before.before.before.if1.false)) (omega (arith, e, s.requires.2)))
+    let e : length {A = ℕ} (take n (replicate search_modules 0)) ≡ n = lent_length n search_modules s.requires.0.few in
+    let f : take {A = ℕ} (length ws) (replicate search_buses 0) ≡ replicate (length ws) 0 = take-replicate (length ws) search_buses 0 s.requires.1.few in
+    rw f (ready_first (rw e s.requires.0.long) s.requires.0.times (width-at s.requires.1) (rw e s.requires.0.few) (omega (arith, c.before.before.before.if1.false)) (omega (arith, e, s.requires.2)))
 
 same_length : tie.Need-same-length
 same_length c = search rules
@@ -66,7 +66,7 @@ returns-2 c =
     let s = c.before.before.before.before.before.before.before.before.before.before.before.before.before in
     let a = s.args in
     let n = length a.best.now - 1 in
-    let e : length {A = ℕ} (take n (replicate searchModules 0)) ≡ n = lent_length n searchModules s.requires.0.few in
+    let e : length {A = ℕ} (take n (replicate search_modules 0)) ≡ n = lent_length n search_modules s.requires.0.few in
     rw e at (placed_first c.before.before.before.before.place.ensures)
 
 pub first-placement-spec : {M : Type 1} → statement M

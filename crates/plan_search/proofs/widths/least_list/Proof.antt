@@ -7,7 +7,7 @@ use mathlib.Core.Path.{◌≡◌, refl, ◌∙◌}
 use mathlib.Core.List.{◌++◌}
 use lib.ListN.{length, take, drop, replicate, length-take}
 use lib.Seq.{length_front, take_at}
-use Rattle.plan_search.specs.Search.{searchModules, timeBound, IsTable}
+use Rattle.plan_search.specs.Search.{search_modules, time_bound, IsTable}
 use Rattle.plan_search.specs.Lists.{kept}
 use Rattle.plan_search.proofs.LentLaws.{lent_length}
 use Rattle.plan_search.proofs.FoundLaws.{time-most, stands_from}
@@ -18,17 +18,17 @@ use Rattle.plan_search.proofs.widths.least_list.Tie as tie
 sorted-length : (c : tie.After-sort-order) → length c.sort-order.new.1.1.0 ≡ c.before.before.before.before.args.n
 sorted-length c =
     let s = c.before.before.before.before in
-    c.sort-order.auto.1.1.0 ∙ lent_length s.args.n searchModules s.requires.0.few
+    c.sort-order.auto.1.1.0 ∙ lent_length s.args.n search_modules s.requires.0.few
 
-whole : (c : tie.After-sort-order) → length (c.sort-order.new.1.1.0 ++ drop c.before.before.before.before.args.n (replicate searchModules 0)) ≡ searchModules
+whole : (c : tie.After-sort-order) → length (c.sort-order.new.1.1.0 ++ drop c.before.before.before.before.args.n (replicate search_modules 0)) ≡ search_modules
 whole c =
     let s = c.before.before.before.before in
-    length_front (replicate searchModules 0) c.sort-order.new.1.1.0 s.args.n c.sort-order.auto.1.1.0
+    length_front (replicate search_modules 0) c.sort-order.new.1.1.0 s.args.n c.sort-order.auto.1.1.0
 
-order_is : (c : tie.After-sort-order) → take c.before.before.before.before.args.n (c.sort-order.new.1.1.0 ++ drop c.before.before.before.before.args.n (replicate searchModules 0)) ≡ c.sort-order.new.1.1.0
+order_is : (c : tie.After-sort-order) → take c.before.before.before.before.args.n (c.sort-order.new.1.1.0 ++ drop c.before.before.before.before.args.n (replicate search_modules 0)) ≡ c.sort-order.new.1.1.0
 order_is c =
     let s = c.before.before.before.before in
-    take_at c.sort-order.new.1.1.0 (drop s.args.n (replicate searchModules 0)) s.args.n (sorted-length c)
+    take_at c.sort-order.new.1.1.0 (drop s.args.n (replicate search_modules 0)) s.args.n (sorted-length c)
 
 -- the rows in that order are a table
 rows-table : (c : tie.After-rows-in) → IsTable c.rows_in.result c.before.before.before.before.before.before.before.args.n
@@ -37,7 +37,7 @@ rows-table c =
     rw (order_is k, sorted-length k) at c.rows_in.ensures.table
 
 -- the time of some plan fits
-bound-most : (c : tie.After-bound-of) → c.bound_of.result.0 ≤ searchModules * timeBound
+bound-most : (c : tie.After-bound-of) → c.bound_of.result.0 ≤ search_modules * time_bound
 bound-most c =
     let b = c.bound_of.ensures in
     omega (arith, b.takes, time-most (rows-table c.before.before) b.reached b.is-plan.placed)
@@ -55,7 +55,7 @@ slice-aggregate-sort-order c =
 sort-order-requires : tie.Need-sort-order-requires
 sort-order-requires c κs =
     let s = c.before.before.before in
-    let e : length {A = ℕ} (take s.args.n (replicate searchModules 0)) ≡ s.args.n = lent_length s.args.n searchModules s.requires.0.few in
+    let e : length {A = ℕ} (take s.args.n (replicate search_modules 0)) ≡ s.args.n = lent_length s.args.n search_modules s.requires.0.few in
     (rw e s.requires.0, s.requires.1, s.requires.2)
 
 array-share-prefix-order : tie.Need-array-share-prefix-order
@@ -110,7 +110,7 @@ returns c =
     let a = s.args in
     let f = c.before.before.first-list in
     let k = c.before.before.before.before.before.before.before.before.before.before.before in
-    let l : length (take a.n (k.sort-order.new.1.1.0 ++ drop a.n (replicate searchModules 0))) ≡ a.n = rw (order_is k) (sorted-length k) in (
+    let l : length (take a.n (k.sort-order.new.1.1.0 ++ drop a.n (replicate search_modules 0))) ≡ a.n = rw (order_is k) (sorted-length k) in (
       stands_from a.table.now a.wires.0 a.limit a.n s.requires.1 s.requires.3 (kept (c.before.before.before.before.before.before.bound_of.result.0 + 1) a.found.now)
           s.requires.2 l c.before.before.before.before.before.before.before.before.rows_in.ensures c.before.before.before.before.before.before.bound_of.ensures refl f.ensures.0,
       f.ensures.1,

@@ -7,19 +7,19 @@ use lib.ListN.{length, take, drop, length-set, length-drop}
 use lib.Seq.{take_all}
 use Rattle.units.specs.Places.{padded}
 use Rattle.units.proofs.PlaceLaws.{padded-none}
-use Rattle.plan_search.specs.Search.{foundModules}
+use Rattle.plan_search.specs.Search.{found_modules}
 use Rattle.plan_search.proofs.CopyLaws.{padded-more}
 use Rattle.plan_search.proofs.widths.placed_buses.Statement.{statement}
 use Rattle.plan_search.proofs.widths.placed_buses.Tie as tie
 
 abbrev invariant-loop : tie.invariant-loop
-invariant-loop best buses₀ i₀ buses i = (1 ≤ i) × (i ≤ length best) × (length buses ≡ foundModules) × (buses ≡ padded foundModules 0 (take (i - 1) (drop 1 best)))
+invariant-loop best buses₀ i₀ buses i = (1 ≤ i) × (i ≤ length best) × (length buses ≡ found_modules) × (buses ≡ padded found_modules 0 (take (i - 1) (drop 1 best)))
 
 abbrev decreases-loop : tie.decreases-loop
 decreases-loop best buses₀ i₀ buses i = length best - i
 
 loop-holds : tie.Need-loop-init invariant-loop decreases-loop
-loop-holds c = (omega arith, c.requires.0, refl, sym (padded-none foundModules 0))
+loop-holds c = (omega arith, c.requires.0, refl, sym (padded-none found_modules 0))
 
 mul-buses : tie.Need-overflow-mul-buses invariant-loop decreases-loop
 mul-buses c = search rules
@@ -52,7 +52,7 @@ loop-again c =
       omega arith,
       simp length-set l.invariant.2,
       rw (e, l.invariant.3)
-          (padded-more foundModules s.args.best.now 1 (l.i - 1) l.i (omega (arith, s.requires.1)) (omega (arith, l.invariant.0)) h),
+          (padded-more found_modules s.args.best.now 1 (l.i - 1) l.i (omega (arith, s.requires.1)) (omega (arith, l.invariant.0)) h),
     )
 
 returns : tie.Need-returns invariant-loop decreases-loop
@@ -60,7 +60,7 @@ returns c =
     let best = c.before.before.args.best.now in
     let l = c.before.loop in
     let d : drop 1 best ≡ take (l.i - 1) (drop 1 best) = sym (take_all (l.i - 1) (drop 1 best) (simp length-drop (omega (arith, c.loop-test.false)))) in
-    l.invariant.3 ∙ ap (padded foundModules 0) (sym d)
+    l.invariant.3 ∙ ap (padded found_modules 0) (sym d)
 
 pub placed-buses-spec : {M : Type 1} → statement M
 placed-buses-spec =

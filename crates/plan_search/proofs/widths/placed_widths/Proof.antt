@@ -6,13 +6,13 @@ use mathlib.Core.Path.{◌≡◌, refl, sym, ap, ◌∙◌}
 use lib.ListN.{length, get_or, take, drop, length-set}
 use Rattle.units.specs.Places.{padded}
 use Rattle.units.proofs.PlaceLaws.{padded-none}
-use Rattle.plan_search.specs.Search.{foundBuses}
+use Rattle.plan_search.specs.Search.{found_buses}
 use Rattle.plan_search.proofs.CopyLaws.{padded-more}
 use Rattle.plan_search.proofs.widths.placed_widths.Statement.{statement}
 use Rattle.plan_search.proofs.widths.placed_widths.Tie as tie
 
 abbrev invariant-loop : tie.invariant-loop
-invariant-loop found count widths₀ i₀ widths i = (i ≤ count) × (length widths ≡ foundBuses) × (widths ≡ padded foundBuses 0 (take i (drop 1 found)))
+invariant-loop found count widths₀ i₀ widths i = (i ≤ count) × (length widths ≡ found_buses) × (widths ≡ padded found_buses 0 (take i (drop 1 found)))
 
 abbrev decreases-loop : tie.decreases-loop
 decreases-loop found count widths₀ i₀ widths i = count - i
@@ -24,7 +24,7 @@ cast-count : tie.Need-overflow-cast-count invariant-loop decreases-loop
 cast-count c = search rules
 
 loop-holds : tie.Need-loop-init invariant-loop decreases-loop
-loop-holds c = (omega arith, refl, sym (padded-none foundBuses 0))
+loop-holds c = (omega arith, refl, sym (padded-none found_buses 0))
 
 add-widths : tie.Need-overflow-add-widths invariant-loop decreases-loop
 add-widths c = search rules
@@ -54,7 +54,7 @@ loop-again c =
     let h = c.before.loop-test.true in (
       omega arith,
       simp length-set l.invariant.1,
-      rw l.invariant.2 (padded-more foundBuses s.args.found.now 1 l.i (l.i + 1) (omega (arith, s.requires.1)) refl (omega (arith, s.requires.2))),
+      rw l.invariant.2 (padded-more found_buses s.args.found.now 1 l.i (l.i + 1) (omega (arith, s.requires.1)) refl (omega (arith, s.requires.2))),
     )
 
 returns : tie.Need-returns invariant-loop decreases-loop
@@ -62,7 +62,7 @@ returns c =
     let found = c.before.before.before.args.found.now in
     let l = c.before.loop in
     let i : l.i ≡ get_or found 0 0 = omega (arith, l.invariant.0, c.loop-test.false) in
-    l.invariant.2 ∙ ap (λ j. padded foundBuses 0 (take j (drop 1 found))) i
+    l.invariant.2 ∙ ap (λ j. padded found_buses 0 (take j (drop 1 found))) i
 
 pub placed-widths-spec : {M : Type 1} → statement M
 placed-widths-spec =

@@ -8,27 +8,27 @@ use mathlib.Core.Path.{◌≡◌, refl, sym, ap, ◌∙◌}
 use mathlib.Core.List.{◌∷◌, ◌++◌}
 use lib.ListN.{length, get_or, take, drop, replicate, length-take}
 use lib.Seq.{length-take-le, length_front, take_at, get_or-take}
-use Rattle.plan_rules.specs.Plans.{timeOf}
-use Rattle.plan_rules.specs.Listed.{bestPlan}
+use Rattle.plan_rules.specs.Plans.{time_of}
+use Rattle.plan_rules.specs.Listed.{best_plan}
 use Rattle.plan_rules.specs.Least.{Stands}
-use Rattle.plan_search.specs.Search.{searchBuses, searchModules, timeBound, tableTime}
+use Rattle.plan_search.specs.Search.{search_buses, search_modules, time_bound, table_time}
 use Rattle.plan_search.specs.Lists.{kept}
 use Rattle.plan_search.proofs.FoundLaws.{best-widths, found-widths, found-count, found-buses, found-most, found-is}
 use Rattle.plan_search.proofs.widths.search.Statement.{statement}
 use Rattle.plan_search.proofs.widths.search.Tie as tie
 
 -- the widths that are kept stand, and lie within their buffer
-stands : (c : tie.After-least-list) → let a = c.before.before.before.args in Stands (timeOf (tableTime a.table.now)) a.n (kept c.least-list.result.0 c.least-list.new.1.1.1.1.0) (bestPlan (tableTime a.table.now) a.wires.0 a.limit a.n)
+stands : (c : tie.After-least-list) → let a = c.before.before.before.args in Stands (time_of (table_time a.table.now)) a.n (kept c.least-list.result.0 c.least-list.new.1.1.1.1.0) (best_plan (table_time a.table.now) a.wires.0 a.limit a.n)
 stands c = c.least-list.ensures.0
 
-most : (c : tie.After-least-list) → c.least-list.result.0 ≤ searchModules * timeBound
+most : (c : tie.After-least-list) → c.least-list.result.0 ≤ search_modules * time_bound
 most c =
     let s = c.before.before.before in
     let a = s.args in
     found-most a.table.now a.wires.0 a.limit a.n s.requires.1 s.requires.3 c.least-list.result.0 c.least-list.new.1.1.1.1.0 (stands c) c.least-list.ensures.1 s.requires.0
 
 -- the part of the buffer that holds them
-part-is : (c : tie.After-least-list) → let f = c.least-list.new.1.1.1.1.0 in take (get_or f 0 0 + 1 - 1) (drop 1 f) ≡ (bestPlan (tableTime c.before.before.before.args.table.now) c.before.before.before.args.wires.0 c.before.before.before.args.limit c.before.before.before.args.n).widths
+part-is : (c : tie.After-least-list) → let f = c.least-list.new.1.1.1.1.0 in take (get_or f 0 0 + 1 - 1) (drop 1 f) ≡ (best_plan (table_time c.before.before.before.args.table.now) c.before.before.before.args.wires.0 c.before.before.before.args.limit c.before.before.before.args.n).widths
 part-is c =
     let s = c.before.before.before in
     let a = s.args in
@@ -37,21 +37,21 @@ part-is c =
     rw z (found-widths a.table.now a.wires.0 a.limit a.n s.requires.1 s.requires.3 c.least-list.result.0 f (stands c) c.least-list.ensures.1)
 
 -- the places of the bus numbers and of the time before them
-room : (c : tie.After-least-list) → length (take (c.before.before.before.args.n + 1) ((c.least-list.result.0 + 1) ∷ replicate searchModules 0)) ≡ c.before.before.before.args.n + 1
+room : (c : tie.After-least-list) → length (take (c.before.before.before.args.n + 1) ((c.least-list.result.0 + 1) ∷ replicate search_modules 0)) ≡ c.before.before.before.args.n + 1
 room c =
     let s = c.before.before.before in
-    length-take-le (s.args.n + 1) ((c.least-list.result.0 + 1) ∷ replicate searchModules 0) (omega (arith, s.requires.0.few))
+    length-take-le (s.args.n + 1) ((c.least-list.result.0 + 1) ∷ replicate search_modules 0) (omega (arith, s.requires.0.few))
 
-whole : (c : tie.After-first-placement) → length (c.first-placement.new.1.1.0 ++ drop (c.before.before.before.before.before.before.before.before.before.args.n + 1) ((c.before.before.before.before.before.before.least-list.result.0 + 1) ∷ replicate searchModules 0)) ≡ searchModules + 1
+whole : (c : tie.After-first-placement) → length (c.first-placement.new.1.1.0 ++ drop (c.before.before.before.before.before.before.before.before.before.args.n + 1) ((c.before.before.before.before.before.before.least-list.result.0 + 1) ∷ replicate search_modules 0)) ≡ search_modules + 1
 whole c =
     let s = c.before.before.before.before.before.before.before.before.before in
-    length_front ((c.before.before.before.before.before.before.least-list.result.0 + 1) ∷ replicate searchModules 0) c.first-placement.new.1.1.0 (s.args.n + 1) c.first-placement.auto.1.1.0
+    length_front ((c.before.before.before.before.before.before.least-list.result.0 + 1) ∷ replicate search_modules 0) c.first-placement.new.1.1.0 (s.args.n + 1) c.first-placement.auto.1.1.0
 
 -- what was found stands at the front of its buffer
-best-is : (c : tie.After-first-placement) → take (c.before.before.before.before.before.before.before.before.before.args.n + 1) (c.first-placement.new.1.1.0 ++ drop (c.before.before.before.before.before.before.before.before.before.args.n + 1) ((c.before.before.before.before.before.before.least-list.result.0 + 1) ∷ replicate searchModules 0)) ≡ c.first-placement.new.1.1.0
+best-is : (c : tie.After-first-placement) → take (c.before.before.before.before.before.before.before.before.before.args.n + 1) (c.first-placement.new.1.1.0 ++ drop (c.before.before.before.before.before.before.before.before.before.args.n + 1) ((c.before.before.before.before.before.before.least-list.result.0 + 1) ∷ replicate search_modules 0)) ≡ c.first-placement.new.1.1.0
 best-is c =
     let s = c.before.before.before.before.before.before.before.before.before in
-    take_at c.first-placement.new.1.1.0 (drop (s.args.n + 1) ((c.before.before.before.before.before.before.least-list.result.0 + 1) ∷ replicate searchModules 0)) (s.args.n + 1)
+    take_at c.first-placement.new.1.1.0 (drop (s.args.n + 1) ((c.before.before.before.before.before.before.least-list.result.0 + 1) ∷ replicate search_modules 0)) (s.args.n + 1)
     (c.first-placement.auto.1.1.0 ∙ room c.before.before.before.before.before.before)
 
 slice-aggregate-least-list : tie.Need-slice-aggregate-least-list
@@ -152,9 +152,9 @@ returns c =
     let f = k.least-list.new.1.1.1.1.0 in
     let z : get_or f 0 0 + 1 - 1 ≡ get_or f 0 0 = omega arith in
     let w : take (get_or f 0 0 + 1 - 1) (drop 1 f) ≡ take (get_or f 0 0) (drop 1 f) = rw z in
-    let m : length (take (a.n + 1) ((T + 1) ∷ replicate searchModules 0)) - 1 ≡ a.n = rw (room k) (omega arith) in
-    let b = take (a.n + 1) ((T + 1) ∷ replicate searchModules 0) in
-    let h : get_or b 0 0 ≡ suc T = get_or-take (a.n + 1) ((T + 1) ∷ replicate searchModules 0) 0 0 (omega arith) ∙ add-one T in
+    let m : length (take (a.n + 1) ((T + 1) ∷ replicate search_modules 0)) - 1 ≡ a.n = rw (room k) (omega arith) in
+    let b = take (a.n + 1) ((T + 1) ∷ replicate search_modules 0) in
+    let h : get_or b 0 0 ≡ suc T = get_or-take (a.n + 1) ((T + 1) ∷ replicate search_modules 0) 0 0 (omega arith) ∙ add-one T in
     let g = found-buses a.table.now a.wires.0 a.limit a.n s.requires.1 s.requires.3 T f (stands k) k.least-list.ensures.1 b w m h l.first-placement.ensures in
     c.found_in.ensures
     ∙ rw (best-is l) (found-is a.table.now a.wires.0 a.limit a.n s.requires.1 s.requires.3 T f (stands k) k.least-list.ensures.1 l.first-placement.new.1.1.0 g)

@@ -6,20 +6,20 @@ use mathlib.Core.Path.{◌≡◌, sym, ◌∙◌}
 use mathlib.Core.Logic.{⊎_elim}
 use native.Mathlib.Omega.{arith}
 use lib.ListN.{length, length-map, take, drop}
-use Rattle.wrapper_fit.specs.Maxima.{moduleTimeMax}
-use Rattle.plan_record.specs.Record.{modulePlaces, modulesOf, start_of}
-use Rattle.plan_record.proofs.GoodPlanLaws.{front-none, start-before, start-else}
+use Rattle.wrapper_fit.specs.Maxima.{module_time_max}
+use Rattle.plan_record.specs.Record.{module_places, modules_of, start_of}
+use Rattle.plan_record.proofs.GoodPlanLaws.{front-none, start-before, start_else}
 use Rattle.plan_sums.proofs.starts.start_of.Statement.{statement}
 use Rattle.plan_sums.proofs.starts.start_of.Tie as tie
 
 abbrev invariant-loop : tie.invariant-loop
 invariant-loop m p n sum₀ i₀ sum i =
-    (i ≤ n) × (sum ≤ i * moduleTimeMax) × (start_of (take n p.modules) m ≡ sum + start_of (drop i (take n p.modules)) m)
+    (i ≤ n) × (sum ≤ i * module_time_max) × (start_of (take n p.modules) m ≡ sum + start_of (drop i (take n p.modules)) m)
 
 abbrev decreases-loop : tie.decreases-loop
 decreases-loop m p n sum₀ i₀ sum i = n - i
 
-len : (c : tie.Start invariant-loop decreases-loop) → length c.args.t1.modules ≡ modulePlaces
+len : (c : tie.Start invariant-loop decreases-loop) → length c.args.t1.modules ≡ module_places
 len c = simp length-map at c.well-formed.0.1.1.1.1.1.1.1.0.1.0.1
 
 loop-holds : tie.Need-loop-init invariant-loop decreases-loop
@@ -61,7 +61,7 @@ loop-again c =
     (λ w. (
       omega arith,
       omega arith,
-      omega (arith, start-else p.module_count p.modules l.loop.i (omega arith) k s.args.m (says ∙ w.0.left)),
+      omega (arith, start_else p.module_count p.modules l.loop.i (omega arith) k s.args.m (says ∙ w.0.left)),
     ))
     c.if1.branch
 
@@ -72,7 +72,7 @@ returns c =
     let a = l.before.args in
     let p = a.t1 in
     let none = front-none p.module_count p.modules l.loop.i c.loop-test.false in
-    let e : start_of (drop l.loop.i (modulesOf p)) a.m ≡ 0 = rw none in
+    let e : start_of (drop l.loop.i (modules_of p)) a.m ≡ 0 = rw none in
     omega arith
 
 pub start-of-spec : {M : Type 1} → statement M

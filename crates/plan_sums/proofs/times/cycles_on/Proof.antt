@@ -6,19 +6,19 @@ use mathlib.Core.Path.{◌≡◌}
 use mathlib.Core.Logic.{⊎_elim}
 use native.Mathlib.Omega.{arith}
 use lib.ListN.{length, length-map, take, drop}
-use Rattle.wrapper_fit.specs.Maxima.{moduleTimeMax}
-use Rattle.plan_record.specs.Record.{modulePlaces, modulesOf, cyclesOn}
-use Rattle.plan_record.proofs.GoodPlanLaws.{front-none, cycles-on-same, cycles-on-other}
+use Rattle.wrapper_fit.specs.Maxima.{module_time_max}
+use Rattle.plan_record.specs.Record.{module_places, modules_of, cycles_on}
+use Rattle.plan_record.proofs.GoodPlanLaws.{front-none, cycles_on-same, cycles_on_other}
 use Rattle.plan_sums.proofs.times.cycles_on.Statement.{statement}
 use Rattle.plan_sums.proofs.times.cycles_on.Tie as tie
 
 abbrev invariant-loop : tie.invariant-loop
-invariant-loop b p n sum₀ i₀ sum i = (i ≤ n) × (sum ≤ i * moduleTimeMax) × (cyclesOn b (take n p.modules) ≡ sum + cyclesOn b (drop i (take n p.modules)))
+invariant-loop b p n sum₀ i₀ sum i = (i ≤ n) × (sum ≤ i * module_time_max) × (cycles_on b (take n p.modules) ≡ sum + cycles_on b (drop i (take n p.modules)))
 
 abbrev decreases-loop : tie.decreases-loop
 decreases-loop b p n sum₀ i₀ sum i = n - i
 
-len : (c : tie.Start invariant-loop decreases-loop) → length c.args.t1.modules ≡ modulePlaces
+len : (c : tie.Start invariant-loop decreases-loop) → length c.args.t1.modules ≡ module_places
 len c = simp length-map at c.well-formed.0.1.1.1.1.1.1.1.0.1.0.1
 
 loop-holds : tie.Need-loop-init invariant-loop decreases-loop
@@ -51,21 +51,21 @@ loop-again c =
     (λ w. (
       omega arith,
       omega (arith, s.requires.each l.loop.i (omega arith)),
-      omega (arith, cycles-on-same p.module_count p.modules l.loop.i (omega arith) k s.args.b w.0.taken),
+      omega (arith, cycles_on-same p.module_count p.modules l.loop.i (omega arith) k s.args.b w.0.taken),
     ))
     (λ w. (
       omega arith,
       omega arith,
-      omega (arith, cycles-on-other p.module_count p.modules l.loop.i (omega arith) k s.args.b w.0.left),
+      omega (arith, cycles_on_other p.module_count p.modules l.loop.i (omega arith) k s.args.b w.0.left),
     ))
     c.if1.branch
 
 returns : tie.Need-returns invariant-loop decreases-loop
-unfolding cyclesOn
+unfolding cycles_on
 returns c =
     let l = c.before in
     let a = l.before.args in
-    let e : cyclesOn a.b (drop l.loop.i (modulesOf a.t1)) ≡ 0 = rw (front-none a.t1.module_count a.t1.modules l.loop.i c.loop-test.false) in
+    let e : cycles_on a.b (drop l.loop.i (modules_of a.t1)) ≡ 0 = rw (front-none a.t1.module_count a.t1.modules l.loop.i c.loop-test.false) in
     omega arith
 
 pub cycles-on-spec : {M : Type 1} → statement M

@@ -1,9 +1,9 @@
--- `plan_sums::times::has_good_times` meets its contract: its tests are those of `goodTimes`, in order. Assumes nothing.
+-- `plan_sums::times::has_good_times` meets its contract: its tests are those of `good_times`, in order. Assumes nothing.
 use borrow.Author.Rules.{rules}
 use borrow.Author.Tests.{not-true, not-false}
 use mathlib.Core.Path.{sym, ◌∙◌}
-use Rattle.units.proofs.TestLaws.{and-stops, and-goes}
-use Rattle.plan_record.specs.Good.{goodTimes}
+use Rattle.units.proofs.TestLaws.{and_stops, and_goes}
+use Rattle.plan_record.specs.Good.{good_times}
 use Rattle.plan_sums.proofs.times.has_good_times.Statement.{statement}
 use Rattle.plan_sums.proofs.times.has_good_times.Tie as tie
 
@@ -11,17 +11,17 @@ has-good-busy-requires : tie.Need-has-good-busy-requires
 has-good-busy-requires c κs = search rules
 
 returns : tie.Need-returns
-unfolding goodTimes
-returns c = sym (and-stops _ _ (sym c.before.has-good-busy.ensures ∙ not-true _ c.if1.true))
+unfolding good_times
+returns c = sym (and_stops _ _ (sym c.before.has-good-busy.ensures ∙ not-true _ c.if1.true))
 
 largest-busy-requires : tie.Need-largest-busy-requires
 largest-busy-requires c κs = search rules
 
 returns-2 : tie.Need-returns-2
-unfolding goodTimes
+unfolding good_times
 returns-2 c =
     let e = c.before.before in
-    rw c.before.largest-busy.ensures (sym (and-goes _ _ (sym e.before.has-good-busy.ensures ∙ not-false _ e.if1.false)))
+    rw c.before.largest-busy.ensures (sym (and_goes _ _ (sym e.before.has-good-busy.ensures ∙ not-false _ e.if1.false)))
 
 pub has-good-times-spec : {M : Type 1} → statement M
 has-good-times-spec =

@@ -7,18 +7,18 @@ use mathlib.Core.Logic.{⊎_elim}
 use native.Mathlib.Omega.{arith}
 use lib.ListN.{length, length-map, take, drop}
 use Rattle.plan_rules.specs.Plans.{largest}
-use Rattle.plan_record.specs.Record.{busPlaces, busesOf, busiesOf}
+use Rattle.plan_record.specs.Record.{bus_places, buses_of, busies_of}
 use Rattle.plan_record.proofs.GoodPlanLaws.{front-none, largest_step}
 use Rattle.plan_sums.proofs.times.largest_busy.Statement.{statement}
 use Rattle.plan_sums.proofs.times.largest_busy.Tie as tie
 
 abbrev invariant-loop : tie.invariant-loop
-invariant-loop p n most₀ b₀ most b = (b ≤ n) × (largest (busiesOf (take n p.buses)) ≡ max most (largest (busiesOf (drop b (take n p.buses)))))
+invariant-loop p n most₀ b₀ most b = (b ≤ n) × (largest (busies_of (take n p.buses)) ≡ max most (largest (busies_of (drop b (take n p.buses)))))
 
 abbrev decreases-loop : tie.decreases-loop
 decreases-loop p n most₀ b₀ most b = n - b
 
-len : (c : tie.Start invariant-loop decreases-loop) → length c.args.t1.buses ≡ busPlaces
+len : (c : tie.Start invariant-loop decreases-loop) → length c.args.t1.buses ≡ bus_places
 len c = simp length-map at c.well-formed.0.1.1.1.1.1.0.1.0.1
 
 loop-holds : tie.Need-loop-init invariant-loop decreases-loop
@@ -48,7 +48,7 @@ unfolding largest
 returns c =
     let l = c.before in
     let p = l.before.args.t1 in
-    let e : largest (busiesOf (drop l.loop.b (busesOf p))) ≡ 0 = rw (front-none p.bus_count p.buses l.loop.b c.loop-test.false) in
+    let e : largest (busies_of (drop l.loop.b (buses_of p))) ≡ 0 = rw (front-none p.bus_count p.buses l.loop.b c.loop-test.false) in
     omega arith
 
 pub largest-busy-spec : {M : Type 1} → statement M

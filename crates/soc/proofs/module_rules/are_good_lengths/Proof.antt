@@ -8,15 +8,15 @@ use mathlib.Core.Logic.{inl}
 use native.Mathlib.Omega.{arith}
 use lib.ListN.{length, take, drop}
 use Rattle.units.specs.Places.{all_of}
-use Rattle.soc.specs.Record.{flipFlops}
-use Rattle.soc.specs.Rules.{goodLength}
-use Rattle.units.proofs.PlaceLaws.{all-front-step, all-front-fails, all-front-end}
-use Rattle.units.proofs.TestLaws.{and-stops, and-goes}
+use Rattle.soc.specs.Record.{flip_flops}
+use Rattle.soc.specs.Rules.{good_length}
+use Rattle.units.proofs.PlaceLaws.{all-front_step, all-front_fails, all-front-end}
+use Rattle.units.proofs.TestLaws.{and_stops, and_goes}
 use Rattle.soc.proofs.module_rules.are_good_lengths.Statement.{statement}
 use Rattle.soc.proofs.module_rules.are_good_lengths.Tie as tie
 
 abbrev invariant-loop : tie.invariant-loop
-invariant-loop n chains i₀ i = (i ≤ n) × (all_of goodLength (take n chains) ≡ all_of goodLength (drop i (take n chains)))
+invariant-loop n chains i₀ i = (i ≤ n) × (all_of good_length (take n chains) ≡ all_of good_length (drop i (take n chains)))
 
 abbrev decreases-loop : tie.decreases-loop
 decreases-loop n chains i₀ i = n - i
@@ -38,15 +38,15 @@ returns c =
     let l = c.before.before.before.before in
     let s = l.before in
     sym (l.loop.invariant.1
-    ∙ all-front-fails goodLength s.args.n s.args.t1 l.loop.i (flipFlops 0) (omega arith) (omega (arith, len s)) (and-stops _ _ (lt-leb _ _ c.if1.true)))
+    ∙ all-front_fails good_length s.args.n s.args.t1 l.loop.i (flip_flops 0) (omega arith) (omega (arith, len s)) (and_stops _ _ (lt-leb _ _ c.if1.true)))
 
 returns-2 : tie.Need-returns-2 invariant-loop decreases-loop
 returns-2 c =
     let l = c.before.before.before.before.before.before in
     let s = l.before in
     sym (l.loop.invariant.1
-    ∙ all-front-fails goodLength s.args.n s.args.t1 l.loop.i (flipFlops 0) (omega arith) (omega (arith, len s))
-    (and-goes _ _ (le-leb _ _ c.before.before.if1.false) ∙ lt-leb _ _ c.if2.true))
+    ∙ all-front_fails good_length s.args.n s.args.t1 l.loop.i (flip_flops 0) (omega arith) (omega (arith, len s))
+    (and_goes _ _ (le-leb _ _ c.before.before.if1.false) ∙ lt-leb _ _ c.if2.true))
 
 add-i : tie.Need-overflow-add-i invariant-loop decreases-loop
 add-i c = search rules
@@ -60,14 +60,14 @@ loop-again c =
     let s = l.before in (
       omega arith,
       l.loop.invariant.1
-          ∙ all-front-step goodLength s.args.n s.args.t1 l.loop.i (flipFlops 0) (omega arith) (omega (arith, len s))
-          (and-goes _ _ (le-leb _ _ c.before.before.if1.false) ∙ le-leb _ _ c.if2.false),
+          ∙ all-front_step good_length s.args.n s.args.t1 l.loop.i (flip_flops 0) (omega arith) (omega (arith, len s))
+          (and_goes _ _ (le-leb _ _ c.before.before.if1.false) ∙ le-leb _ _ c.if2.false),
     )
 
 returns-3 : tie.Need-returns-3 invariant-loop decreases-loop
 returns-3 c =
     let s = c.before.before in
-    sym (c.before.loop.invariant.1 ∙ all-front-end goodLength s.args.n s.args.t1 c.before.loop.i (inl c.loop-test.false))
+    sym (c.before.loop.invariant.1 ∙ all-front-end good_length s.args.n s.args.t1 c.before.loop.i (inl c.loop-test.false))
 
 pub are-good-lengths-spec : {M : Type 1} → statement M
 are-good-lengths-spec =

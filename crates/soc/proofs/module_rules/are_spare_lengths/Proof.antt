@@ -7,14 +7,14 @@ use mathlib.Core.Path.{◌≡◌, refl, sym, ◌∙◌}
 use native.Mathlib.Omega.{arith}
 use lib.ListN.{length, drop}
 use Rattle.units.specs.Places.{all_of}
-use Rattle.soc.specs.Record.{flipFlops}
-use Rattle.soc.specs.Rules.{spareLength}
-use Rattle.units.proofs.PlaceLaws.{all-step, all-fails, all_end}
+use Rattle.soc.specs.Record.{flip_flops}
+use Rattle.soc.specs.Rules.{spare_length}
+use Rattle.units.proofs.PlaceLaws.{all_step, all_fails, all_end}
 use Rattle.soc.proofs.module_rules.are_spare_lengths.Statement.{statement}
 use Rattle.soc.proofs.module_rules.are_spare_lengths.Tie as tie
 
 abbrev invariant-loop : tie.invariant-loop
-invariant-loop n chains i₀ i = (i ≤ 64) × (all_of spareLength (drop n chains) ≡ all_of spareLength (drop i chains))
+invariant-loop n chains i₀ i = (i ≤ 64) × (all_of spare_length (drop n chains) ≡ all_of spare_length (drop i chains))
 
 abbrev decreases-loop : tie.decreases-loop
 decreases-loop n chains i₀ i = 64 - i
@@ -35,7 +35,7 @@ returns : tie.Need-returns invariant-loop decreases-loop
 returns c =
     let l = c.before.before.before.before in
     let s = l.before in
-    sym (l.loop.invariant.1 ∙ all-fails spareLength s.args.t1 l.loop.i (flipFlops 0) (omega (arith, len s)) (ne_eqb _ _ c.if1.true))
+    sym (l.loop.invariant.1 ∙ all_fails spare_length s.args.t1 l.loop.i (flip_flops 0) (omega (arith, len s)) (ne_eqb _ _ c.if1.true))
 
 add-i : tie.Need-overflow-add-i invariant-loop decreases-loop
 add-i c = search rules
@@ -47,12 +47,12 @@ loop-again : tie.Need-loop-preserved invariant-loop decreases-loop
 loop-again c =
     let l = c.before.before.before.before in
     let s = l.before in
-    (omega arith, l.loop.invariant.1 ∙ all-step spareLength s.args.t1 l.loop.i (flipFlops 0) (omega (arith, len s)) (eq-eqb _ _ c.if1.false))
+    (omega arith, l.loop.invariant.1 ∙ all_step spare_length s.args.t1 l.loop.i (flip_flops 0) (omega (arith, len s)) (eq-eqb _ _ c.if1.false))
 
 returns-2 : tie.Need-returns-2 invariant-loop decreases-loop
 returns-2 c =
     let s = c.before.before in
-    sym (c.before.loop.invariant.1 ∙ all_end spareLength s.args.t1 c.before.loop.i (omega (arith, len s)))
+    sym (c.before.loop.invariant.1 ∙ all_end spare_length s.args.t1 c.before.loop.i (omega (arith, len s)))
 
 pub are-spare-lengths-spec : {M : Type 1} → statement M
 are-spare-lengths-spec =

@@ -1,32 +1,32 @@
--- `soc::module_rules::is_good_position` meets its contract: where X is not given, `goodPosition` is whether Y is not given, and where it is
+-- `soc::module_rules::is_good_position` meets its contract: where X is not given, `good_position` is whether Y is not given, and where it is
 -- given, that the option and both figures allow it. Assumes nothing.
 use borrow.Author.Rules.{rules}
 use borrow.Author.Tests.{not-true, not-false}
 use mathlib.Core.Path.{◌≡◌, sym, ◌∙◌}
 use mathlib.Core.Bool.{Bool, true, false, ◌&&◌, false≢true, and-false, or-false}
 use lib.IntN.{ℤ, pos, negsuc}
-use Rattle.soc.specs.Limits.{positionMax}
-use Rattle.soc.specs.Rules.{goodPosition, isNotGiven, up_to}
-use Rattle.soc.proofs.FigureLaws.{figure-back}
-use Rattle.units.proofs.TestLaws.{and-stops, and-goes}
+use Rattle.soc.specs.Limits.{position_max}
+use Rattle.soc.specs.Rules.{good_position, is_not_given, up_to}
+use Rattle.soc.proofs.FigureLaws.{figure_back}
+use Rattle.units.proofs.TestLaws.{and_stops, and_goes}
 use Rattle.soc.proofs.module_rules.is_good_position.Statement.{statement}
 use Rattle.soc.proofs.module_rules.is_good_position.Tie as tie
 
-position-none : (option : Bool) (x y : ℤ) → isNotGiven x ≡ true → goodPosition option x y ≡ isNotGiven y
-unfolding goodPosition
+position-none : (option : Bool) (x y : ℤ) → is_not_given x ≡ true → good_position option x y ≡ is_not_given y
+unfolding good_position
 position-none option (pos n) y e = absurd (false≢true e)
 position-none option (negsuc n) y e = simp (e, and-false, or-false)
 
-position-given : (option : Bool) (x y : ℤ) → isNotGiven x ≡ false → goodPosition option x y ≡ (option && (up_to positionMax x && up_to positionMax y))
-unfolding goodPosition
+position-given : (option : Bool) (x y : ℤ) → is_not_given x ≡ false → good_position option x y ≡ (option && (up_to position_max x && up_to position_max y))
+unfolding good_position
 position-given option x y e = simp e
 
 -- what the calls answer, of the parameters themselves
-given : (c : tie.After-is-not-given) → c.is-not-given.result ≡ isNotGiven c.before.args.x
-given c = rw (figure-back c.before.args.x c.before.ranges.x) at c.is-not-given.ensures
+given : (c : tie.After-is-not-given) → c.is-not-given.result ≡ is_not_given c.before.args.x
+given c = rw (figure_back c.before.args.x c.before.ranges.x) at c.is-not-given.ensures
 
-placed : (c : tie.After-is-position) → c.is-position.result ≡ up_to positionMax c.before.before.before.before.args.x
-placed c = let s = c.before.before.before.before in rw (figure-back s.args.x s.ranges.x) at c.is-position.ensures
+placed : (c : tie.After-is-position) → c.is-position.result ≡ up_to position_max c.before.before.before.before.args.x
+placed c = let s = c.before.before.before.before in rw (figure_back s.args.x s.ranges.x) at c.is-position.ensures
 
 is-not-given-requires : tie.Need-is-not-given-requires
 is-not-given-requires c κs = search rules
@@ -37,13 +37,13 @@ is-not-given-requires-2 c κs = search rules
 returns : tie.Need-returns
 returns c =
     let s = c.before.before.before in
-    rw (figure-back s.args.y s.ranges.y) at c.is-not-given2.ensures
+    rw (figure_back s.args.y s.ranges.y) at c.is-not-given2.ensures
     ∙ sym (position-none s.args.option s.args.x s.args.y (sym (given c.before.before) ∙ c.before.if1.true))
 
 returns-2 : tie.Need-returns-2
 returns-2 c =
     let s = c.before.before.before in
-    sym (position-given s.args.option s.args.x s.args.y (sym (given c.before.before) ∙ c.before.if1.false) ∙ and-stops _ _ (not-true s.args.option c.if2.true))
+    sym (position-given s.args.option s.args.x s.args.y (sym (given c.before.before) ∙ c.before.if1.false) ∙ and_stops _ _ (not-true s.args.option c.if2.true))
 
 is-position-requires : tie.Need-is-position-requires
 is-position-requires c κs = search rules
@@ -52,20 +52,20 @@ is-position-requires-2 : tie.Need-is-position-requires-2
 is-position-requires-2 c κs = search rules
 
 -- the position is given, and the option is set
-allowed : (c : tie.After-is-position) → let s = c.before.before.before.before in goodPosition s.args.option s.args.x s.args.y ≡ (up_to positionMax s.args.x && up_to positionMax s.args.y)
+allowed : (c : tie.After-is-position) → let s = c.before.before.before.before in good_position s.args.option s.args.x s.args.y ≡ (up_to position_max s.args.x && up_to position_max s.args.y)
 allowed c =
     let s = c.before.before.before.before in
     position-given s.args.option s.args.x s.args.y (sym (given c.before.before.before) ∙ c.before.before.if1.false)
-    ∙ and-goes _ _ (not-false s.args.option c.before.if2.false)
+    ∙ and_goes _ _ (not-false s.args.option c.before.if2.false)
 
 returns-3 : tie.Need-returns-3
 returns-3 c =
     let s = c.before.before.before.before.before.before in
-    rw (figure-back s.args.y s.ranges.y) at c.is-position2.ensures
-    ∙ sym (allowed c.before.before ∙ and-goes _ _ (sym (placed c.before.before) ∙ c.before.if3.true))
+    rw (figure_back s.args.y s.ranges.y) at c.is-position2.ensures
+    ∙ sym (allowed c.before.before ∙ and_goes _ _ (sym (placed c.before.before) ∙ c.before.if3.true))
 
 returns-4 : tie.Need-returns-4
-returns-4 c = sym (allowed c.before ∙ and-stops _ _ (sym (placed c.before) ∙ c.if3.false))
+returns-4 c = sym (allowed c.before ∙ and_stops _ _ (sym (placed c.before) ∙ c.if3.false))
 
 pub is-good-position-spec : {M : Type 1} → statement M
 is-good-position-spec =

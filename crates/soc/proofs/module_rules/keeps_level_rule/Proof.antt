@@ -1,10 +1,10 @@
--- `soc::module_rules::keeps_level_rule` meets its contract: its tests are those of `levelRule`, in order. Assumes nothing.
+-- `soc::module_rules::keeps_level_rule` meets its contract: its tests are those of `level_rule`, in order. Assumes nothing.
 use borrow.Author.Tests.{eq-eqb, ne_eqb, lt-leb, le-leb}
 use Prim.Native.Nat.{ℕ, zero, suc, ◌+◌, ◌-◌, ◌≤◌}
 use mathlib.Core.Path.{◌≡◌, sym}
 use native.Mathlib.Omega.{arith}
 use lib.Dec.{leb, leb-suc-suc}
-use Rattle.soc.specs.Rules.{levelRule}
+use Rattle.soc.specs.Rules.{level_rule}
 use Rattle.soc.proofs.module_rules.keeps_level_rule.Statement.{statement}
 use Rattle.soc.proofs.module_rules.keeps_level_rule.Tie as tie
 
@@ -17,15 +17,15 @@ leb-less-one (suc v) n h =
     rw (e, f) (sym (leb-suc-suc v n))
 
 returns : tie.Need-returns
-unfolding levelRule
+unfolding level_rule
 returns c = simp (eq-eqb _ _ c.if1.true)
 
 returns-2 : tie.Need-returns-2
-unfolding levelRule
+unfolding level_rule
 returns-2 c = simp (ne_eqb _ _ c.before.if1.false, lt-leb _ _ c.if2.true)
 
 returns-3 : tie.Need-returns-3
-unfolding levelRule
+unfolding level_rule
 returns-3 c = simp (ne_eqb _ _ c.before.if1.false, le-leb _ _ c.if2.false) (leb-less-one _ _ c.if2.false)
 
 pub keeps-level-rule-spec : {M : Type 1} → statement M

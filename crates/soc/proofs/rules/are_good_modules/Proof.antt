@@ -11,27 +11,27 @@ use native.Mathlib.Omega.{arith}
 use native.Mathlib.Numerals.{add-one}
 use lib.ListN.{length, length-map, get_or, take, drop, drop_of_length-le}
 use lib.Seq.{drop-cons, get_or-take}
-use Rattle.soc.specs.Rules.{goodModule, goodModules}
+use Rattle.soc.specs.Rules.{good_module, good_modules}
 use Rattle.soc.specs.declared.record.Module.{Module}
 use Rattle.units.proofs.PlaceLaws.{front-has, front_ends}
-use Rattle.units.proofs.TestLaws.{and-stops, and-goes}
+use Rattle.units.proofs.TestLaws.{and_stops, and_goes}
 use Rattle.soc.proofs.rules.are_good_modules.Statement.{statement}
 use Rattle.soc.proofs.rules.are_good_modules.Tie as tie
 
-modules-at : (power xy : Bool) (m last : ℕ) (l : List Module) (d : Module) → m < length l → goodModules power xy m last (drop m l) ≡ (goodModule power xy m last (get_or l m d) && goodModules power xy (m + 1) (get_or l m d).level (drop (m + 1) l))
-unfolding goodModules
+modules-at : (power xy : Bool) (m last : ℕ) (l : List Module) (d : Module) → m < length l → good_modules power xy m last (drop m l) ≡ (good_module power xy m last (get_or l m d) && good_modules power xy (m + 1) (get_or l m d).level (drop (m + 1) l))
+unfolding good_modules
 modules-at power xy m last l d h = rw (add-one, drop-cons l m d)
 
 -- the same of the first n modules
-modules-front : (power xy : Bool) (m last n : ℕ) (l : List Module) (d : Module) → m < n → m < length l → goodModules power xy m last (drop m (take n l)) ≡ (goodModule power xy m last (get_or l m d) && goodModules power xy (m + 1) (get_or l m d).level (drop (m + 1) (take n l)))
+modules-front : (power xy : Bool) (m last n : ℕ) (l : List Module) (d : Module) → m < n → m < length l → good_modules power xy m last (drop m (take n l)) ≡ (good_module power xy m last (get_or l m d) && good_modules power xy (m + 1) (get_or l m d).level (drop (m + 1) (take n l)))
 modules-front power xy m last n l d h k = rw (← get_or-take n l m d h) (modules-at power xy m last (take n l) d (front-has n l m h k))
 
-modules-end : (power xy : Bool) (m last : ℕ) (l : List Module) → length l ≤ m → goodModules power xy m last (drop m l) ≡ true
-unfolding goodModules
+modules-end : (power xy : Bool) (m last : ℕ) (l : List Module) → length l ≤ m → good_modules power xy m last (drop m l) ≡ true
+unfolding good_modules
 modules-end power xy m last l h = rw (drop_of_length-le l h)
 
 abbrev invariant-loop : tie.invariant-loop
-invariant-loop s n power xy last₀ i₀ last i = (i ≤ n) × (goodModules power xy 0 0 (take n s.modules) ≡ goodModules power xy i last (drop i (take n s.modules)))
+invariant-loop s n power xy last₀ i₀ last i = (i ≤ n) × (good_modules power xy 0 0 (take n s.modules) ≡ good_modules power xy i last (drop i (take n s.modules)))
 
 abbrev decreases-loop : tie.decreases-loop
 decreases-loop s n power xy last₀ i₀ last i = n - i
@@ -43,7 +43,7 @@ len c = simp length-map at c.well-formed.0.1.1.1.1.1.1.1.0.1.0.1
 turn : (c : tie.In-loop invariant-loop decreases-loop) (d : Module) →
     let l = c.before in
     let s = l.before.args.t1 in
-    goodModules s.power s.xy 0 0 (take s.module_count s.modules) ≡ (goodModule s.power s.xy l.loop.i l.loop.last (get_or s.modules l.loop.i d) && goodModules s.power s.xy (l.loop.i + 1) (get_or s.modules l.loop.i d).level (drop (l.loop.i + 1) (take s.module_count s.modules)))
+    good_modules s.power s.xy 0 0 (take s.module_count s.modules) ≡ (good_module s.power s.xy l.loop.i l.loop.last (get_or s.modules l.loop.i d) && good_modules s.power s.xy (l.loop.i + 1) (get_or s.modules l.loop.i d).level (drop (l.loop.i + 1) (take s.module_count s.modules)))
 turn c d =
     let l = c.before in
     let s = l.before.args.t1 in
@@ -62,7 +62,7 @@ is-good-module-requires : tie.Need-is-good-module-requires invariant-loop decrea
 is-good-module-requires c κs = search rules
 
 returns : tie.Need-returns invariant-loop decreases-loop
-returns c = sym (turn c.before.before.before _ ∙ and-stops _ _ (sym c.before.is-good-module.ensures ∙ not-true _ c.if1.true))
+returns c = sym (turn c.before.before.before _ ∙ and_stops _ _ (sym c.before.is-good-module.ensures ∙ not-true _ c.if1.true))
 
 add-i : tie.Need-overflow-add-i invariant-loop decreases-loop
 add-i c = search rules
@@ -71,7 +71,7 @@ loop-less : tie.Need-loop-smaller invariant-loop decreases-loop
 loop-less c = omega arith
 
 loop-again : tie.Need-loop-preserved invariant-loop decreases-loop
-loop-again c = (omega arith, turn c.before.before.before _ ∙ and-goes _ _ (sym c.before.is-good-module.ensures ∙ not-false _ c.if1.false))
+loop-again c = (omega arith, turn c.before.before.before _ ∙ and_goes _ _ (sym c.before.is-good-module.ensures ∙ not-false _ c.if1.false))
 
 returns-2 : tie.Need-returns-2 invariant-loop decreases-loop
 returns-2 c =

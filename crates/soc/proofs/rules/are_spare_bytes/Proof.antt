@@ -8,7 +8,7 @@ use native.Mathlib.Omega.{arith}
 use lib.ListN.{length, drop}
 use Rattle.units.specs.Places.{all_of}
 use Rattle.soc.specs.Rules.{none}
-use Rattle.units.proofs.PlaceLaws.{all-step, all-fails, all_end}
+use Rattle.units.proofs.PlaceLaws.{all_step, all_fails, all_end}
 use Rattle.soc.proofs.rules.are_spare_bytes.Statement.{statement}
 use Rattle.soc.proofs.rules.are_spare_bytes.Tie as tie
 
@@ -31,7 +31,7 @@ returns : tie.Need-returns invariant-loop decreases-loop
 returns c =
     let l = c.before.before in
     let s = l.before in
-    sym (l.loop.invariant.1 ∙ all-fails none s.args.t1 l.loop.i 0 (omega (arith, len s)) (ne_eqb _ _ c.if1.true))
+    sym (l.loop.invariant.1 ∙ all_fails none s.args.t1 l.loop.i 0 (omega (arith, len s)) (ne_eqb _ _ c.if1.true))
 
 add-i : tie.Need-overflow-add-i invariant-loop decreases-loop
 add-i c = search rules
@@ -43,7 +43,7 @@ loop-again : tie.Need-loop-preserved invariant-loop decreases-loop
 loop-again c =
     let l = c.before.before in
     let s = l.before in
-    (omega arith, l.loop.invariant.1 ∙ all-step none s.args.t1 l.loop.i 0 (omega (arith, len s)) (eq-eqb _ _ c.if1.false))
+    (omega arith, l.loop.invariant.1 ∙ all_step none s.args.t1 l.loop.i 0 (omega (arith, len s)) (eq-eqb _ _ c.if1.false))
 
 returns-2 : tie.Need-returns-2 invariant-loop decreases-loop
 returns-2 c =

@@ -7,13 +7,13 @@ use mathlib.Core.Path.{◌≡◌, refl, sym, ◌∙◌}
 use native.Mathlib.Omega.{arith}
 use lib.ListN.{length, length-map, drop}
 use Rattle.units.specs.Places.{all_of}
-use Rattle.soc.specs.Rules.{spareModule}
-use Rattle.units.proofs.PlaceLaws.{all-step, all-fails, all_end}
+use Rattle.soc.specs.Rules.{spare_module}
+use Rattle.units.proofs.PlaceLaws.{all_step, all_fails, all_end}
 use Rattle.soc.proofs.rules.are_spare_modules.Statement.{statement}
 use Rattle.soc.proofs.rules.are_spare_modules.Tie as tie
 
 abbrev invariant-loop : tie.invariant-loop
-invariant-loop n s i₀ i = (i ≤ 40) × (all_of spareModule (drop n s.modules) ≡ all_of spareModule (drop i s.modules))
+invariant-loop n s i₀ i = (i ≤ 40) × (all_of spare_module (drop n s.modules) ≡ all_of spare_module (drop i s.modules))
 
 abbrev decreases-loop : tie.decreases-loop
 decreases-loop n s i₀ i = 40 - i
@@ -37,7 +37,7 @@ returns : tie.Need-returns invariant-loop decreases-loop
 returns c =
     let l = c.before.before.before.before in
     sym (l.loop.invariant.1
-    ∙ all-fails spareModule l.before.args.t1.modules l.loop.i _ (omega (arith, len l.before)) (sym c.before.is-spare-module.ensures ∙ not-true _ c.if1.true))
+    ∙ all_fails spare_module l.before.args.t1.modules l.loop.i _ (omega (arith, len l.before)) (sym c.before.is-spare-module.ensures ∙ not-true _ c.if1.true))
 
 add-i : tie.Need-overflow-add-i invariant-loop decreases-loop
 add-i c = search rules
@@ -50,13 +50,13 @@ loop-again c =
     let l = c.before.before.before.before in (
       omega arith,
       l.loop.invariant.1
-          ∙ all-step spareModule l.before.args.t1.modules l.loop.i _ (omega (arith, len l.before)) (sym c.before.is-spare-module.ensures ∙ not-false _ c.if1.false),
+          ∙ all_step spare_module l.before.args.t1.modules l.loop.i _ (omega (arith, len l.before)) (sym c.before.is-spare-module.ensures ∙ not-false _ c.if1.false),
     )
 
 returns-2 : tie.Need-returns-2 invariant-loop decreases-loop
 returns-2 c =
     let l = c.before in
-    sym (l.loop.invariant.1 ∙ all_end spareModule l.before.args.t1.modules l.loop.i (omega (arith, len l.before)))
+    sym (l.loop.invariant.1 ∙ all_end spare_module l.before.args.t1.modules l.loop.i (omega (arith, len l.before)))
 
 pub are-spare-modules-spec : {M : Type 1} → statement M
 are-spare-modules-spec =

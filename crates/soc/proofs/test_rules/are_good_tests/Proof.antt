@@ -8,14 +8,14 @@ use mathlib.Core.Logic.{inl}
 use native.Mathlib.Omega.{arith}
 use lib.ListN.{length, take, drop}
 use Rattle.units.specs.Places.{all_of}
-use Rattle.soc.specs.Record.{noTest}
-use Rattle.soc.specs.Rules.{goodTest}
-use Rattle.units.proofs.PlaceLaws.{all-front-step, all-front-fails, all-front-end}
+use Rattle.soc.specs.Record.{no_test}
+use Rattle.soc.specs.Rules.{good_test}
+use Rattle.units.proofs.PlaceLaws.{all-front_step, all-front_fails, all-front-end}
 use Rattle.soc.proofs.test_rules.are_good_tests.Statement.{statement}
 use Rattle.soc.proofs.test_rules.are_good_tests.Tie as tie
 
 abbrev invariant-loop : tie.invariant-loop
-invariant-loop m power n tests i₀ i = (i ≤ n) × (all_of (goodTest m power) (take n tests) ≡ all_of (goodTest m power) (drop i (take n tests)))
+invariant-loop m power n tests i₀ i = (i ≤ n) × (all_of (good_test m power) (take n tests) ≡ all_of (good_test m power) (drop i (take n tests)))
 
 abbrev decreases-loop : tie.decreases-loop
 decreases-loop m power n tests i₀ i = n - i
@@ -39,9 +39,9 @@ returns : tie.Need-returns invariant-loop decreases-loop
 returns c =
     let l = c.before.before.before.before in
     let s = l.before in
-    let g = goodTest s.args.m s.args.power in
+    let g = good_test s.args.m s.args.power in
     sym (l.loop.invariant.1
-    ∙ all-front-fails g s.args.n s.args.t3 l.loop.i noTest (omega arith) (omega (arith, len s))
+    ∙ all-front_fails g s.args.n s.args.t3 l.loop.i no_test (omega arith) (omega (arith, len s))
     (sym c.before.is-good-test.ensures ∙ not-true _ c.if1.true))
 
 add-i : tie.Need-overflow-add-i invariant-loop decreases-loop
@@ -54,17 +54,17 @@ loop-again : tie.Need-loop-preserved invariant-loop decreases-loop
 loop-again c =
     let l = c.before.before.before.before in
     let s = l.before in
-    let g = goodTest s.args.m s.args.power in (
+    let g = good_test s.args.m s.args.power in (
       omega arith,
       l.loop.invariant.1
-          ∙ all-front-step g s.args.n s.args.t3 l.loop.i noTest (omega arith) (omega (arith, len s))
+          ∙ all-front_step g s.args.n s.args.t3 l.loop.i no_test (omega arith) (omega (arith, len s))
           (sym c.before.is-good-test.ensures ∙ not-false _ c.if1.false),
     )
 
 returns-2 : tie.Need-returns-2 invariant-loop decreases-loop
 returns-2 c =
     let s = c.before.before in
-    let g = goodTest s.args.m s.args.power in
+    let g = good_test s.args.m s.args.power in
     sym (c.before.loop.invariant.1 ∙ all-front-end g s.args.n s.args.t3 c.before.loop.i (inl c.loop-test.false))
 
 pub are-good-tests-spec : {M : Type 1} → statement M

@@ -7,14 +7,14 @@ use mathlib.Core.Path.{◌≡◌, refl, sym, ◌∙◌}
 use native.Mathlib.Omega.{arith}
 use lib.ListN.{length, drop}
 use Rattle.units.specs.Places.{all_of}
-use Rattle.soc.specs.Record.{noTest}
-use Rattle.soc.specs.Rules.{spareTest}
-use Rattle.units.proofs.PlaceLaws.{all-step, all-fails, all_end}
+use Rattle.soc.specs.Record.{no_test}
+use Rattle.soc.specs.Rules.{spare_test}
+use Rattle.units.proofs.PlaceLaws.{all_step, all_fails, all_end}
 use Rattle.soc.proofs.test_rules.are_spare_tests.Statement.{statement}
 use Rattle.soc.proofs.test_rules.are_spare_tests.Tie as tie
 
 abbrev invariant-loop : tie.invariant-loop
-invariant-loop n tests i₀ i = (i ≤ 8) × (all_of spareTest (drop n tests) ≡ all_of spareTest (drop i tests))
+invariant-loop n tests i₀ i = (i ≤ 8) × (all_of spare_test (drop n tests) ≡ all_of spare_test (drop i tests))
 
 abbrev decreases-loop : tie.decreases-loop
 decreases-loop n tests i₀ i = 8 - i
@@ -39,7 +39,7 @@ returns c =
     let l = c.before.before.before.before in
     let s = l.before in
     sym (l.loop.invariant.1
-    ∙ all-fails spareTest s.args.t1 l.loop.i noTest (omega (arith, len s)) (sym c.before.is-spare-test.ensures ∙ not-true _ c.if1.true))
+    ∙ all_fails spare_test s.args.t1 l.loop.i no_test (omega (arith, len s)) (sym c.before.is-spare-test.ensures ∙ not-true _ c.if1.true))
 
 add-i : tie.Need-overflow-add-i invariant-loop decreases-loop
 add-i c = search rules
@@ -53,13 +53,13 @@ loop-again c =
     let s = l.before in (
       omega arith,
       l.loop.invariant.1
-          ∙ all-step spareTest s.args.t1 l.loop.i noTest (omega (arith, len s)) (sym c.before.is-spare-test.ensures ∙ not-false _ c.if1.false),
+          ∙ all_step spare_test s.args.t1 l.loop.i no_test (omega (arith, len s)) (sym c.before.is-spare-test.ensures ∙ not-false _ c.if1.false),
     )
 
 returns-2 : tie.Need-returns-2 invariant-loop decreases-loop
 returns-2 c =
     let s = c.before.before in
-    sym (c.before.loop.invariant.1 ∙ all_end spareTest s.args.t1 c.before.loop.i (omega (arith, len s)))
+    sym (c.before.loop.invariant.1 ∙ all_end spare_test s.args.t1 c.before.loop.i (omega (arith, len s)))
 
 pub are-spare-tests-spec : {M : Type 1} → statement M
 are-spare-tests-spec =

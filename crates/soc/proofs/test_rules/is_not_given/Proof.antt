@@ -1,10 +1,10 @@
 -- `soc::test_rules::is_not_given` meets its contract: the bits are those of -1 where the number is -1. Assumes nothing.
-use Rattle.soc.proofs.FigureLaws.{not-given-bits}
+use Rattle.soc.proofs.FigureLaws.{not_given_bits}
 use Rattle.soc.proofs.test_rules.is_not_given.Statement.{statement}
 use Rattle.soc.proofs.test_rules.is_not_given.Tie as tie
 
 returns : tie.Need-returns
-returns c = not-given-bits c.args.z c.ranges.z
+returns c = not_given_bits c.args.z c.ranges.z
 
 pub is-not-given-spec : {M : Type 1} → statement M
 is-not-given-spec = tie.close (tie.spec returns)

@@ -8,14 +8,14 @@ use mathlib.Core.Path.{◌≡◌, sym, ap, ◌∙◌}
 use mathlib.Core.Bool.{true}
 use lib.ListN.{length, length-take, length-drop}
 use Rattle.fields.specs.Fields.{part}
-use Rattle.fields.specs.Names.{isName}
-use Rattle.text_lines.specs.LineAnswers.{nameAnswer}
+use Rattle.fields.specs.Names.{is_name}
+use Rattle.text_lines.specs.LineAnswers.{name_answer}
 use Rattle.text_lines.proofs.HeadLaws.{closed-no, closed-blank, closed-more, name-no, name-got, name-short, name-says}
 use Rattle.text_lines.proofs.head.name_at.Statement.{statement}
 use Rattle.text_lines.proofs.head.name_at.Tie as tie
 
 -- the field is a name
-named : (c : tie.Else1) → let s = c.before.before.before.before in isName (part s.args.l.now s.args.a s.args.e) ≡ true
+named : (c : tie.Else1) → let s = c.before.before.before.before in is_name (part s.args.l.now s.args.a s.args.e) ≡ true
 named c = sym c.before.is_name.ensures ∙ not-false _ c.if1.false
 
 sub-is-name : tie.Need-overflow-sub-is-name
@@ -34,7 +34,7 @@ no-name-requires : tie.Need-no-name-requires
 no-name-requires c κs = search rules
 
 returns : tie.Need-returns
-returns c = c.no_name.ensures ∙ sym (ap nameAnswer (closed-no _ _ (name-no _ _ (sym c.before.before.is_name.ensures ∙ not-true _ c.before.if1.true))))
+returns c = c.no_name.ensures ∙ sym (ap name_answer (closed-no _ _ (name-no _ _ (sym c.before.before.is_name.ensures ∙ not-true _ c.before.if1.true))))
 
 is-blank-requires : tie.Need-is-blank-requires
 is-blank-requires c κs = search rules
@@ -45,7 +45,7 @@ no-name-requires-2 c κs = search rules
 returns-2 : tie.Need-returns-2
 returns-2 c =
     c.no-name2.ensures
-    ∙ sym (ap nameAnswer (closed-more _ _ _ (name-got _ _ (named c.before.before.before)) (sym c.before.before.is-blank.ensures ∙ not-true _ c.before.if2.true)))
+    ∙ sym (ap name_answer (closed-more _ _ _ (name-got _ _ (named c.before.before.before)) (sym c.before.before.is-blank.ensures ∙ not-true _ c.before.if2.true)))
 
 sub-t6 : tie.Need-overflow-sub-t6
 sub-t6 c = search rules
@@ -67,7 +67,7 @@ returns-3 c =
     let s = c.before.before.before.before.before.before.before.before in
     let l : length (part s.args.l.now s.args.a s.args.e) ≡ s.args.e - s.args.a = simp (length-take, length-drop) (omega arith) in
     let w = closed-blank _ _ _ (name-got _ _ (named c.before.before.before.before)) (sym c.before.before.before.is-blank.ensures ∙ not-false _ c.before.before.if2.false) in
-    sym (ap nameAnswer w ∙ name-says _ _ _ l c.placed-name.ensures)
+    sym (ap name_answer w ∙ name-says _ _ _ l c.placed-name.ensures)
 
 pub name-at-spec : {M : Type 1} → statement M
 name-at-spec =

@@ -3,18 +3,18 @@ use borrow.Author.Rules.{rules}
 use mathlib.Core.Path.{◌≡◌, sym, ap, ◌∙◌}
 use lib.ListN.{drop}
 use Rattle.fields.specs.Fields.{fields_of}
-use Rattle.fields.specs.Readers.{got, figureIs}
+use Rattle.fields.specs.Readers.{got, figure_is}
 use Rattle.fields.proofs.PlaceAnswerLaws.{key-number-is}
-use Rattle.text_lines.specs.Kinds.{totalLine}
-use Rattle.text_lines.specs.LineAnswers.{countAnswer}
+use Rattle.text_lines.specs.Kinds.{total_line}
+use Rattle.text_lines.specs.LineAnswers.{count_answer}
 use Rattle.text_lines.proofs.HeadLaws.{closed-no, closed-blank, closed-more}
 use Rattle.text_lines.proofs.head.total_line.Statement.{statement}
 use Rattle.text_lines.proofs.head.total_line.Tie as tie
 
 -- the number that was read
-total : (c : tie.After-n) → let l = c.before.before.before.before.before.args.l.now in totalLine (fields_of l) ≡ got c.n.given.0.0 (fields_of (drop c.n.given.0.1.0 l))
-unfolding totalLine
-total c = let s = c.before.before.before.before.before in sym (key-number-is _ _ _ _ _ c.before.before.key-figure.ensures) ∙ ap (figureIs s.args.l.now) c.n.given.1
+total : (c : tie.After-n) → let l = c.before.before.before.before.before.args.l.now in total_line (fields_of l) ≡ got c.n.given.0.0 (fields_of (drop c.n.given.0.1.0 l))
+unfolding total_line
+total c = let s = c.before.before.before.before.before in sym (key-number-is _ _ _ _ _ c.before.before.key-figure.ensures) ∙ ap (figure_is s.args.l.now) c.n.given.1
 
 slice-aggregate-key-figure : tie.Need-slice-aggregate-key-figure
 slice-aggregate-key-figure c = search rules
@@ -35,19 +35,19 @@ is-blank-requires : tie.Need-is-blank-requires
 is-blank-requires c κs = search rules
 
 returns : tie.Need-returns
-unfolding totalLine countAnswer
+unfolding total_line count_answer
 returns c =
     let k = c.before.before.before in
     let s = k.before.before.before in
-    sym (ap countAnswer (closed-no _ _ (sym (key-number-is _ _ _ _ _ k.key-figure.ensures) ∙ ap (figureIs s.args.l.now) c.before.c.given.1)))
+    sym (ap count_answer (closed-no _ _ (sym (key-number-is _ _ _ _ _ k.key-figure.ensures) ∙ ap (figure_is s.args.l.now) c.before.c.given.1)))
 
 returns-2 : tie.Need-returns-2
-unfolding countAnswer
-returns-2 c = sym (ap countAnswer (closed-blank _ _ _ (total c.before.before.before) (sym c.before.is-blank.ensures ∙ c.if1.true)))
+unfolding count_answer
+returns-2 c = sym (ap count_answer (closed-blank _ _ _ (total c.before.before.before) (sym c.before.is-blank.ensures ∙ c.if1.true)))
 
 returns-3 : tie.Need-returns-3
-unfolding countAnswer
-returns-3 c = sym (ap countAnswer (closed-more _ _ _ (total c.before.before.before) (sym c.before.is-blank.ensures ∙ c.if1.false)))
+unfolding count_answer
+returns-3 c = sym (ap count_answer (closed-more _ _ _ (total c.before.before.before) (sym c.before.is-blank.ensures ∙ c.if1.false)))
 
 pub total-line-spec : {M : Type 1} → statement M
 total-line-spec =

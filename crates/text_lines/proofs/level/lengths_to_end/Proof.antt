@@ -7,19 +7,19 @@ use lib.ListN.{take, drop}
 use Rattle.fields.specs.Fields.{fields_of}
 use Rattle.fields.specs.Readers.{got, each}
 use Rattle.fields.proofs.ReaderLaws.{after-no, after-got}
-use Rattle.text_lines.specs.Kinds.{chainLength, lengthsPart}
-use Rattle.text_lines.specs.LineAnswers.{levelAnswer, lengthsAt}
+use Rattle.text_lines.specs.Kinds.{chain_length, lengths_part}
+use Rattle.text_lines.specs.LineAnswers.{level_answer, lengths_at}
 use Rattle.text_lines.proofs.HeadLaws.{closed-no, closed-blank, closed-more}
 use Rattle.text_lines.proofs.level.lengths_to_end.Statement.{statement}
 use Rattle.text_lines.proofs.level.lengths_to_end.Tie as tie
 
 -- the lengths that were read
 lengths : (c : tie.After-past2) → let s = c.before.before.before.before in let r = c.before.before.lengths-at.result in
-    each s.args.s (λ _. chainLength) 0 (fields_of (drop s.args.at s.args.l.now)) ≡ got (take s.args.s r.chains) (fields_of (drop c.past2.given.0.0 s.args.l.now))
+    each s.args.s (λ _. chain_length) 0 (fields_of (drop s.args.at s.args.l.now)) ≡ got (take s.args.s r.chains) (fields_of (drop c.past2.given.0.0 s.args.l.now))
 lengths c =
     let k = c.before.before in
     let s = c.before.before.before.before in
-    sym k.lengths-at.ensures.0 ∙ ap (lengthsAt s.args.l.now (take s.args.s k.lengths-at.result.chains)) c.past2.given.1
+    sym k.lengths-at.ensures.0 ∙ ap (lengths_at s.args.l.now (take s.args.s k.lengths-at.result.chains)) c.past2.given.1
 
 lengths-at-requires : tie.Need-lengths-at-requires
 lengths-at-requires c κs = search rules
@@ -40,22 +40,22 @@ no-level-requires-2 : tie.Need-no-level-requires-2
 no-level-requires-2 c κs = search rules
 
 returns : tie.Need-returns
-unfolding lengthsPart
-returns c = c.no-level2.ensures ∙ sym (ap levelAnswer (closed-more _ _ _ (after-got _ _ _ _ (lengths c.before.before.before.before)) (sym c.before.before.is-blank.ensures ∙ not-true _ c.before.if1.true)))
+unfolding lengths_part
+returns c = c.no-level2.ensures ∙ sym (ap level_answer (closed-more _ _ _ (after-got _ _ _ _ (lengths c.before.before.before.before)) (sym c.before.before.is-blank.ensures ∙ not-true _ c.before.if1.true)))
 
 returns-2 : tie.Need-returns-2
-unfolding lengthsPart
+unfolding lengths_part
 returns-2 c =
     let k = c.before.before.before.before in
     let s = k.before.before in
     c.no-level.ensures
-    ∙ sym (ap levelAnswer (closed-no _ _ (after-no _ _ _ (sym k.lengths-at.ensures.0 ∙ ap (lengthsAt s.args.l.now (take s.args.s k.lengths-at.result.chains)) c.before.before.past.given.1))))
+    ∙ sym (ap level_answer (closed-no _ _ (after-no _ _ _ (sym k.lengths-at.ensures.0 ∙ ap (lengths_at s.args.l.now (take s.args.s k.lengths-at.result.chains)) c.before.before.past.given.1))))
 
 returns-3 : tie.Need-returns-3
-unfolding lengthsPart levelAnswer
+unfolding lengths_part level_answer
 returns-3 c =
     rw c.before.before.before.before.before.before.lengths-at.ensures.1
-    (sym (ap levelAnswer (closed-blank _ _ _ (after-got _ _ _ _ (lengths c.before.before.before.before)) (sym c.before.before.is-blank.ensures ∙ not-false _ c.before.if1.false))))
+    (sym (ap level_answer (closed-blank _ _ _ (after-got _ _ _ _ (lengths c.before.before.before.before)) (sym c.before.before.is-blank.ensures ∙ not-false _ c.before.if1.false))))
 
 pub lengths-to-end-spec : {M : Type 1} → statement M
 lengths-to-end-spec =

@@ -6,24 +6,24 @@ use mathlib.Core.Path.{◌≡◌, sym, ap, ◌∙◌}
 use lib.ListN.{drop}
 use Rattle.fields.specs.Bytes.{bytes}
 use Rattle.fields.specs.Fields.{fields_of}
-use Rattle.fields.specs.Readers.{got, pastIs, figureIs}
+use Rattle.fields.specs.Readers.{got, past_is, figure_is}
 use Rattle.fields.proofs.PlaceAnswerLaws.{key-number-is}
 use Rattle.fields.proofs.ReaderLaws.{after-no, after-got, key-between-within}
-use Rattle.soc.specs.Limits.{levelMax}
+use Rattle.soc.specs.Limits.{level_max}
 use Rattle.text_lines.specs.Parts.{keyed}
-use Rattle.text_lines.specs.Kinds.{moduleDue, level}
-use Rattle.text_lines.proofs.PartLaws.{rule-kept, rule-broken}
+use Rattle.text_lines.specs.Kinds.{module_due, level}
+use Rattle.text_lines.proofs.PartLaws.{rule-kept, rule_broken}
 use Rattle.text_lines.proofs.level.level_part.Statement.{statement}
 use Rattle.text_lines.proofs.level.level_part.Tie as tie
 
 -- the module is the one that is due
-due : (c : tie.After-e1) → let s = c.before.before.before.before.before in let l = s.args.l.now in moduleDue s.args.m (fields_of l) ≡ got tt (fields_of (drop c.e1.given.0.0 l))
-due c = sym c.before.before.key-due.ensures ∙ ap (pastIs c.before.before.before.before.before.args.l.now) c.e1.given.1
+due : (c : tie.After-e1) → let s = c.before.before.before.before.before in let l = s.args.l.now in module_due s.args.m (fields_of l) ≡ got tt (fields_of (drop c.e1.given.0.0 l))
+due c = sym c.before.before.key-due.ensures ∙ ap (past_is c.before.before.before.before.before.args.l.now) c.e1.given.1
 
 -- the level that was read
 found : (c : tie.After-v) → let e = c.before.before.before.before.before in let l = e.before.before.before.before.before.args.l.now in
-    keyed "Level" 0 levelMax (fields_of (drop e.e1.given.0.0 l)) ≡ got c.v.given.0.0 (fields_of (drop c.v.given.0.1.0 l))
-found c = sym (key-number-is _ _ _ _ _ c.before.before.key-figure.ensures) ∙ ap (figureIs c.before.before.before.before.before.before.before.before.before.before.args.l.now) c.v.given.1
+    keyed "Level" 0 level_max (fields_of (drop e.e1.given.0.0 l)) ≡ got c.v.given.0.0 (fields_of (drop c.v.given.0.1.0 l))
+found c = sym (key-number-is _ _ _ _ _ c.before.before.key-figure.ensures) ∙ ap (figure_is c.before.before.before.before.before.before.before.before.before.before.args.l.now) c.v.given.1
 
 slice-aggregate-key-due : tie.Need-slice-aggregate-key-due
 slice-aggregate-key-due c = search rules
@@ -50,18 +50,18 @@ enum-known-v : tie.Need-enum-known-v
 enum-known-v c = search rules
 
 cast-keeps-level-rule : tie.Need-overflow-cast-keeps-level-rule
-cast-keeps-level-rule c = let w = key-between-within (bytes "Level") 0 levelMax _ _ _ (found c.before) in omega arith
+cast-keeps-level-rule c = let w = key-between-within (bytes "Level") 0 level_max _ _ _ (found c.before) in omega arith
 
 keeps-level-rule-requires : tie.Need-keeps-level-rule-requires
 keeps-level-rule-requires c κs = search rules
 
 returns : tie.Need-returns
 unfolding level
-returns c = sym (after-no _ _ _ (sym c.before.before.before.key-due.ensures ∙ ap (pastIs c.before.before.before.before.before.before.args.l.now) c.before.c.given.1))
+returns c = sym (after-no _ _ _ (sym c.before.before.before.key-due.ensures ∙ ap (past_is c.before.before.before.before.before.before.args.l.now) c.before.c.given.1))
 
 returns-2 : tie.Need-returns-2
 unfolding level
-returns-2 c = sym (after-got _ _ _ _ (due c.before.before.before.before.before.before) ∙ after-no _ _ _ (sym (key-number-is _ _ _ _ _ c.before.before.before.key-figure.ensures) ∙ ap (figureIs c.before.before.before.before.before.before.before.before.before.before.before.args.l.now) c.before.c2.given.1))
+returns-2 c = sym (after-got _ _ _ _ (due c.before.before.before.before.before.before) ∙ after-no _ _ _ (sym (key-number-is _ _ _ _ _ c.before.before.before.key-figure.ensures) ∙ ap (figure_is c.before.before.before.before.before.before.before.before.before.before.before.args.l.now) c.before.c2.given.1))
 
 returns-3 : tie.Need-returns-3
 unfolding level
@@ -69,7 +69,7 @@ returns-3 c = sym (after-got _ _ _ _ (due c.before.before.before.before.before.b
 
 returns-4 : tie.Need-returns-4
 unfolding level
-returns-4 c = sym (after-got _ _ _ _ (due c.before.before.before.before.before.before.before.before) ∙ after-got _ _ _ _ (found c.before.before.before) ∙ after-no _ _ _ (rule-broken _ _ (sym c.before.keeps-level-rule.ensures ∙ c.if1.false)))
+returns-4 c = sym (after-got _ _ _ _ (due c.before.before.before.before.before.before.before.before) ∙ after-got _ _ _ _ (found c.before.before.before) ∙ after-no _ _ _ (rule_broken _ _ (sym c.before.keeps-level-rule.ensures ∙ c.if1.false)))
 
 pub level-part-spec : {M : Type 1} → statement M
 level-part-spec =

@@ -3,7 +3,7 @@ use borrow.Author.Rules.{rules}
 use mathlib.Core.Path.{sym, ap, ◌∙◌}
 use Rattle.fields.proofs.ReaderLaws.{after-no, after-got}
 use Rattle.text_lines.specs.Parts.{closed}
-use Rattle.text_lines.specs.LineAnswers.{levelAnswer, termsIs}
+use Rattle.text_lines.specs.LineAnswers.{level_answer, terms_is}
 use Rattle.text_lines.proofs.HeadLaws.{closed-no}
 use Rattle.text_lines.proofs.level.shape_to_end.Statement.{statement}
 use Rattle.text_lines.proofs.level.shape_to_end.Tie as tie
@@ -24,12 +24,12 @@ chains-to-end-requires : tie.Need-chains-to-end-requires
 chains-to-end-requires c κs = search rules
 
 returns : tie.Need-returns
-returns c = c.no-level.ensures ∙ sym (ap levelAnswer (closed-no _ _ (after-no _ _ _ (sym c.before.before.before.before.terminals-at.ensures ∙ ap (termsIs c.before.before.before.before.before.before.args.l.now) c.before.before.c.given.1))))
+returns c = c.no-level.ensures ∙ sym (ap level_answer (closed-no _ _ (after-no _ _ _ (sym c.before.before.before.before.terminals-at.ensures ∙ ap (terms_is c.before.before.before.before.before.before.args.l.now) c.before.before.c.given.1))))
 
 returns-2 : tie.Need-returns-2
 returns-2 c =
     c.chains-to-end.ensures
-    ∙ sym (ap (λ g. levelAnswer (closed g)) (after-got _ _ _ _ (sym c.before.before.before.before.terminals-at.ensures ∙ ap (termsIs c.before.before.before.before.before.before.args.l.now) c.before.before.i.given.1)))
+    ∙ sym (ap (λ g. level_answer (closed g)) (after-got _ _ _ _ (sym c.before.before.before.before.terminals-at.ensures ∙ ap (terms_is c.before.before.before.before.before.before.args.l.now) c.before.before.i.given.1)))
 
 pub shape-to-end-spec : {M : Type 1} → statement M
 shape-to-end-spec =

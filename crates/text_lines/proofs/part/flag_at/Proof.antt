@@ -1,23 +1,23 @@
--- `text_lines::part::flag_at` meets its contract. What `next_field` names is the first field, by the law of fields, and the field is compared with
+-- `text_lines::part::flag_at` meets its contract. What `next_field_lem` names is the first field, by the law of fields, and the field is compared with
 -- one flag and then with the other. Assumes nothing.
 use borrow.Author.Rules.{rules}
 use native.Mathlib.Omega.{arith}
 use mathlib.Core.Path.{◌≡◌, sym, ap, ◌∙◌}
 use mathlib.Core.Bool.{false}
-use Rattle.fields.specs.Bytes.{bytes, sameBytes}
+use Rattle.fields.specs.Bytes.{bytes, same_bytes}
 use Rattle.fields.specs.Fields.{part}
-use Rattle.fields.proofs.FieldLaws.{FieldIs, next_field, next-nothing}
+use Rattle.fields.proofs.FieldLaws.{FieldIs, next_field_lem, next-nothing}
 use Rattle.text_lines.specs.Parts.{flag}
 use Rattle.text_lines.proofs.part.flag_at.Statement.{statement}
 use Rattle.text_lines.proofs.part.flag_at.Tie as tie
 
 -- the field that was found
 field : (c : tie.After-a) → let s = c.before.before.before.before in FieldIs s.args.l.now s.args.at c.a.given.0.0 c.a.given.0.1.0
-field c = next_field _ _ _ _ (sym c.before.before.next_field.ensures ∙ c.a.given.1)
+field c = next_field_lem _ _ _ _ (sym c.before.before.next_field.ensures ∙ c.a.given.1)
 
 -- it is not `0`
 not-0 : (c : tie.Else1) → let a = c.before.before.before.before.before in
-    sameBytes (part a.before.before.before.before.args.l.now a.a.given.0.0 a.a.given.0.1.0) (bytes "0") ≡ false
+    same_bytes (part a.before.before.before.before.args.l.now a.a.given.0.0 a.a.given.0.1.0) (bytes "0") ≡ false
 not-0 c = sym c.before.same_bytes.ensures ∙ c.if1.false
 
 next-field-requires : tie.Need-next-field-requires

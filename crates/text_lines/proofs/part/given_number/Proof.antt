@@ -6,15 +6,15 @@ use Prim.Native.Nat.{◌<◌}
 use mathlib.Core.Path.{◌≡◌, sym, ◌∙◌}
 use lib.IntN.{pos}
 use Rattle.fields.specs.Fields.{part}
-use Rattle.fields.specs.Numbers.{decimalOf, cut}
+use Rattle.fields.specs.Numbers.{decimal_of, cut}
 use Rattle.fields.specs.declared.number.Number.TheVariants.{Value}
-use Rattle.soc.proofs.FigureLaws.{figure-back}
-use Rattle.text_lines.proofs.PartLaws.{given-bad, given-got, given_above}
+use Rattle.soc.proofs.FigureLaws.{figure_back}
+use Rattle.text_lines.proofs.PartLaws.{given_bad, given-got, given_above}
 use Rattle.text_lines.proofs.part.given_number.Statement.{statement}
 use Rattle.text_lines.proofs.part.given_number.Tie as tie
 
 -- the number that was read
-value : (c : tie.After-v) → let s = c.before.before.before.before.before in cut (decimalOf (part s.args.l.now s.args.a s.args.e)) ≡ Value c.v.given.0.0
+value : (c : tie.After-v) → let s = c.before.before.before.before.before in cut (decimal_of (part s.args.l.now s.args.a s.args.e)) ≡ Value c.v.given.0.0
 value c = sym c.before.before.number_of_lem.ensures ∙ c.v.given.1
 
 sub-number-of : tie.Need-overflow-sub-number-of
@@ -41,14 +41,14 @@ cast-t15 c = search rules
 returns : tie.Need-returns
 returns c =
     let k = c.before.before in
-    sym (given-bad _ _ _ (sym k.number_of_lem.ensures ∙ c.enum_told.given.1))
+    sym (given_bad _ _ _ (sym k.number_of_lem.ensures ∙ c.enum_told.given.1))
 
 returns-2 : tie.Need-returns-2
 returns-2 c =
     let v = c.before.before in
     let high = v.before.before.before.before.before.args.high in
     let small : v.v.given.0.0 < 2147483648 = omega arith in
-    rw (figure-back (pos v.v.given.0.0) (record { sfits = small })) (sym (given-got high _ _ _ (value v) c.if1.true (omega arith)))
+    rw (figure_back (pos v.v.given.0.0) (record { sfits = small })) (sym (given-got high _ _ _ (value v) c.if1.true (omega arith)))
 
 returns-3 : tie.Need-returns-3
 returns-3 c =

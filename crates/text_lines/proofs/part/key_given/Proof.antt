@@ -1,7 +1,7 @@
 -- `text_lines::part::key_given` meets its contract. The definition goes on behind the keyword as the code does. Assumes nothing.
 use borrow.Author.Rules.{rules}
 use mathlib.Core.Path.{sym, ap, ◌∙◌}
-use Rattle.fields.specs.Readers.{pastIs}
+use Rattle.fields.specs.Readers.{past_is}
 use Rattle.fields.proofs.PlaceAnswerLaws.{word-is}
 use Rattle.fields.proofs.ReaderLaws.{after-no, after-got}
 use Rattle.text_lines.proofs.part.key_given.Statement.{statement}
@@ -23,13 +23,13 @@ returns : tie.Need-returns
 returns c =
     let k = c.before.before.before in
     let l = k.before.before.before.args.l.now in
-    sym (after-no _ _ _ (sym (word-is _ _ _ k.past_word.ensures) ∙ ap (pastIs l) c.before.c.given.1))
+    sym (after-no _ _ _ (sym (word-is _ _ _ k.past_word.ensures) ∙ ap (past_is l) c.before.c.given.1))
 
 returns-2 : tie.Need-returns-2
 returns-2 c =
     let k = c.before.before.before.before in
     let l = k.before.before.before.args.l.now in
-    c.given-at.ensures ∙ sym (after-got _ _ _ _ (sym (word-is _ _ _ k.past_word.ensures) ∙ ap (pastIs l) c.before.before.e.given.1))
+    c.given-at.ensures ∙ sym (after-got _ _ _ _ (sym (word-is _ _ _ k.past_word.ensures) ∙ ap (past_is l) c.before.before.e.given.1))
 
 pub key-given-spec : {M : Type 1} → statement M
 key-given-spec =

@@ -1,11 +1,11 @@
 -- `text_lines::second::second_line` meets its contract. The definition goes on behind the module's number as the code does. Assumes nothing.
 use borrow.Author.Rules.{rules}
 use mathlib.Core.Path.{sym, ap, ◌∙◌}
-use Rattle.fields.specs.Readers.{pastIs}
+use Rattle.fields.specs.Readers.{past_is}
 use Rattle.fields.proofs.ReaderLaws.{after-no, after-got}
 use Rattle.text_lines.specs.Parts.{closed}
-use Rattle.text_lines.specs.Kinds.{secondLine}
-use Rattle.text_lines.specs.LineAnswers.{secondAnswer}
+use Rattle.text_lines.specs.Kinds.{second_line}
+use Rattle.text_lines.specs.LineAnswers.{second_answer}
 use Rattle.text_lines.proofs.second.second_line.Statement.{statement}
 use Rattle.text_lines.proofs.second.second_line.Tie as tie
 
@@ -25,18 +25,18 @@ second-to-end-requires : tie.Need-second-to-end-requires
 second-to-end-requires c κs = search rules
 
 returns : tie.Need-returns
-unfolding secondLine closed secondAnswer
+unfolding second_line closed second_answer
 returns c =
     let k = c.before.before.before in
     let l = k.before.before.before.args.l.now in
-    sym (ap (λ g. secondAnswer (closed g)) (after-no _ _ _ (sym k.key-due.ensures ∙ ap (pastIs l) c.before.c.given.1)))
+    sym (ap (λ g. second_answer (closed g)) (after-no _ _ _ (sym k.key-due.ensures ∙ ap (past_is l) c.before.c.given.1)))
 
 returns-2 : tie.Need-returns-2
-unfolding secondLine
+unfolding second_line
 returns-2 c =
     let k = c.before.before.before.before in
     let l = k.before.before.before.args.l.now in
-    c.second-to-end.ensures ∙ sym (ap (λ g. secondAnswer (closed g)) (after-got _ _ _ _ (sym k.key-due.ensures ∙ ap (pastIs l) c.before.before.e.given.1)))
+    c.second-to-end.ensures ∙ sym (ap (λ g. second_answer (closed g)) (after-got _ _ _ _ (sym k.key-due.ensures ∙ ap (past_is l) c.before.before.e.given.1)))
 
 pub second-line-spec : {M : Type 1} → statement M
 second-line-spec =

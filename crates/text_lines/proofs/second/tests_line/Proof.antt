@@ -1,11 +1,11 @@
 -- `text_lines::second::tests_line` meets its contract. The definition goes on behind the module's number as the code does. Assumes nothing.
 use borrow.Author.Rules.{rules}
 use mathlib.Core.Path.{sym, ap, ◌∙◌}
-use Rattle.fields.specs.Readers.{pastIs}
+use Rattle.fields.specs.Readers.{past_is}
 use Rattle.fields.proofs.ReaderLaws.{after-no, after-got}
 use Rattle.text_lines.specs.Parts.{closed}
-use Rattle.text_lines.specs.Kinds.{testsLine}
-use Rattle.text_lines.specs.LineAnswers.{countAnswer}
+use Rattle.text_lines.specs.Kinds.{tests_line}
+use Rattle.text_lines.specs.LineAnswers.{count_answer}
 use Rattle.text_lines.proofs.second.tests_line.Statement.{statement}
 use Rattle.text_lines.proofs.second.tests_line.Tie as tie
 
@@ -25,18 +25,18 @@ tests-to-end-requires : tie.Need-tests-to-end-requires
 tests-to-end-requires c κs = search rules
 
 returns : tie.Need-returns
-unfolding testsLine closed countAnswer
+unfolding tests_line closed count_answer
 returns c =
     let k = c.before.before.before in
     let l = k.before.before.before.args.l.now in
-    sym (ap (λ g. countAnswer (closed g)) (after-no _ _ _ (sym k.key-due.ensures ∙ ap (pastIs l) c.before.c.given.1)))
+    sym (ap (λ g. count_answer (closed g)) (after-no _ _ _ (sym k.key-due.ensures ∙ ap (past_is l) c.before.c.given.1)))
 
 returns-2 : tie.Need-returns-2
-unfolding testsLine
+unfolding tests_line
 returns-2 c =
     let k = c.before.before.before.before in
     let l = k.before.before.before.args.l.now in
-    c.tests-to-end.ensures ∙ sym (ap (λ g. countAnswer (closed g)) (after-got _ _ _ _ (sym k.key-due.ensures ∙ ap (pastIs l) c.before.before.e.given.1)))
+    c.tests-to-end.ensures ∙ sym (ap (λ g. count_answer (closed g)) (after-got _ _ _ _ (sym k.key-due.ensures ∙ ap (past_is l) c.before.before.e.given.1)))
 
 pub tests-line-spec : {M : Type 1} → statement M
 tests-line-spec =

@@ -9,40 +9,40 @@ use mir.Syntax.{w32}
 use mir.Val.{SFits}
 use Rattle.fields.specs.Bytes.{bytes}
 use Rattle.fields.specs.Fields.{fields_of}
-use Rattle.fields.specs.Readers.{got, figureIs}
+use Rattle.fields.specs.Readers.{got, figure_is}
 use Rattle.fields.proofs.PlaceAnswerLaws.{key-number-is}
 use Rattle.fields.proofs.ReaderLaws.{after-no, after-got, key-between-within}
-use Rattle.soc.specs.Limits.{patternsMax}
-use Rattle.soc.proofs.FigureLaws.{figure-back}
-use Rattle.text_lines.specs.Parts.{keyed, closed, givenFigure}
-use Rattle.text_lines.specs.Kinds.{patternsPart}
-use Rattle.text_lines.specs.LineAnswers.{testAnswer}
+use Rattle.soc.specs.Limits.{patterns_max}
+use Rattle.soc.proofs.FigureLaws.{figure_back}
+use Rattle.text_lines.specs.Parts.{keyed, closed, given_figure}
+use Rattle.text_lines.specs.Kinds.{patterns_part}
+use Rattle.text_lines.specs.LineAnswers.{test_answer}
 use Rattle.text_lines.proofs.PartLaws.{closed-end, closed-more}
 use Rattle.text_lines.proofs.test.patterns_to_end.Statement.{statement}
 use Rattle.text_lines.proofs.test.patterns_to_end.Tie as tie
 
 -- what the call answers
 answered : (c : tie.After-key-figure) → let s = c.before.before.before in let l = s.args.l.now in
-    figureIs l c.key-figure.result ≡ keyed "Patterns" 1 patternsMax (fields_of (drop s.args.at l))
+    figure_is l c.key-figure.result ≡ keyed "Patterns" 1 patterns_max (fields_of (drop s.args.at l))
 answered c = key-number-is _ _ _ _ _ c.key-figure.ensures
 
 -- the patterns that were read
 patterns : (c : tie.After-p) → let s = c.before.before.before.before.before in let l = s.args.l.now in
-    keyed "Patterns" 1 patternsMax (fields_of (drop s.args.at l)) ≡ got c.p.given.0.0 (fields_of (drop c.p.given.0.1.0 l))
+    keyed "Patterns" 1 patterns_max (fields_of (drop s.args.at l)) ≡ got c.p.given.0.0 (fields_of (drop c.p.given.0.1.0 l))
 patterns c =
     let k = c.before.before in
-    sym (answered k) ∙ ap (figureIs k.before.before.before.args.l.now) c.p.given.1
+    sym (answered k) ∙ ap (figure_is k.before.before.before.args.l.now) c.p.given.1
 
 -- the test that was read
 read : (c : tie.After-w) → let p = c.before.before.before.before in let s = p.before.before.before.before.before in let l = s.args.l.now in
-    patternsPart s.args.power (record { scan = s.args.scan; tam = s.args.tam }) (fields_of (drop s.args.at l))
+    patterns_part s.args.power (record { scan = s.args.scan; tam = s.args.tam }) (fields_of (drop s.args.at l))
     ≡ got (record { scan_use = s.args.scan; tam_use = s.args.tam; patterns = p.p.given.0.0; power = c.w.given.0.0 }) (fields_of (drop c.w.given.0.1.0 l))
-unfolding patternsPart
+unfolding patterns_part
 read c =
     let k = c.before.before in
     let p = k.before.before in
     let l = p.before.before.before.before.before.args.l.now in
-    after-got _ _ _ _ (patterns p) ∙ after-got _ _ _ _ (sym k.power_at.ensures ∙ ap (givenFigure l) c.w.given.1)
+    after-got _ _ _ _ (patterns p) ∙ after-got _ _ _ _ (sym k.power_at.ensures ∙ ap (given_figure l) c.w.given.1)
 
 w_fits : (c : tie.After-known-told4) → SFits w32 c.before.w.given.0.0
 w_fits c = record { sfits = c.known-told4.given.0.1 }
@@ -72,39 +72,39 @@ is-blank-requires : tie.Need-is-blank-requires
 is-blank-requires c κs = search rules
 
 returns : tie.Need-returns
-unfolding testAnswer
+unfolding test_answer
 returns c =
     let b = c.before in
-    sym (ap testAnswer (ap closed (read b.before.before) ∙ closed-more _ _ (sym b.is-blank.ensures ∙ not-true _ c.if1.true)))
+    sym (ap test_answer (ap closed (read b.before.before) ∙ closed-more _ _ (sym b.is-blank.ensures ∙ not-true _ c.if1.true)))
 
 cast-t21 : tie.Need-overflow-cast-t21
 cast-t21 c =
     let p = c.before.before.before.before.before.before.before in
-    let w = key-between-within (bytes "Patterns") 1 patternsMax _ _ _ (patterns p) in
+    let w = key-between-within (bytes "Patterns") 1 patterns_max _ _ _ (patterns p) in
     omega arith
 
 returns-2 : tie.Need-returns-2
-unfolding patternsPart closed testAnswer
+unfolding patterns_part closed test_answer
 returns-2 c =
     let k = c.before.before.before in
     let l = k.before.before.before.args.l.now in
-    sym (ap (λ g. testAnswer (closed g)) (after-no _ _ _ (sym (answered k) ∙ ap (figureIs l) c.before.c.given.1)))
+    sym (ap (λ g. test_answer (closed g)) (after-no _ _ _ (sym (answered k) ∙ ap (figure_is l) c.before.c.given.1)))
 
 returns-3 : tie.Need-returns-3
-unfolding patternsPart closed testAnswer
+unfolding patterns_part closed test_answer
 returns-3 c =
     let k = c.before.before.before in
     let p = k.before.before in
     let l = p.before.before.before.before.before.args.l.now in
-    sym (ap (λ g. testAnswer (closed g)) (after-got _ _ _ _ (patterns p) ∙ after-no _ _ _ (sym k.power_at.ensures ∙ ap (givenFigure l) c.before.c2.given.1)))
+    sym (ap (λ g. test_answer (closed g)) (after-got _ _ _ _ (patterns p) ∙ after-no _ _ _ (sym k.power_at.ensures ∙ ap (given_figure l) c.before.c2.given.1)))
 
 returns-4 : tie.Need-returns-4
-unfolding testAnswer
+unfolding test_answer
 returns-4 c =
     let b = c.before in
     let t = b.before in
-    rw (figure-back t.before.w.given.0.0 (w_fits t))
-    (sym (ap testAnswer (ap closed (read t.before) ∙ closed-end _ _ (sym b.is-blank.ensures ∙ not-false _ c.if1.false))))
+    rw (figure_back t.before.w.given.0.0 (w_fits t))
+    (sym (ap test_answer (ap closed (read t.before) ∙ closed-end _ _ (sym b.is-blank.ensures ∙ not-false _ c.if1.false))))
 
 pub patterns-to-end-spec : {M : Type 1} → statement M
 patterns-to-end-spec =

@@ -9,27 +9,27 @@ use mathlib.Core.List.{List, [], ◌∷◌}
 use Rattle.fields.specs.Bytes.{bytes}
 use Rattle.fields.specs.Fields.{blank}
 use Rattle.fields.specs.Readers.{got}
-use Rattle.soc.specs.Limits.{powerMax}
-use Rattle.soc.specs.Record.{notGiven}
-use Rattle.text_lines.specs.Parts.{keyGiven}
-use Rattle.text_lines.specs.Kinds.{powerPart}
+use Rattle.soc.specs.Limits.{power_max}
+use Rattle.soc.specs.Record.{not_given}
+use Rattle.text_lines.specs.Parts.{key_given}
+use Rattle.text_lines.specs.Kinds.{power_part}
 use Rattle.text_lines.proofs.test.power_at.Statement.{statement}
 use Rattle.text_lines.proofs.test.power_at.Tie as tie
 
-power-end : (power : Bool) (fs : List (List ℕ)) → blank fs ≡ true → powerPart power fs ≡ got notGiven fs
-unfolding blank powerPart
+power-end : (power : Bool) (fs : List (List ℕ)) → blank fs ≡ true → power_part power fs ≡ got not_given fs
+unfolding blank power_part
 power-end false fs h = refl
 power-end true [] h = refl
 power-end true (f ∷ fs) h = absurd (false≢true h)
 
-power-more : (power : Bool) (fs : List (List ℕ)) → power ≡ true → blank fs ≡ false → powerPart power fs ≡ keyGiven (bytes "Power") powerMax fs
-unfolding blank powerPart
+power-more : (power : Bool) (fs : List (List ℕ)) → power ≡ true → blank fs ≡ false → power_part power fs ≡ key_given (bytes "Power") power_max fs
+unfolding blank power_part
 power-more false fs e h = absurd (false≢true e)
 power-more true [] e h = absurd (true≢false h)
 power-more true (f ∷ fs) e h = refl
 
 returns : tie.Need-returns
-unfolding powerPart
+unfolding power_part
 returns c = sym (simp (not-true c.before.before.args.power c.if1.true))
 
 is-blank-requires : tie.Need-is-blank-requires

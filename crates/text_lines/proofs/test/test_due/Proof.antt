@@ -1,9 +1,9 @@
 -- `text_lines::test::test_due` meets its contract. The definition goes on behind the module's number as the code does. Assumes nothing.
 use borrow.Author.Rules.{rules}
 use mathlib.Core.Path.{sym, ap, ◌∙◌}
-use Rattle.fields.specs.Readers.{pastIs}
+use Rattle.fields.specs.Readers.{past_is}
 use Rattle.fields.proofs.ReaderLaws.{after-no, after-got}
-use Rattle.text_lines.specs.Kinds.{testDue}
+use Rattle.text_lines.specs.Kinds.{test_due}
 use Rattle.text_lines.proofs.test.test_due.Statement.{statement}
 use Rattle.text_lines.proofs.test.test_due.Tie as tie
 
@@ -26,18 +26,18 @@ key-due-requires-2 : tie.Need-key-due-requires-2
 key-due-requires-2 c κs = search rules
 
 returns : tie.Need-returns
-unfolding testDue
+unfolding test_due
 returns c =
     let k = c.before.before.before in
     let l = k.before.before.before.args.l.now in
-    sym (after-no _ _ _ (sym k.key-due.ensures ∙ ap (pastIs l) c.before.c.given.1))
+    sym (after-no _ _ _ (sym k.key-due.ensures ∙ ap (past_is l) c.before.c.given.1))
 
 returns-2 : tie.Need-returns-2
-unfolding testDue
+unfolding test_due
 returns-2 c =
     let k = c.before.before.before.before.before in
     let l = k.before.before.before.args.l.now in
-    c.key-due2.ensures ∙ sym (after-got _ _ _ _ (sym k.key-due.ensures ∙ ap (pastIs l) c.before.before.before.e.given.1))
+    c.key-due2.ensures ∙ sym (after-got _ _ _ _ (sym k.key-due.ensures ∙ ap (past_is l) c.before.before.before.e.given.1))
 
 pub test-due-spec : {M : Type 1} → statement M
 test-due-spec =

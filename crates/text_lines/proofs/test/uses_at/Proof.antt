@@ -7,29 +7,29 @@ use Rattle.fields.specs.Bytes.{bytes}
 use Rattle.fields.specs.Fields.{fields_of}
 use Rattle.fields.specs.Readers.{got}
 use Rattle.fields.proofs.ReaderLaws.{after-no, after-got}
-use Rattle.text_lines.specs.Parts.{keyFlag, flagIs}
+use Rattle.text_lines.specs.Parts.{key_flag, flag_is}
 use Rattle.text_lines.specs.Kinds.{uses}
-use Rattle.text_lines.proofs.PartLaws.{pins-kept, pins-broken}
+use Rattle.text_lines.proofs.PartLaws.{pins-kept, pins_broken}
 use Rattle.text_lines.proofs.test.uses_at.Statement.{statement}
 use Rattle.text_lines.proofs.test.uses_at.Tie as tie
 
 -- the first flag
 scanned : (c : tie.After-scan) → let s = c.before.before.before.before.before in let l = s.args.l.now in
-    keyFlag (bytes "ScanUse") (fields_of (drop s.args.at l)) ≡ got c.scan.given.0.0 (fields_of (drop c.scan.given.0.1.0 l))
+    key_flag (bytes "ScanUse") (fields_of (drop s.args.at l)) ≡ got c.scan.given.0.0 (fields_of (drop c.scan.given.0.1.0 l))
 scanned c =
     let k = c.before.before in
-    sym k.key-flag.ensures ∙ ap (flagIs k.before.before.before.args.l.now) c.scan.given.1
+    sym k.key-flag.ensures ∙ ap (flag_is k.before.before.before.args.l.now) c.scan.given.1
 
 -- the second flag
 accessed : (c : tie.After-tam) →
     let s = c.before.before.before.before.before in
     let l = s.before.before.before.before.before.args.l.now in
-    keyFlag (bytes "TamUse") (fields_of (drop s.scan.given.0.1.0 l))
+    key_flag (bytes "TamUse") (fields_of (drop s.scan.given.0.1.0 l))
     ≡ got c.tam.given.0.0 (fields_of (drop c.tam.given.0.1.0 l))
 accessed c =
     let k = c.before.before in
     let l = k.before.before.before.before.before.before.before.before.args.l.now in
-    sym k.key-flag2.ensures ∙ ap (flagIs l) c.tam.given.1
+    sym k.key-flag2.ensures ∙ ap (flag_is l) c.tam.given.1
 
 slice-aggregate-key-flag : tie.Need-slice-aggregate-key-flag
 slice-aggregate-key-flag c = search rules
@@ -63,7 +63,7 @@ unfolding uses
 returns c =
     let k = c.before.before.before in
     let l = k.before.before.before.args.l.now in
-    sym (after-no _ _ _ (sym k.key-flag.ensures ∙ ap (flagIs l) c.before.c.given.1))
+    sym (after-no _ _ _ (sym k.key-flag.ensures ∙ ap (flag_is l) c.before.c.given.1))
 
 returns-2 : tie.Need-returns-2
 unfolding uses
@@ -71,7 +71,7 @@ returns-2 c =
     let k = c.before.before.before in
     let s = k.before.before.before in
     let l = s.before.before.before.before.before.args.l.now in
-    sym (after-got _ _ _ _ (scanned s) ∙ after-no _ _ _ (sym k.key-flag2.ensures ∙ ap (flagIs l) c.before.c2.given.1))
+    sym (after-got _ _ _ _ (scanned s) ∙ after-no _ _ _ (sym k.key-flag2.ensures ∙ ap (flag_is l) c.before.c2.given.1))
 
 returns-3 : tie.Need-returns-3
 unfolding uses
@@ -89,7 +89,7 @@ returns-4 c =
     let t = p.before.before in
     sym (after-got _ _ _ _ (scanned t.before.before.before.before.before)
     ∙ after-got _ _ _ _ (accessed t)
-    ∙ after-no _ _ _ (pins-broken _ _ (sym p.keeps-pins-rule.ensures ∙ c.if1.false)))
+    ∙ after-no _ _ _ (pins_broken _ _ (sym p.keeps-pins-rule.ensures ∙ c.if1.false)))
 
 pub uses-at-spec : {M : Type 1} → statement M
 uses-at-spec =

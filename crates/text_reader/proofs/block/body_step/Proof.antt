@@ -7,13 +7,13 @@ use mir.Syntax.{w32}
 use mir.Val.{SFits}
 use Rattle.fields.specs.Readers.{no, got}
 use Rattle.fields.proofs.ReaderLaws.{after-no, after-got}
-use Rattle.soc.proofs.FigureLaws.{figure-back}
-use Rattle.text_lines.specs.Kinds.{Second, secondLine}
+use Rattle.soc.proofs.FigureLaws.{figure_back}
+use Rattle.text_lines.specs.Kinds.{Second, second_line}
 use Rattle.text_reader.specs.Lines.{line}
 use Rattle.text_reader.specs.Reading.{behind, body}
-use Rattle.text_line_reader.specs.Due.{linesAt, LineIs}
-use Rattle.text_reader.proofs.ReadAnswerLaws.{second-no, second-tests, second-position}
-use Rattle.text_reader.proofs.StepLaws.{line-missing, line-refuses, line-says, due-found, due-missing, count-step-no, count-step-is}
+use Rattle.text_line_reader.specs.Due.{lines_at, LineIs}
+use Rattle.text_reader.proofs.ReadAnswerLaws.{second_no, second_tests, second_position}
+use Rattle.text_reader.proofs.StepLaws.{line_missing, line-refuses, line-says, due-found, due_missing, count_step_no, count_step_is}
 use Rattle.text_reader.proofs.block.body_step.Statement.{statement}
 use Rattle.text_reader.proofs.block.body_step.Tie as tie
 
@@ -23,10 +23,10 @@ found c = let d = c.before.before in due-found _ _ _ d.due-line.ensures _ _ _ _ 
 
 -- the position that was read
 position : (c : tie.After-x) → let a = c.before.before.before.before.before in let s = a.before.before.before.before in let t = s.args.text.now in
-    line (secondLine s.args.m s.args.xy) (linesAt t s.args.p) ≡ got (Second.position c.x.given.0.0 c.x.given.0.1.0) (linesAt t a.a.given.0.1.1.1.0)
+    line (second_line s.args.m s.args.xy) (lines_at t s.args.p) ≡ got (Second.position c.x.given.0.0 c.x.given.0.1.0) (lines_at t a.a.given.0.1.1.1.0)
 position c =
     let t = c.before.before in
-    line-says _ _ _ _ _ _ _ (found t.before.before.before) _ (second-position _ _ _ (sym t.second-line.ensures ∙ c.x.given.1))
+    line-says _ _ _ _ _ _ _ (found t.before.before.before) _ (second_position _ _ _ (sym t.second-line.ensures ∙ c.x.given.1))
 
 x_fits : (c : tie.After-known-told4) → SFits w32 c.before.x.given.0.0
 x_fits c = record { sfits = c.known-told4.given.0.1 }
@@ -83,14 +83,14 @@ returns : tie.Need-returns
 unfolding body
 returns c =
     let d = c.before.before.before in
-    ap no c.missing.ensures ∙ sym (after-no _ _ _ (line-missing _ _ (due-missing _ _ _ d.due-line.ensures c.before.enum_told.given.1)))
+    ap no c.missing.ensures ∙ sym (after-no _ _ _ (line_missing _ _ (due_missing _ _ _ d.due-line.ensures c.before.enum_told.given.1)))
 
 returns-2 : tie.Need-returns-2
 unfolding body
 returns-2 c =
     let k = c.before.before in
     let t = k.before.before in
-    ap no c.at.ensures ∙ sym (after-no _ _ _ (line-refuses _ _ _ _ _ _ _ (found t.before.before.before) _ (second-no _ _ (sym t.second-line.ensures ∙ k.c.given.1))))
+    ap no c.at.ensures ∙ sym (after-no _ _ _ (line-refuses _ _ _ _ _ _ _ (found t.before.before.before) _ (second_no _ _ (sym t.second-line.ensures ∙ k.c.given.1))))
 
 returns-3 : tie.Need-returns-3
 unfolding body behind
@@ -98,23 +98,23 @@ returns-3 c =
     let k = c.before in
     let t = k.before.before in
     let f = found t.before.before.before in
-    (sym (after-got _ _ _ _ (line-says _ _ _ _ _ _ _ f _ (second-tests _ _ (sym t.second-line.ensures ∙ k.t.given.1)))), f.inside)
+    (sym (after-got _ _ _ _ (line-says _ _ _ _ _ _ _ f _ (second_tests _ _ (sym t.second-line.ensures ∙ k.t.given.1)))), f.inside)
 
 returns-4 : tie.Need-returns-4
 unfolding body behind
 returns-4 c =
     let k = c.before in
     let n = k.before.before in
-    sym (after-got _ _ _ _ (position n.before.before) ∙ after-no _ _ _ (count-step-no _ _ _ n.tests-count-step.ensures _ k.f.given.1))
+    sym (after-got _ _ _ _ (position n.before.before) ∙ after-no _ _ _ (count_step_no _ _ _ n.tests-count-step.ensures _ k.f.given.1))
 
 returns-5 : tie.Need-returns-5
 unfolding body behind
 returns-5 c =
     let k = c.before in
     let n = k.before.before in
-    let r = count-step-is _ _ _ n.tests-count-step.ensures _ _ k.t2.given.1 in
+    let r = count_step_is _ _ _ n.tests-count-step.ensures _ _ k.t2.given.1 in
     let x = n.before.before.x.given.0 in
-    (rw (figure-back x.0 (x_fits n.before), figure-back x.1.0 (y-fits n.before)) (sym (after-got _ _ _ _ (position n.before.before) ∙ after-got _ _ _ _ r.0)), r.1)
+    (rw (figure_back x.0 (x_fits n.before), figure_back x.1.0 (y-fits n.before)) (sym (after-got _ _ _ _ (position n.before.before) ∙ after-got _ _ _ _ r.0)), r.1)
 
 pub body-step-spec : {M : Type 1} → statement M
 body-step-spec =

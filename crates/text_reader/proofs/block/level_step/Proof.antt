@@ -4,8 +4,8 @@ use native.Mathlib.Omega.{arith}
 use mathlib.Core.Path.{sym, ap, ◌∙◌}
 use Rattle.fields.specs.Readers.{no}
 use Rattle.text_line_reader.specs.Due.{LineIs}
-use Rattle.text_reader.proofs.ReadAnswerLaws.{level-refused, level-taken}
-use Rattle.text_reader.proofs.StepLaws.{line-missing, line-refuses, line-says, due-found, due-missing}
+use Rattle.text_reader.proofs.ReadAnswerLaws.{level-refused, level_taken}
+use Rattle.text_reader.proofs.StepLaws.{line_missing, line-refuses, line-says, due-found, due_missing}
 use Rattle.text_reader.proofs.block.level_step.Statement.{statement}
 use Rattle.text_reader.proofs.block.level_step.Tie as tie
 
@@ -56,7 +56,7 @@ returns : tie.Need-returns
 returns c =
     let m = c.before.before in
     let d = m.before.before.before in
-    record { is = ap no m.missing.ensures ∙ sym (line-missing _ _ (due-missing _ _ _ d.due-line.ensures m.before.enum_told.given.1)); inside = tt }
+    record { is = ap no m.missing.ensures ∙ sym (line_missing _ _ (due_missing _ _ _ d.due-line.ensures m.before.enum_told.given.1)); inside = tt }
 
 returns-2 : tie.Need-returns-2
 returns-2 c =
@@ -71,7 +71,7 @@ returns-3 : tie.Need-returns-3
 returns-3 c =
     let t = c.before.before in
     let f = found t.before.before.before in
-    record { is = sym (line-says _ _ _ _ _ _ _ f _ (level-taken _ _ t.level-line2.ensures c.enum-told2.given.1)); inside = f.inside }
+    record { is = sym (line-says _ _ _ _ _ _ _ f _ (level_taken _ _ t.level-line2.ensures c.enum-told2.given.1)); inside = f.inside }
 
 pub level-step-spec : {M : Type 1} → statement M
 level-step-spec =

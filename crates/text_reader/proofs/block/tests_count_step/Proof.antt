@@ -5,7 +5,7 @@ use mathlib.Core.Path.{sym, ap, ◌∙◌}
 use Rattle.fields.specs.Readers.{no}
 use Rattle.text_line_reader.specs.Due.{LineIs}
 use Rattle.text_reader.proofs.ReadAnswerLaws.{count_no, count-is}
-use Rattle.text_reader.proofs.StepLaws.{line-missing, line-refuses, line-says, due-found, due-missing}
+use Rattle.text_reader.proofs.StepLaws.{line_missing, line-refuses, line-says, due-found, due_missing}
 use Rattle.text_reader.proofs.block.tests_count_step.Statement.{statement}
 use Rattle.text_reader.proofs.block.tests_count_step.Tie as tie
 
@@ -49,7 +49,7 @@ enum-known-v c = search rules
 returns : tie.Need-returns
 returns c =
     let d = c.before.before.before in
-    ap no c.missing.ensures ∙ sym (line-missing _ _ (due-missing _ _ _ d.due-line.ensures c.before.enum_told.given.1))
+    ap no c.missing.ensures ∙ sym (line_missing _ _ (due_missing _ _ _ d.due-line.ensures c.before.enum_told.given.1))
 
 returns-2 : tie.Need-returns-2
 returns-2 c =

@@ -4,8 +4,8 @@ use native.Mathlib.Omega.{arith}
 use mathlib.Core.Path.{sym, ap, ◌∙◌}
 use Rattle.fields.specs.Readers.{no}
 use Rattle.text_line_reader.specs.Due.{LineIs}
-use Rattle.text_reader.proofs.ReadAnswerLaws.{options-no, options-are}
-use Rattle.text_reader.proofs.StepLaws.{line-missing, line-refuses, line-says, due-found, due-missing}
+use Rattle.text_reader.proofs.ReadAnswerLaws.{options_no, options_are}
+use Rattle.text_reader.proofs.StepLaws.{line_missing, line-refuses, line-says, due-found, due_missing}
 use Rattle.text_reader.proofs.head.options_step.Statement.{statement}
 use Rattle.text_reader.proofs.head.options_step.Tie as tie
 
@@ -49,20 +49,20 @@ enum-known-power c = search rules
 returns : tie.Need-returns
 returns c =
     let d = c.before.before.before in
-    ap no c.missing.ensures ∙ sym (line-missing _ _ (due-missing _ _ _ d.due-line.ensures c.before.enum_told.given.1))
+    ap no c.missing.ensures ∙ sym (line_missing _ _ (due_missing _ _ _ d.due-line.ensures c.before.enum_told.given.1))
 
 returns-2 : tie.Need-returns-2
 returns-2 c =
     let k = c.before.before in
     let t = k.before.before in
-    ap no c.at.ensures ∙ sym (line-refuses _ _ _ _ _ _ _ (found t.before.before.before) _ (options-no _ _ (sym t.options-line.ensures ∙ k.c.given.1)))
+    ap no c.at.ensures ∙ sym (line-refuses _ _ _ _ _ _ _ (found t.before.before.before) _ (options_no _ _ (sym t.options-line.ensures ∙ k.c.given.1)))
 
 returns-3 : tie.Need-returns-3
 returns-3 c =
     let k = c.before in
     let t = k.before.before in
     let f = found t.before.before.before in
-    (sym (line-says _ _ _ _ _ _ _ f _ (options-are _ _ _ (sym t.options-line.ensures ∙ k.power.given.1))), f.inside)
+    (sym (line-says _ _ _ _ _ _ _ f _ (options_are _ _ _ (sym t.options-line.ensures ∙ k.power.given.1))), f.inside)
 
 pub options-step-spec : {M : Type 1} → statement M
 options-step-spec =

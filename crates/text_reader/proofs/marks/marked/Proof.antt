@@ -1,4 +1,4 @@
--- `text_reader::marks::marked` meets its contract: its test is that of `newMarks`. Assumes nothing.
+-- `text_reader::marks::marked` meets its contract: its test is that of `new_marks`. Assumes nothing.
 use borrow.Author.Tests.{eq-eqb, ne_eqb}
 use Rattle.text_reader.proofs.marks.marked.Statement.{statement}
 use Rattle.text_reader.proofs.marks.marked.Tie as tie

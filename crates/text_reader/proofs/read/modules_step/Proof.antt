@@ -11,15 +11,15 @@ use lib.Dec.{ltb}
 use lib.ListN.{length, take, drop, replicate, length-set}
 use lib.Seq.{take-suc-set}
 use Rattle.fields.specs.Readers.{no, got}
-use Rattle.fields.proofs.ReaderLaws.{prepend, prepend-none}
-use Rattle.soc.specs.Record.{noModule}
+use Rattle.fields.proofs.ReaderLaws.{prepend, prepend_none}
+use Rattle.soc.specs.Record.{no_module}
 use Rattle.text_lines.proofs.LevelLaws.{spare-behind, spare-set, spare-padded}
-use Rattle.text_reader.specs.Reading.{moduleLines, modules}
-use Rattle.text_line_reader.specs.Due.{linesAt, Inside}
-use Rattle.text_reader.proofs.LinesOfLaws.{module-lines}
-use Rattle.text_reader.proofs.MarkLaws.{Marking, marking-start, marking-next, next-number}
+use Rattle.text_reader.specs.Reading.{module_lines, modules}
+use Rattle.text_line_reader.specs.Due.{lines_at, Inside}
+use Rattle.text_reader.proofs.LinesOfLaws.{module_lines_lem}
+use Rattle.text_reader.proofs.MarkLaws.{Marking, marking_start, marking_next, next-number}
 use Rattle.text_reader.proofs.ModulesLaws.{modules-no, modules-more, modules-end}
-use Rattle.text_reader.proofs.StepLaws.{step-no, step-next}
+use Rattle.text_reader.proofs.StepLaws.{step_no, step_next}
 use Rattle.text_reader.proofs.read.modules_step.Statement.{statement}
 use Rattle.text_reader.proofs.read.modules_step.Tie as tie
 
@@ -28,23 +28,23 @@ invariant-loop text n power xy m list₀ marks₀ place₀ last₀ i₀ list mar
     (i ≤ n)
     × (length list ≡ 40)
     × Inside text place
-    × (drop i list ≡ replicate (40 - i) noModule)
-    × (modules (record { power = power; xy = xy }) n 0 0 (linesAt text place₀)
-    ≡ prepend (take i list) (modules (record { power = power; xy = xy }) (n - i) i last (linesAt text place)))
-    × Marking m i (ltb m i) text (linesAt text place₀) (linesAt text place) marks
+    × (drop i list ≡ replicate (40 - i) no_module)
+    × (modules (record { power = power; xy = xy }) n 0 0 (lines_at text place₀)
+    ≡ prepend (take i list) (modules (record { power = power; xy = xy }) (n - i) i last (lines_at text place)))
+    × Marking m i (ltb m i) text (lines_at text place₀) (lines_at text place) marks
 
 abbrev decreases-loop : tie.decreases-loop
 decreases-loop text n power xy m list₀ marks₀ place₀ last₀ i₀ list marks place last i = n - i
 
 -- the refusal of a module
 refused : (c : tie.After-step invariant-loop decreases-loop) → let r = c.before.before in let p = r.before.before in let s = p.before.before.before in
-    moduleLines (record { power = s.args.power; xy = s.args.xy }) p.loop.i p.loop.last (linesAt s.args.text.now p.loop.place) ≡ no c.step.given.0.0
-refused c = step-no _ _ _ _ c.before.before.module-step.ensures _ c.step.given.1
+    module_lines (record { power = s.args.power; xy = s.args.xy }) p.loop.i p.loop.last (lines_at s.args.text.now p.loop.place) ≡ no c.step.given.0.0
+refused c = step_no _ _ _ _ c.before.before.module-step.ensures _ c.step.given.1
 
 -- the module that was read
 read : (c : tie.After-step2 invariant-loop decreases-loop) → let r = c.before.before in let p = r.before.before in let s = p.before.before.before in let t = s.args.text.now in let q = c.step2.given.0.0 in
-    (moduleLines (record { power = s.args.power; xy = s.args.xy }) p.loop.i p.loop.last (linesAt t p.loop.place) ≡ got r.module-step.result.«module» (linesAt t q)) × Inside t q
-read c = step-next _ _ _ _ c.before.before.module-step.ensures _ c.step2.given.1
+    (module_lines (record { power = s.args.power; xy = s.args.xy }) p.loop.i p.loop.last (lines_at t p.loop.place) ≡ got r.module-step.result.«module» (lines_at t q)) × Inside t q
+read c = step_next _ _ _ _ c.before.before.module-step.ensures _ c.step2.given.1
 
 no-module-requires : tie.Need-no-module-requires invariant-loop decreases-loop
 no-module-requires c κs = search rules
@@ -57,8 +57,8 @@ loop-holds c =
       refl,
       s.requires.0,
       ap (replicate 40) c.no-module.ensures,
-      rw e (sym (prepend-none _)),
-      marking-start s.args.m _ _ _ _ (le-ltb s.args.m 0 (omega arith)),
+      rw e (sym (prepend_none _)),
+      marking_start s.args.m _ _ _ _ (le-ltb s.args.m 0 (omega arith)),
     )
 
 cast-module-step : tie.Need-overflow-cast-module-step invariant-loop decreases-loop
@@ -80,7 +80,7 @@ returns c =
         is = sym (p.loop.invariant.4 ∙ modules-no _ s.args.n p.loop.i _ _ _ _ (omega arith) (refused f));
         inside = tt;
       },
-      spare-padded 40 noModule p.loop.list s.args.n (spare-behind 40 noModule p.loop.list p.loop.i p.loop.invariant.3 s.args.n (omega arith) (omega arith)) p.loop.invariant.1 (omega arith),
+      spare-padded 40 no_module p.loop.list s.args.n (spare-behind 40 no_module p.loop.list p.loop.i p.loop.invariant.3 s.args.n (omega arith) (omega arith)) p.loop.invariant.1 (omega arith),
       tt,
     )
 
@@ -116,10 +116,10 @@ loop-again c =
       omega arith,
       simp length-set p.loop.invariant.1,
       (read f).1,
-      spare-set 40 noModule p.loop.list p.loop.i p.loop.invariant.3 d (omega arith),
+      spare-set 40 no_module p.loop.list p.loop.i p.loop.invariant.3 d (omega arith),
       p.loop.invariant.4 ∙ modules-more _ s.args.n p.loop.i _ (take p.loop.i p.loop.list) _ d _ (omega arith) (read f).0 ∙ rw (add-one, take-suc-set p.loop.list p.loop.i d h),
-      marking-next s.args.m p.loop.i p.loop.i _ _ _ _ _ _ _ _ p.loop.invariant.5 (omega arith)
-          (module-lines _ _ _ _ _ _ (read f).0)
+      marking_next s.args.m p.loop.i p.loop.i _ _ _ _ _ _ _ _ p.loop.invariant.5 (omega arith)
+          (module_lines_lem _ _ _ _ _ _ (read f).0)
           (next-number s.args.m p.loop.i) c.marked.ensures,
     )
 
@@ -129,7 +129,7 @@ returns-2 c =
     let s = p.before.before.before in
     let q : p.loop.i ≡ s.args.n = omega arith in (
       record { is = rw q at (sym (p.loop.invariant.4 ∙ modules-end _ s.args.n p.loop.i _ _ _ (omega arith))); inside = p.loop.invariant.2 },
-      spare-padded 40 noModule p.loop.list s.args.n (rw q at p.loop.invariant.3) p.loop.invariant.1 (omega arith),
+      spare-padded 40 no_module p.loop.list s.args.n (rw q at p.loop.invariant.3) p.loop.invariant.1 (omega arith),
       λ h. p.loop.invariant.5.marks (ap (ltb s.args.m) q ∙ h),
     )
 

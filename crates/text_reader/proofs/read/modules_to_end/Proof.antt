@@ -5,22 +5,22 @@ use mathlib.Core.Path.{◌≡◌, sym, ap, ◌∙◌}
 use lib.ListN.{take}
 use Rattle.fields.specs.Readers.{no, got}
 use Rattle.fields.proofs.ReaderLaws.{after-no, after-got}
-use Rattle.text_reader.specs.Reading.{modules, rest, refusedSoc, answer}
-use Rattle.text_line_reader.specs.Due.{linesAt, Inside}
-use Rattle.text_reader.proofs.MarkLaws.{step-marked, refused-marked, accepted-marked}
-use Rattle.text_reader.proofs.StepLaws.{no-more-line, no-more-end, due-found, due-missing, step-no, step-next}
+use Rattle.text_reader.specs.Reading.{modules, rest, refused_soc, answer}
+use Rattle.text_line_reader.specs.Due.{lines_at, Inside}
+use Rattle.text_reader.proofs.MarkLaws.{step_marked, refused_marked_lem, accepted_marked_lem}
+use Rattle.text_reader.proofs.StepLaws.{no-more-line, no-more-end, due-found, due_missing, step_no, step_next}
 use Rattle.text_reader.proofs.read.modules_to_end.Statement.{statement}
 use Rattle.text_reader.proofs.read.modules_to_end.Tie as tie
 
 -- the refusal of a module
 refused : (c : tie.After-step) → let s = c.before.before.before.before in
-    modules (record { power = s.args.power; xy = s.args.xy }) s.args.n 0 0 (linesAt s.args.text.now s.args.p) ≡ no c.step.given.0.0
-refused c = step-no _ _ _ _ c.before.before.modules-step.ensures.0 _ c.step.given.1
+    modules (record { power = s.args.power; xy = s.args.xy }) s.args.n 0 0 (lines_at s.args.text.now s.args.p) ≡ no c.step.given.0.0
+refused c = step_no _ _ _ _ c.before.before.modules-step.ensures.0 _ c.step.given.1
 
 -- the modules that were read
 read : (c : tie.After-step2) → let m = c.before.before in let s = m.before.before in let t = s.args.text.now in let q = c.step2.given.0.0 in
-    (modules (record { power = s.args.power; xy = s.args.xy }) s.args.n 0 0 (linesAt t s.args.p) ≡ got (take s.args.n m.modules-step.result.modules) (linesAt t q)) × Inside t q
-read c = step-next _ _ _ _ c.before.before.modules-step.ensures.0 _ c.step2.given.1
+    (modules (record { power = s.args.power; xy = s.args.xy }) s.args.n 0 0 (lines_at t s.args.p) ≡ got (take s.args.n m.modules-step.result.modules) (lines_at t q)) × Inside t q
+read c = step_next _ _ _ _ c.before.before.modules-step.ensures.0 _ c.step2.given.1
 
 modules-step-requires : tie.Need-modules-step-requires
 modules-step-requires c κs = search rules
@@ -54,7 +54,7 @@ accepted-soc-requires c κs = search rules
 
 returns : tie.Need-returns
 unfolding rest answer
-returns c = refused-marked _ _ _ _ _ _ c.refused-soc.ensures (sym (ap answer (after-no _ _ _ (refused c.before.before))))
+returns c = refused_marked_lem _ _ _ _ _ _ c.refused-soc.ensures (sym (ap answer (after-no _ _ _ (refused c.before.before))))
 
 returns-2 : tie.Need-returns-2
 unfolding rest answer
@@ -62,8 +62,8 @@ returns-2 c =
     let l = c.before.before.before in
     let d = l.before.before in
     let f = due-found _ _ _ d.due-line.ensures _ _ _ _ l.line.given.1 in
-    refused-marked _ _ _ _ _ _ c.refused-soc2.ensures
-    (ap refusedSoc c.before.at.ensures
+    refused_marked_lem _ _ _ _ _ _ c.refused-soc2.ensures
+    (ap refused_soc c.before.at.ensures
     ∙ sym (ap answer (after-got _ _ _ _ (read d.before.before).0 ∙ after-no _ _ _ (no-more-line _ _ _ _ _ _ f))))
 
 returns-3 : tie.Need-returns-3
@@ -73,10 +73,10 @@ returns-3 c =
     let d = e.before.before in
     let k = d.before.before in
     let m = k.before.before in
-    let z = due-missing _ _ _ d.due-line.ensures e.enum_told.given.1 in
-    accepted-marked _ _ _ _ _ _ _ c.accepted-soc.ensures
+    let z = due_missing _ _ _ d.due-line.ensures e.enum_told.given.1 in
+    accepted_marked_lem _ _ _ _ _ _ _ c.accepted-soc.ensures
     (rw m.modules-step.ensures.1 (sym (ap answer (after-got _ _ _ _ (read k).0 ∙ after-got _ _ _ _ (no-more-end _ z)))))
-    (λ h. step-marked _ _ _ _ _ _ _ m.modules-step.ensures.2 k.step2.given.1 h z)
+    (λ h. step_marked _ _ _ _ _ _ _ m.modules-step.ensures.2 k.step2.given.1 h z)
 
 pub modules-to-end-spec : {M : Type 1} → statement M
 modules-to-end-spec =

@@ -4,9 +4,9 @@ use borrow.Author.Rules.{rules}
 use borrow.Author.Tests.{le-leb, lt-leb}
 use mathlib.Core.Path.{sym, ap, ◌∙◌}
 use lib.ListN.{length}
-use Rattle.soc.specs.Limits.{textMax}
-use Rattle.text_reader.specs.Reading.{refusedSoc, unlessBad, readSoc}
-use Rattle.text_reader.proofs.MarkLaws.{refused-marked}
+use Rattle.soc.specs.Limits.{text_max}
+use Rattle.text_reader.specs.Reading.{refused_soc, unless_bad, read_soc}
+use Rattle.text_reader.proofs.MarkLaws.{refused_marked_lem}
 use Rattle.text_reader.proofs.read.read_soc_marked.Statement.{statement}
 use Rattle.text_reader.proofs.read.read_soc_marked.Tie as tie
 
@@ -17,12 +17,12 @@ refused-soc-requires : tie.Need-refused-soc-requires
 refused-soc-requires c κs = search rules
 
 returns : tie.Need-returns
-unfolding readSoc
+unfolding read_soc
 returns c =
     let i = c.before.before in
     let t = i.before.before.args.text.now in
-    rw (lt-leb (length t) textMax i.if1.true)
-    (refused-marked _ _ _ _ _ _ c.refused-soc.ensures (ap refusedSoc c.before.at.ensures))
+    rw (lt-leb (length t) text_max i.if1.true)
+    (refused_marked_lem _ _ _ _ _ _ c.refused-soc.ensures (ap refused_soc c.before.at.ensures))
 
 bad-byte-requires : tie.Need-bad-byte-requires
 bad-byte-requires c κs = search rules
@@ -43,23 +43,23 @@ read-lines-requires : tie.Need-read-lines-requires
 read-lines-requires c κs = search rules
 
 returns-2 : tie.Need-returns-2
-unfolding readSoc unlessBad
+unfolding read_soc unless_bad
 returns-2 c =
     let n = c.before.before.before in
     let b = n.before.before in
     let i = b.before in
     let t = i.before.before.args.text.now in
-    rw (le-leb (length t) textMax i.if1.false, sym b.bad-byte.ensures ∙ n.n.given.1)
-    (refused-marked _ _ _ _ _ _ c.refused-soc2.ensures (ap refusedSoc c.before.at2.ensures))
+    rw (le-leb (length t) text_max i.if1.false, sym b.bad-byte.ensures ∙ n.n.given.1)
+    (refused_marked_lem _ _ _ _ _ _ c.refused-soc2.ensures (ap refused_soc c.before.at2.ensures))
 
 returns-3 : tie.Need-returns-3
-unfolding readSoc unlessBad
+unfolding read_soc unless_bad
 returns-3 c =
     let n = c.before in
     let b = n.before.before in
     let i = b.before in
     let t = i.before.before.args.text.now in
-    rw (le-leb (length t) textMax i.if1.false, sym b.bad-byte.ensures ∙ n.enum_told.given.1) c.read-lines.ensures
+    rw (le-leb (length t) text_max i.if1.false, sym b.bad-byte.ensures ∙ n.enum_told.given.1) c.read-lines.ensures
 
 pub read-soc-marked-spec : {M : Type 1} → statement M
 read-soc-marked-spec =

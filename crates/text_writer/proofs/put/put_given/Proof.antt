@@ -3,16 +3,16 @@ use borrow.Author.Rules.{rules}
 use mathlib.Core.Path.{◌≡◌}
 use mir.Syntax.{w32}
 use mir.Val.{to_z, of_z}
-use Rattle.soc.proofs.FigureLaws.{figure-back}
+use Rattle.soc.proofs.FigureLaws.{figure_back}
 use Rattle.fields.specs.Bytes.{bytes}
 use Rattle.buffer.proofs.PutLaws.{put-behind}
-use Rattle.text_writer.proofs.FigureLaws.{given_below, given_above, given-cast}
+use Rattle.text_writer.proofs.FigureLaws.{given_below, given_above, given_cast}
 use Rattle.text_writer.proofs.put.put_given.Statement.{statement}
 use Rattle.text_writer.proofs.put.put_given.Tie as tie
 
 -- the parameter's bits read back as the parameter
 back : (c : tie.Start) → to_z w32 (of_z w32 c.args.z) ≡ c.args.z
-back c = figure-back c.args.z c.ranges.z
+back c = figure_back c.args.z c.ranges.z
 
 put-bytes-requires : tie.Need-put-bytes-requires
 put-bytes-requires c κs = search rules
@@ -39,7 +39,7 @@ cast-put-key : tie.Need-overflow-cast-put-key
 cast-put-key c =
     let i = c.before in
     let s = i.before.before.before in
-    rw (back s) (given-cast s.args.z s.ranges.z (rw (back s) at i.if1.false))
+    rw (back s) (given_cast s.args.z s.ranges.z (rw (back s) at i.if1.false))
 
 put-key-requires : tie.Need-put-key-requires
 put-key-requires c κs = search rules

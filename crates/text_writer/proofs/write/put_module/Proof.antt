@@ -2,27 +2,27 @@
 use borrow.Author.Rules.{rules}
 use Prim.Native.Nat.{ℕ}
 use mathlib.Core.List.{List, [], ◌∷◌, ◌++◌}
-use Rattle.soc.specs.Record.{testsOf}
-use Rattle.text_lines.specs.LineFields.{levelFields, testsFields}
-use Rattle.fields.specs.WrittenLines.{writtenLines}
-use Rattle.text_writer.specs.WrittenSoc.{positionLines, moduleLinesOf}
+use Rattle.soc.specs.Record.{tests_of}
+use Rattle.text_lines.specs.LineFields.{level_fields, tests_fields}
+use Rattle.fields.specs.WrittenLines.{written_lines}
+use Rattle.text_writer.specs.WrittenSoc.{position_lines, module_lines_of}
 use Rattle.buffer.proofs.PutLaws.{Due, due_all, due-room, due-next}
-use Rattle.text_writer.proofs.RunLaws.{testsText, module-text}
+use Rattle.text_writer.proofs.RunLaws.{tests_text, module_text}
 use Rattle.text_writer.proofs.write.put_module.Statement.{statement}
 use Rattle.text_writer.proofs.write.put_module.Tie as tie
 
 -- the parts of the text, and what is due behind each
 abbrev part1 : tie.Start → List ℕ
-part1 s = writtenLines (levelFields s.args.m s.args.d ∷ [])
+part1 s = written_lines (level_fields s.args.m s.args.d ∷ [])
 
 abbrev part2 : tie.Start → List ℕ
-part2 s = writtenLines (positionLines s.args.xy s.args.m s.args.d)
+part2 s = written_lines (position_lines s.args.xy s.args.m s.args.d)
 
 abbrev part3 : tie.Start → List ℕ
-part3 s = writtenLines (testsFields s.args.m s.args.d ∷ [])
+part3 s = written_lines (tests_fields s.args.m s.args.d ∷ [])
 
 abbrev part4 : tie.Start → List ℕ
-part4 s = testsText s.args.power s.args.m 1 (testsOf s.args.d)
+part4 s = tests_text s.args.power s.args.m 1 (tests_of s.args.d)
 
 abbrev rest3 : tie.Start → List ℕ
 rest3 s = part4 s
@@ -34,11 +34,11 @@ abbrev rest1 : tie.Start → List ℕ
 rest1 s = part2 s ++ rest2 s
 
 abbrev Left : tie.Start → List ℕ → ℕ → List ℕ → Type 0
-Left s rest r buf = Due rest (writtenLines (moduleLinesOf s.args.power s.args.xy s.args.m s.args.d)) s.args.at s.args.buf.now r buf
+Left s rest r buf = Due rest (written_lines (module_lines_of s.args.power s.args.xy s.args.m s.args.d)) s.args.at s.args.buf.now r buf
 
 -- what is left behind each call
 due0 : (s : tie.Start) → Left s (part1 s ++ rest1 s) s.args.at s.args.buf.now
-due0 s = due_all (module-text s.args.power s.args.xy s.args.m s.args.d) s.requires.2
+due0 s = due_all (module_text s.args.power s.args.xy s.args.m s.args.d) s.requires.2
 
 abbrev start1 : tie.After-put-level-line → tie.Start
 start1 c = c.before.before.before

@@ -7,14 +7,14 @@ use mathlib.Core.Path.{◌≡◌, refl, ◌∙◌}
 use mathlib.Core.List.{[], ◌++◌}
 use lib.IntN.{pos}
 use lib.ListN.{length, get_or, take, drop, length-map}
-use Rattle.soc.specs.Limits.{modulesMax}
-use Rattle.soc.specs.Record.{noModule}
+use Rattle.soc.specs.Limits.{modules_max}
+use Rattle.soc.specs.Record.{no_module}
 use Rattle.soc.specs.declared.record.Module.{Module}
-use Rattle.fields.specs.WrittenLines.{writtenLines}
-use Rattle.text_writer.specs.WrittenSoc.{moduleLinesOf, moduleLinesFrom}
-use Rattle.text_writer.proofs.GoodSocCounts.{getD-same}
+use Rattle.fields.specs.WrittenLines.{written_lines}
+use Rattle.text_writer.specs.WrittenSoc.{module_lines_of, module_lines_from}
+use Rattle.text_writer.proofs.GoodSocCounts.{get_d_same}
 use Rattle.buffer.proofs.PutLaws.{Due, due_all, due-room, due-next, put-none}
-use Rattle.text_writer.proofs.RunLaws.{modulesText, modules-more, rest-none}
+use Rattle.text_writer.proofs.RunLaws.{modules_text, modules-more, rest-none}
 use Rattle.text_writer.proofs.write.put_modules.Statement.{statement}
 use Rattle.text_writer.proofs.write.put_modules.Tie as tie
 
@@ -22,12 +22,12 @@ abbrev invariant-loop : tie.invariant-loop
 invariant-loop buf₀ at n s power xy e₀ i₀ buf e i =
     (i ≤ n)
     × (length buf ≡ length buf₀)
-    × Due (modulesText power xy i (drop i (take n s.modules))) (modulesText power xy 0 (take n s.modules)) at buf₀ e buf
+    × Due (modules_text power xy i (drop i (take n s.modules))) (modules_text power xy 0 (take n s.modules)) at buf₀ e buf
 
 abbrev decreases-loop : tie.decreases-loop
 decreases-loop buf₀ at n s power xy e₀ i₀ buf e i = n - i
 
-len : (c : tie.Start invariant-loop decreases-loop) → length c.args.t3.modules ≡ modulesMax
+len : (c : tie.Start invariant-loop decreases-loop) → length c.args.t3.modules ≡ modules_max
 len c = simp length-map at c.well-formed.1.1.0.1.1.1.1.1.1.1.0.1.0.1
 
 -- what would be read past the array's end
@@ -40,9 +40,9 @@ due : (c : tie.In-loop invariant-loop decreases-loop) →
     let a = l.before.before.args in
     let s = a.t3 in
     Due
-    (writtenLines (moduleLinesOf s.power s.xy l.loop.i (get_or s.modules l.loop.i blank))
-    ++ modulesText s.power s.xy (l.loop.i + 1) (drop (l.loop.i + 1) (take a.n s.modules)))
-    (modulesText s.power s.xy 0 (take a.n s.modules))
+    (written_lines (module_lines_of s.power s.xy l.loop.i (get_or s.modules l.loop.i blank))
+    ++ modules_text s.power s.xy (l.loop.i + 1) (drop (l.loop.i + 1) (take a.n s.modules)))
+    (modules_text s.power s.xy 0 (take a.n s.modules))
     a.at
     a.buf.now
     l.loop.e
@@ -70,9 +70,9 @@ put-module-requires c κs =
     let s = l.before.before in
     let modules = s.args.t3.modules in
     let i = l.loop.i in
-    let same : get_or modules i blank ≡ get_or modules i noModule = getD-same modules i blank noModule (omega (arith, len s)) in
+    let same : get_or modules i blank ≡ get_or modules i no_module = get_d_same modules i blank no_module (omega (arith, len s)) in
     let counts = s.requires.2 i (omega (arith, s.requires.1)) in
-    (rw same counts.0, rw same counts.1, due-room (writtenLines (moduleLinesOf _ _ _ _)) _ (due t))
+    (rw same counts.0, rw same counts.1, due-room (written_lines (module_lines_of _ _ _ _)) _ (due t))
 
 add-i : tie.Need-overflow-add-i invariant-loop decreases-loop
 add-i c = search rules
@@ -85,13 +85,13 @@ loop-again c =
     let k = c.before.before in
     let t = k.before.before.before in
     let same = k.put-module.auto.0 ∙ t.before.loop.invariant.1 in
-    (omega arith, same, due-next (writtenLines (moduleLinesOf _ _ _ _)) _ (due t) k.put-module.ensures)
+    (omega arith, same, due-next (written_lines (module_lines_of _ _ _ _)) _ (due t) k.put-module.ensures)
 
 same_length : tie.Need-same-length invariant-loop decreases-loop
 same_length c = c.before.loop.invariant.1
 
 returns : tie.Need-returns invariant-loop decreases-loop
-unfolding moduleLinesFrom writtenLines
+unfolding module_lines_from written_lines
 returns c =
     let l = c.before in
     let a = l.before.before.args in

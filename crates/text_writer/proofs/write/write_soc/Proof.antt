@@ -9,9 +9,9 @@ use mathlib.Core.Bool.{true, false}
 use mathlib.Core.List.{List}
 use lib.ListN.{length, replicate, length-replicate}
 use lib.Seq.{length-take-le}
-use Rattle.soc.specs.Limits.{textMax}
-use Rattle.soc.specs.Rules.{goodSoc}
-use Rattle.text_writer.specs.WrittenSoc.{writtenSoc, writeAnswer, writeLeaves}
+use Rattle.soc.specs.Limits.{text_max}
+use Rattle.soc.specs.Rules.{good_soc}
+use Rattle.text_writer.specs.WrittenSoc.{written_soc, write_answer, write_leaves}
 use Rattle.buffer.proofs.PutLaws.{front-within, front-text}
 use Rattle.text_writer.proofs.SizeLaws.{written-short}
 use Rattle.text_writer.proofs.write.write_soc.Statement.{statement}
@@ -20,7 +20,7 @@ use Rattle.text_writer.proofs.write.write_soc.Tie as tie
 fits : (k z : ℕ) (w : List ℕ) → length w ≤ k → length w ≤ length (replicate k z)
 fits k z w h = rw length-replicate h
 
-good : (c : tie.Else1) → goodSoc c.before.before.before.args.s ≡ true
+good : (c : tie.Else1) → good_soc c.before.before.before.args.s ≡ true
 good c = sym c.before.is-good.ensures ∙ not-false _ c.if1.false
 
 is-good-requires : tie.Need-is-good-requires
@@ -30,18 +30,18 @@ refused-write-requires : tie.Need-refused-write-requires
 refused-write-requires c κs = search rules
 
 returns : tie.Need-returns
-unfolding writeAnswer writeLeaves
+unfolding write_answer write_leaves
 returns c =
     let t = c.before in
     let s = t.before.before.before in
-    let e : goodSoc s.args.s ≡ false = sym t.before.is-good.ensures ∙ not-true _ t.if1.true in
+    let e : good_soc s.args.s ≡ false = sym t.before.is-good.ensures ∙ not-true _ t.if1.true in
     (c.refused-write.ensures ∙ simp e, simp e)
 
 slice-aggregate-put-soc : tie.Need-slice-aggregate-put-soc
 slice-aggregate-put-soc c = search rules
 
 put-soc-requires : tie.Need-put-soc-requires
-put-soc-requires c κs = let s = c.before.before.before.before in (good c.before, fits textMax 0 (writtenSoc s.args.s) (written-short s.args.s (good c.before)))
+put-soc-requires c κs = let s = c.before.before.before.before in (good c.before, fits text_max 0 (written_soc s.args.s) (written-short s.args.s (good c.before)))
 
 array-share-prefix-form : tie.Need-array-share-prefix-form
 array-share-prefix-form c = front-within c.before.before.put-soc.ensures
@@ -56,7 +56,7 @@ same_length : tie.Need-same-length
 same_length c = search rules
 
 returns-2 : tie.Need-returns-2
-unfolding writeAnswer writeLeaves
+unfolding write_answer write_leaves
 returns-2 c =
     let w = c.before.before in
     let k = w.before.before.before.before in

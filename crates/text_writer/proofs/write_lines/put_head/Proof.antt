@@ -6,16 +6,16 @@ use mathlib.Core.List.{◌∷◌}
 use lib.ListN.{length, length-map}
 use lib.Seq.{length-take-le}
 use Rattle.fields.specs.Bytes.{bytes, lf}
-use Rattle.fields.specs.Names.{nameMax}
+use Rattle.fields.specs.Names.{name_max}
 use Rattle.fields.specs.WrittenLines.{decimal}
 use Rattle.soc.specs.Record.{name_of}
-use Rattle.text_lines.specs.LineFields.{flagField}
+use Rattle.text_lines.specs.LineFields.{flag_field}
 use Rattle.buffer.proofs.PutLaws.{due_all, due-key, due-put, put_is}
-use Rattle.text_writer.proofs.LineLaws.{head-text}
+use Rattle.text_writer.proofs.LineLaws.{head_text}
 use Rattle.text_writer.proofs.write_lines.put_head.Statement.{statement}
 use Rattle.text_writer.proofs.write_lines.put_head.Tie as tie
 
-len : (c : tie.Start) → length c.args.s.name ≡ nameMax
+len : (c : tie.Start) → length c.args.s.name ≡ name_max
 len c = simp length-map at c.well-formed.1.1.0.1.1.1.0.1.0.1
 
 slice-aggregate-put-bytes : tie.Need-slice-aggregate-put-bytes
@@ -72,12 +72,12 @@ returns c =
     let k1 = k2.before.before.before.before.before in
     let s = k1.before.before.before.before.before in
     let r = s.args.s in
-    let d0 = due_all (head-text r) s.requires.1 in
+    let d0 = due_all (head_text r) s.requires.1 in
     let d1 = due-put (bytes "SocName ") _ d0 k1.put-bytes.ensures in
     let d2 = due-put (name_of r) _ d1 k2.put-bytes2.ensures in
     let d3 = due-key (lf ∷ bytes "TotalModules ") (decimal r.module_count) _ d2 k3.put-key.ensures in
-    let d4 = due-key (lf ∷ bytes "Options Power ") (flagField r.power) _ d3 k4.put-flag.ensures in
-    let d5 = due-key (bytes " XY ") (flagField r.xy) _ d4 k5.put-flag2.ensures in
+    let d4 = due-key (lf ∷ bytes "Options Power ") (flag_field r.power) _ d3 k4.put-flag.ensures in
+    let d5 = due-key (bytes " XY ") (flag_field r.xy) _ d4 k5.put-flag2.ensures in
     d5.done _ _ (put_is d5.room k6.put-bytes3.ensures)
 
 pub put-head-spec : {M : Type 1} → statement M

@@ -7,11 +7,11 @@ use mathlib.Core.Path.{◌≡◌, refl, ◌∙◌}
 use lib.ListN.{length, get_or, take, drop, length-map}
 use Rattle.fields.specs.Bytes.{bytes}
 use Rattle.fields.specs.WrittenLines.{decimal}
-use Rattle.soc.specs.Limits.{chainsMax}
-use Rattle.soc.specs.Record.{flipFlops}
+use Rattle.soc.specs.Limits.{chains_max}
+use Rattle.soc.specs.Record.{flip_flops}
 use Rattle.buffer.proofs.PutLaws.{Due, due_all, due-key, put-none}
-use Rattle.text_writer.specs.WrittenSoc.{spacedLengths}
-use Rattle.text_writer.proofs.RunLaws.{spaced-more, rest-none}
+use Rattle.text_writer.specs.WrittenSoc.{spaced_lengths}
+use Rattle.text_writer.proofs.RunLaws.{spaced_more, rest-none}
 use Rattle.text_writer.proofs.write_lines.put_lengths.Statement.{statement}
 use Rattle.text_writer.proofs.write_lines.put_lengths.Tie as tie
 
@@ -19,12 +19,12 @@ abbrev invariant-loop : tie.invariant-loop
 invariant-loop buf₀ at n d e₀ i₀ t9 buf e i =
     (i ≤ n)
     × (length buf ≡ length buf₀)
-    × Due (spacedLengths (drop i (take n d.chains))) (spacedLengths (take n d.chains)) at buf₀ e buf
+    × Due (spaced_lengths (drop i (take n d.chains))) (spaced_lengths (take n d.chains)) at buf₀ e buf
 
 abbrev decreases-loop : tie.decreases-loop
 decreases-loop buf₀ at n d e₀ i₀ t9 buf e i = n - i
 
-len : (c : tie.Start invariant-loop decreases-loop) → length c.args.t3.chains ≡ chainsMax
+len : (c : tie.Start invariant-loop decreases-loop) → length c.args.t3.chains ≡ chains_max
 len c = simp length-map at c.well-formed.1.1.0.1.1.1.1.1.1.1.0.1.0.1
 
 loop-holds : tie.Need-loop-init invariant-loop decreases-loop
@@ -57,15 +57,15 @@ loop-again c =
     let l = k.before.before.before.before.before.before in
     let s = l.before.before in
     let chains = s.args.t3.chains in
-    let more = spaced-more s.args.n chains l.loop.i (flipFlops 0) (omega arith) (omega (arith, len s, s.requires.0)) in
-    let f = decimal (get_or chains l.loop.i (flipFlops 0)).0 in
+    let more = spaced_more s.args.n chains l.loop.i (flip_flops 0) (omega arith) (omega (arith, len s, s.requires.0)) in
+    let f = decimal (get_or chains l.loop.i (flip_flops 0)).0 in
     (omega arith, k.put-key.auto.0 ∙ l.loop.invariant.1, due-key (bytes " ") f _ (rw more at l.loop.invariant.2) k.put-key.ensures)
 
 same_length : tie.Need-same-length invariant-loop decreases-loop
 same_length c = c.before.loop.invariant.1
 
 returns : tie.Need-returns invariant-loop decreases-loop
-unfolding spacedLengths
+unfolding spaced_lengths
 returns c =
     let l = c.before in
     let s = l.before.before in

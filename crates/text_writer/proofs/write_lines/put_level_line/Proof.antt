@@ -3,11 +3,11 @@ use borrow.Author.Rules.{rules}
 use native.Mathlib.Omega.{arith}
 use mathlib.Core.List.{[], ◌∷◌, ◌++◌}
 use Rattle.fields.specs.Bytes.{bytes, lf}
-use Rattle.fields.specs.WrittenLines.{decimal, writtenLines}
-use Rattle.soc.specs.Record.{chainsOf}
-use Rattle.text_lines.specs.LineFields.{levelFields}
+use Rattle.fields.specs.WrittenLines.{decimal, written_lines}
+use Rattle.soc.specs.Record.{chains_of}
+use Rattle.text_lines.specs.LineFields.{level_fields}
 use Rattle.buffer.proofs.PutLaws.{Due, due_all, due-key, due-put, due-room, due-next, put_is, put-kept}
-use Rattle.text_writer.specs.WrittenSoc.{spacedLengths}
+use Rattle.text_writer.specs.WrittenSoc.{spaced_lengths}
 use Rattle.text_writer.proofs.LineLaws.{level-text}
 use Rattle.text_writer.proofs.write_lines.put_level_line.Statement.{statement}
 use Rattle.text_writer.proofs.write_lines.put_level_line.Tie as tie
@@ -26,8 +26,8 @@ start k7 =
 due : (k7 : tie.After-put-bytes) →
     let a = (start k7).args in
     Due
-    (spacedLengths (chainsOf a.d) ++ lf ∷ [])
-    (writtenLines (levelFields a.m a.d ∷ []))
+    (spaced_lengths (chains_of a.d) ++ lf ∷ [])
+    (written_lines (level_fields a.m a.d ∷ []))
     a.at
     a.buf.now
     k7.put-bytes.result
@@ -107,7 +107,7 @@ put-bytes-requires c κs = search rules
 put-lengths-requires : tie.Need-put-lengths-requires
 put-lengths-requires c κs =
     let k = c.before.before.before in
-    (omega (arith, (start k).requires.0), due-room (spacedLengths (chainsOf (start k).args.d)) _ (due k))
+    (omega (arith, (start k).requires.0), due-room (spaced_lengths (chains_of (start k).args.d)) _ (due k))
 
 slice-aggregate-put-bytes-2 : tie.Need-slice-aggregate-put-bytes-2
 slice-aggregate-put-bytes-2 c = search rules
@@ -120,7 +120,7 @@ returns c =
     let k9 = c.before.before in
     let k8 = k9.before.before.before.before.before in
     let k7 = k8.before.before.before.before in
-    let d8 = due-next (spacedLengths (chainsOf (start k7).args.d)) _ (due k7) k8.put-lengths.ensures in
+    let d8 = due-next (spaced_lengths (chains_of (start k7).args.d)) _ (due k7) k8.put-lengths.ensures in
     d8.done _ _ (put_is d8.room k9.put-bytes2.ensures)
 
 same_length : tie.Need-same-length

@@ -5,10 +5,10 @@ use mathlib.Core.Path.{◌≡◌}
 use borrow.Author.Tests.{not-true, not-false}
 use mir.Syntax.{w32}
 use mir.Val.{to_z, of_z}
-use Rattle.soc.proofs.FigureLaws.{figure-back}
+use Rattle.soc.proofs.FigureLaws.{figure_back}
 use Rattle.fields.specs.Bytes.{bytes}
 use Rattle.fields.specs.WrittenLines.{decimal}
-use Rattle.text_lines.specs.LineFields.{givenField}
+use Rattle.text_lines.specs.LineFields.{given_field}
 use Rattle.buffer.proofs.PutLaws.{put-none, due_all, due-key, put_is}
 use Rattle.text_writer.proofs.LineLaws.{position-none, position-text}
 use Rattle.text_writer.proofs.write_lines.put_position_line.Statement.{statement}
@@ -57,12 +57,12 @@ returns-2 c =
     let d = s.args.d in
     let gx = k2.before.struct_told.given.1.1.1.1.1.1.0.1 in
     let gy = k3.before.struct-told2.given.1.1.1.1.1.1.1.0.1 in
-    let back-x : to_z w32 (of_z w32 d.x) ≡ d.x = figure-back d.x (record { sfits = gx }) in
-    let back-y : to_z w32 (of_z w32 d.y) ≡ d.y = figure-back d.y (record { sfits = gy }) in
+    let back-x : to_z w32 (of_z w32 d.x) ≡ d.x = figure_back d.x (record { sfits = gx }) in
+    let back-y : to_z w32 (of_z w32 d.y) ≡ d.y = figure_back d.y (record { sfits = gy }) in
     let d0 = due_all (position-text s.args.xy s.args.m d (not-false _ i.if1.false)) s.requires in
     let d1 = due-key (bytes "Module ") (decimal s.args.m) _ d0 k1.put-key.ensures in
-    let d2 = due-key (bytes " X ") (givenField d.x) _ d1 (rw back-x at k2.put-given.ensures) in
-    let d3 = due-key (bytes " Y ") (givenField d.y) _ d2 (rw back-y at k3.put-given2.ensures) in
+    let d2 = due-key (bytes " X ") (given_field d.x) _ d1 (rw back-x at k2.put-given.ensures) in
+    let d3 = due-key (bytes " Y ") (given_field d.y) _ d2 (rw back-y at k3.put-given2.ensures) in
     d3.done _ _ (put_is d3.room k4.put-bytes.ensures)
 
 pub put-position-line-spec : {M : Type 1} → statement M

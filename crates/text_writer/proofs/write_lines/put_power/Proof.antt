@@ -5,9 +5,9 @@ use mathlib.Core.Path.{◌≡◌}
 use borrow.Author.Tests.{not-true, not-false}
 use mir.Syntax.{w32}
 use mir.Val.{to_z, of_z}
-use Rattle.soc.proofs.FigureLaws.{figure-back}
+use Rattle.soc.proofs.FigureLaws.{figure_back}
 use Rattle.fields.specs.Bytes.{bytes}
-use Rattle.text_lines.specs.LineFields.{givenField}
+use Rattle.text_lines.specs.LineFields.{given_field}
 use Rattle.buffer.proofs.PutLaws.{due_all, due-key, put_is}
 use Rattle.text_writer.proofs.LineLaws.{power-none, power-text}
 use Rattle.text_writer.proofs.write_lines.put_power.Statement.{statement}
@@ -52,9 +52,9 @@ returns-2 c =
     let i = k1.before.before.before.before in
     let s = i.before.before in
     let w = s.args.t.power in
-    let back : to_z w32 (of_z w32 w) ≡ w = figure-back w (record { sfits = k1.before.struct_told.given.1.1.1.0.1 }) in
+    let back : to_z w32 (of_z w32 w) ≡ w = figure_back w (record { sfits = k1.before.struct_told.given.1.1.1.0.1 }) in
     let d0 = due_all (power-text s.args.power s.args.t (not-false _ i.if1.false)) s.requires in
-    let d1 = due-key (bytes " Power ") (givenField w) _ d0 (rw back at k1.put-given.ensures) in
+    let d1 = due-key (bytes " Power ") (given_field w) _ d0 (rw back at k1.put-given.ensures) in
     d1.done _ _ (put_is d1.room k2.put-bytes2.ensures)
 
 pub put-power-spec : {M : Type 1} → statement M

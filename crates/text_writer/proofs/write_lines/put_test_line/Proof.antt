@@ -3,10 +3,10 @@ use borrow.Author.Rules.{rules}
 use mathlib.Core.Bool.{cond}
 use mathlib.Core.List.{[], ◌∷◌}
 use Rattle.fields.specs.Bytes.{bytes}
-use Rattle.fields.specs.WrittenLines.{decimal, writtenLines}
-use Rattle.text_lines.specs.LineFields.{flagField, powerFields, testFields}
+use Rattle.fields.specs.WrittenLines.{decimal, written_lines}
+use Rattle.text_lines.specs.LineFields.{flag_field, power_fields, test_fields}
 use Rattle.buffer.proofs.PutLaws.{Due, due_all, due-key}
-use Rattle.text_writer.specs.WrittenSoc.{powerEnd}
+use Rattle.text_writer.specs.WrittenSoc.{power_end}
 use Rattle.text_writer.proofs.LineLaws.{test-text}
 use Rattle.text_writer.proofs.write_lines.put_test_line.Statement.{statement}
 use Rattle.text_writer.proofs.write_lines.put_test_line.Tie as tie
@@ -19,8 +19,8 @@ due : (k5 : tie.After-put-key3) →
     let k1 = k2.before.before.before.before.before in
     let a = k1.before.before.before.before.args in
     Due
-    (powerEnd a.power a.t)
-    (writtenLines (testFields a.m a.i a.t (cond a.power (powerFields a.t) []) ∷ []))
+    (power_end a.power a.t)
+    (written_lines (test_fields a.m a.i a.t (cond a.power (power_fields a.t) []) ∷ []))
     a.at
     a.buf.now
     k5.put-key3.result
@@ -35,8 +35,8 @@ due k5 =
     let d0 = due_all (test-text s.args.m s.args.i t s.args.power) s.requires in
     let d1 = due-key (bytes "Module ") (decimal s.args.m) _ d0 k1.put-key.ensures in
     let d2 = due-key (bytes " Test ") (decimal s.args.i) _ d1 k2.put-key2.ensures in
-    let d3 = due-key (bytes " ScanUse ") (flagField t.scan_use) _ d2 k3.put-flag.ensures in
-    let d4 = due-key (bytes " TamUse ") (flagField t.tam_use) _ d3 k4.put-flag2.ensures in
+    let d3 = due-key (bytes " ScanUse ") (flag_field t.scan_use) _ d2 k3.put-flag.ensures in
+    let d4 = due-key (bytes " TamUse ") (flag_field t.tam_use) _ d3 k4.put-flag2.ensures in
     due-key (bytes " Patterns ") (decimal t.patterns) _ d4 k5.put-key3.ensures
 
 slice-aggregate-put-key : tie.Need-slice-aggregate-put-key

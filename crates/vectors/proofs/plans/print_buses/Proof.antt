@@ -1,15 +1,15 @@
 -- `vectors::plans::print_buses` meets its contract: each bus that it reads is one of the record's places. The loop's invariant: i is at
 -- most their number. The measure is what is left of the array. Assumes nothing.
 use Rattle.std.proofs.Common.{◌-◌, ◌≤◌, rules}
-use Rattle.plan_record.specs.Record.{busPlaces}
+use Rattle.plan_record.specs.Record.{bus_places}
 use Rattle.vectors.proofs.plans.print_buses.Statement.{statement}
 use Rattle.vectors.proofs.plans.print_buses.Tie as tie
 
 abbrev invariant-loop : tie.invariant-loop
-invariant-loop p n i₀ i = i ≤ busPlaces
+invariant-loop p n i₀ i = i ≤ bus_places
 
 abbrev decreases-loop : tie.decreases-loop
-decreases-loop p n i₀ i = busPlaces - i
+decreases-loop p n i₀ i = bus_places - i
 
 loop-holds : tie.Need-loop-init invariant-loop decreases-loop
 loop-holds c = search rules

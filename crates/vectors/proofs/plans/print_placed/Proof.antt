@@ -1,15 +1,15 @@
 -- `vectors::plans::print_placed` meets its contract: each module that it reads is one of the record's places. The loop's invariant: i is
 -- at most their number. The measure is what is left of the array. Assumes nothing.
 use Rattle.std.proofs.Common.{◌-◌, ◌≤◌, rules}
-use Rattle.plan_record.specs.Record.{modulePlaces}
+use Rattle.plan_record.specs.Record.{module_places}
 use Rattle.vectors.proofs.plans.print_placed.Statement.{statement}
 use Rattle.vectors.proofs.plans.print_placed.Tie as tie
 
 abbrev invariant-loop : tie.invariant-loop
-invariant-loop p n i₀ i = i ≤ modulePlaces
+invariant-loop p n i₀ i = i ≤ module_places
 
 abbrev decreases-loop : tie.decreases-loop
-decreases-loop p n i₀ i = modulePlaces - i
+decreases-loop p n i₀ i = module_places - i
 
 loop-holds : tie.Need-loop-init invariant-loop decreases-loop
 loop-holds c = search rules

@@ -1,7 +1,7 @@
 -- `vectors::records::given` meets its contract: the number that it casts is not negative, and fits. Assumes nothing.
 use Rattle.std.proofs.Common.{◌≡◌, false, T, ℤ, pos, negsuc, nat_abs, true≢false, arith, w32, w64, Fits, SFits, rules}
 use lib.Signed.{lt_z, non_neg}
-use Rattle.soc.proofs.FigureLaws.{figure-back}
+use Rattle.soc.proofs.FigureLaws.{figure_back}
 use Rattle.vectors.proofs.records.given.Statement.{statement}
 use Rattle.vectors.proofs.records.given.Tie as tie
 
@@ -16,7 +16,7 @@ returns c = search rules
 cast-result : tie.Need-overflow-cast-result
 cast-result c =
     let s = c.before in
-    let e = figure-back s.args.z s.ranges.z in
+    let e = figure_back s.args.z s.ranges.z in
     let t : lt_z s.args.z (pos 0) ≡ false = rw e at c.if1.false in
     rw e (given-casts s.args.z s.ranges.z t)
 

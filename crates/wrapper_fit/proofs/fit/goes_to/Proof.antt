@@ -10,7 +10,7 @@ use mathlib.Core.List.{List, [], ◌∷◌}
 use mathlib.Core.Logic.{⊎_elim}
 use lib.ListN.{length, get_or, drop, drop_of_length-le}
 use lib.Seq.{drop-cons}
-use Rattle.wrapper_fit.specs.Fit.{longest, better, bestFrom, goes}
+use Rattle.wrapper_fit.specs.Fit.{longest, better, best_from, goes}
 use Rattle.wrapper_fit.proofs.FitLaws.{longest-at}
 use Rattle.wrapper_fit.proofs.fit.goes_to.Statement.{statement}
 use Rattle.wrapper_fit.proofs.fit.goes_to.Tie as tie
@@ -20,26 +20,26 @@ unfolding goes
 goes_none n [] e = refl
 goes_none n (x ∷ l) e = omega arith
 
-goes-start : (n : ℕ) (l : List ℕ) → 0 < length l → goes n l ≡ bestFrom (better n (longest l)) 0 (get_or l 0 0) 1 (drop 1 l)
+goes-start : (n : ℕ) (l : List ℕ) → 0 < length l → goes n l ≡ best_from (better n (longest l)) 0 (get_or l 0 0) 1 (drop 1 l)
 unfolding goes
 goes-start n [] h = omega arith
 goes-start n (x ∷ l) h = refl
 
 module _ (b : ℕ → ℕ → Bool) (i x j : ℕ) (l : List ℕ) where
-  best-found : j < length l → b x (get_or l j 0) ≡ true → bestFrom b i x j (drop j l) ≡ bestFrom b j (get_or l j 0) (j + 1) (drop (j + 1) l)
-  unfolding bestFrom
+  best-found : j < length l → b x (get_or l j 0) ≡ true → best_from b i x j (drop j l) ≡ best_from b j (get_or l j 0) (j + 1) (drop (j + 1) l)
+  unfolding best_from
   best-found h e = rw (add-one, drop-cons l j 0 h) (simp e)
 
-  best-stays : j < length l → b x (get_or l j 0) ≡ false → bestFrom b i x j (drop j l) ≡ bestFrom b i x (j + 1) (drop (j + 1) l)
-  unfolding bestFrom
-  best-stays h e = rw (add-one, drop-cons l j 0 h) (simp e)
+  best_stays : j < length l → b x (get_or l j 0) ≡ false → best_from b i x j (drop j l) ≡ best_from b i x (j + 1) (drop (j + 1) l)
+  unfolding best_from
+  best_stays h e = rw (add-one, drop-cons l j 0 h) (simp e)
 
-  best-end : length l ≤ j → bestFrom b i x j (drop j l) ≡ i
-  unfolding bestFrom
+  best-end : length l ≤ j → best_from b i x j (drop j l) ≡ i
+  unfolding best_from
   best-end h = rw (drop_of_length-le l h)
 
 abbrev invariant-loop : tie.invariant-loop
-invariant-loop l n m i₀ x₀ j₀ i x j = (x ≤ longest l) × (goes n l ≡ bestFrom (better n (longest l)) i x j (drop j l))
+invariant-loop l n m i₀ x₀ j₀ i x j = (x ≤ longest l) × (goes n l ≡ best_from (better n (longest l)) i x j (drop j l))
 
 abbrev decreases-loop : tie.decreases-loop
 decreases-loop l n m i₀ x₀ j₀ i x j = length l - j
@@ -89,7 +89,7 @@ loop-again c =
     let f = best-found b l.loop.i l.loop.x l.loop.j xs h (sym e ∙ w.0.taken) in
     rw (w.1, w.2) (longest-at xs l.loop.j, l.loop.invariant.1 ∙ f))
     (λ w.
-    let f = best-stays b l.loop.i l.loop.x l.loop.j xs h (sym e ∙ w.0.left) in
+    let f = best_stays b l.loop.i l.loop.x l.loop.j xs h (sym e ∙ w.0.left) in
     rw (w.1, w.2) (l.loop.invariant.0, l.loop.invariant.1 ∙ f))
     c.if2.branch
 

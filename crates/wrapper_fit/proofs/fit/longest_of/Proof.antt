@@ -7,7 +7,7 @@ use mathlib.Core.Path.{◌≡◌, sym, ◌∙◌}
 use mathlib.Core.Logic.{⊎_elim}
 use lib.ListN.{length, drop}
 use Rattle.wrapper_fit.specs.Fit.{longest}
-use Rattle.wrapper_fit.proofs.FitLaws.{longest-step, longest-end}
+use Rattle.wrapper_fit.proofs.FitLaws.{longest_step, longest-end}
 use Rattle.wrapper_fit.proofs.fit.longest_of.Statement.{statement}
 use Rattle.wrapper_fit.proofs.fit.longest_of.Tie as tie
 
@@ -35,7 +35,7 @@ loop-less c = search rules
 loop-again : tie.Need-loop-preserved invariant-loop decreases-loop
 loop-again c =
     let l = c.before.before.before in
-    let e = longest-step l.before.args.l.now l.loop.i l.loop.m c.before.before.loop-test.true in
+    let e = longest_step l.before.args.l.now l.loop.i l.loop.m c.before.before.loop-test.true in
     ⊎_elim (λ w. omega (arith, e, l.loop.invariant, w.0, w.1)) (λ w. omega (arith, e, l.loop.invariant, w.0, w.1)) c.if1.branch
 
 returns : tie.Need-returns invariant-loop decreases-loop

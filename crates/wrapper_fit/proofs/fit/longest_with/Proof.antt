@@ -10,10 +10,10 @@ use mathlib.Core.Logic.{⊎_elim}
 use lib.ListN.{length, get_or, take, drop, set, replicate, length-set}
 use lib.Seq.{get_or-take, length-take-le, take-set-lt}
 use Rattle.wrapper_fit.specs.Fit.{longest, total, goes, placed}
-use Rattle.wrapper_fit.specs.Elements.{withChains}
+use Rattle.wrapper_fit.specs.Elements.{with_chains}
 use Rattle.wrapper_fit.proofs.FitLaws.{zeros-longest, goes-below, longest-total, total-at, total-placed}
-use Rattle.wrapper_fit.proofs.ElementLaws.{zeros-take, zeros-total, chains-step, chains-end, longest-placed-is, few-longest}
-use Rattle.wrapper_fit.proofs.ElementLaws.{total-step}
+use Rattle.wrapper_fit.proofs.ElementLaws.{zeros-take, zeros-total, chains_step, chains-end, longest-placed-is, few-longest}
+use Rattle.wrapper_fit.proofs.ElementLaws.{total_step}
 use Rattle.wrapper_fit.proofs.fit.longest_with.Statement.{statement}
 use Rattle.wrapper_fit.proofs.fit.longest_with.Tie as tie
 
@@ -40,7 +40,7 @@ invariant-loop chains k lengths₀ m₀ i₀ lengths m i =
     (length lengths ≡ 64)
     × (m ≡ longest (take k lengths))
     × (total (take k lengths) + total (drop i chains) ≡ total chains)
-    × (withChains chains (replicate k 0) ≡ withChains (drop i chains) (take k lengths))
+    × (with_chains chains (replicate k 0) ≡ with_chains (drop i chains) (take k lengths))
 
 abbrev decreases-loop : tie.decreases-loop
 decreases-loop chains k lengths₀ m₀ i₀ lengths m i = length chains - i
@@ -65,7 +65,7 @@ fits : (c : tie.In-loop invariant-loop decreases-loop) →
 fits c =
     let l = c.before in
     let s = l.before.before.before in
-    omega (arith, s.requires.2, l.loop.invariant.2, total-step s.args.chains.now l.loop.i c.loop-test.true)
+    omega (arith, s.requires.2, l.loop.invariant.2, total_step s.args.chains.now l.loop.i c.loop-test.true)
 
 longest-of-requires : tie.Need-longest-of-requires invariant-loop decreases-loop
 longest-of-requires c κs = search rules
@@ -82,7 +82,7 @@ loop-holds c =
       refl,
       sym (ap longest z ∙ zeros-longest s.args.k),
       omega (arith, ap total z, zeros-total s.args.k),
-      ap (withChains s.args.chains.now) (sym z),
+      ap (with_chains s.args.chains.now) (sym z),
     )
 
 mul-n : tie.Need-overflow-mul-n invariant-loop decreases-loop
@@ -145,8 +145,8 @@ loop-again c =
     let t = put-longest n k at ls s.requires.0 (part l) c.before.Goes-to.ensures in (
       length-set ls at (get_or ls at 0 + n) ∙ l.loop.invariant.0,
       ⊎_elim (λ w. omega (arith, t, l.loop.invariant.1, w.0, w.1)) (λ w. omega (arith, t, l.loop.invariant.1, w.0, w.1)) c.if2.branch,
-      rw p (omega (arith, total-placed n (take k ls) (omega (arith, s.requires.0, part l)), total-step chains i h, l.loop.invariant.2)),
-      l.loop.invariant.3 ∙ chains-step chains (take k ls) i h ∙ ap (withChains (drop (i + 1) chains)) (sym p),
+      rw p (omega (arith, total-placed n (take k ls) (omega (arith, s.requires.0, part l)), total_step chains i h, l.loop.invariant.2)),
+      l.loop.invariant.3 ∙ chains_step chains (take k ls) i h ∙ ap (with_chains (drop (i + 1) chains)) (sym p),
     )
 
 returns-2 : tie.Need-returns-2 invariant-loop decreases-loop

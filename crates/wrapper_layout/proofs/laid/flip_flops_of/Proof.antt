@@ -6,13 +6,13 @@ use Prim.Native.Nat.{◌-◌, ◌≤◌, ◌<◌}
 use mathlib.Core.Path.{◌≡◌, refl, sym, ap, ◌∙◌}
 use mathlib.Core.List.{◌++◌, map}
 use lib.ListN.{length, length-map, get_or, take, drop, set, replicate, get_or-map}
-use Rattle.soc.specs.Record.{flipFlops}
+use Rattle.soc.specs.Record.{flip_flops}
 use Rattle.wrapper_scans.proofs.ChainLaws.{over-set, over-end}
 use Rattle.wrapper_layout.proofs.laid.flip_flops_of.Statement.{statement}
 use Rattle.wrapper_layout.proofs.laid.flip_flops_of.Tie as tie
 
 abbrev invariant-loop : tie.invariant-loop
-invariant-loop lengths f₀ i₀ f i = (i ≤ 64) × (f ≡ take i (map flipFlops lengths) ++ drop i f₀)
+invariant-loop lengths f₀ i₀ f i = (i ≤ 64) × (f ≡ take i (map flip_flops lengths) ++ drop i f₀)
 
 abbrev decreases-loop : tie.decreases-loop
 decreases-loop lengths f₀ i₀ f i = 64 - i
@@ -50,19 +50,19 @@ loop-again c =
     let s = l.before in
     let xs = s.args.t1 in
     let i = l.loop.i in
-    let h : i < length (map flipFlops xs) = simp length-map (omega (arith, len s, c.loop-test.true)) in
-    let e : flipFlops (get_or xs i 0) ≡ get_or (map flipFlops xs) i (flipFlops 0) = sym (get_or-map flipFlops xs i 0) in (
+    let h : i < length (map flip_flops xs) = simp length-map (omega (arith, len s, c.loop-test.true)) in
+    let e : flip_flops (get_or xs i 0) ≡ get_or (map flip_flops xs) i (flip_flops 0) = sym (get_or-map flip_flops xs i 0) in (
       omega arith,
-      ap (λ y. set l.loop.f i y) e ∙ ap (λ fs. set fs i (get_or (map flipFlops xs) i (flipFlops 0))) l.loop.invariant.1
-          ∙ over-set (flipFlops 0) (map flipFlops xs) (replicate 64 (flipFlops 0)) i h c.loop-test.true,
+      ap (λ y. set l.loop.f i y) e ∙ ap (λ fs. set fs i (get_or (map flip_flops xs) i (flip_flops 0))) l.loop.invariant.1
+          ∙ over-set (flip_flops 0) (map flip_flops xs) (replicate 64 (flip_flops 0)) i h c.loop-test.true,
     )
 
 returns : tie.Need-returns invariant-loop decreases-loop
 returns c =
     let l = c.before in
     let xs = l.before.args.t1 in
-    let n : length (map flipFlops xs) ≤ l.loop.i = simp length-map (omega (arith, len l.before, c.loop-test.false)) in
-    l.loop.invariant.1 ∙ over-end (map flipFlops xs) (replicate 64 (flipFlops 0)) l.loop.i n c.loop-test.false
+    let n : length (map flip_flops xs) ≤ l.loop.i = simp length-map (omega (arith, len l.before, c.loop-test.false)) in
+    l.loop.invariant.1 ∙ over-end (map flip_flops xs) (replicate 64 (flip_flops 0)) l.loop.i n c.loop-test.false
 
 pub flip-flops-of-spec : {M : Type 1} → statement M
 flip-flops-of-spec =

@@ -6,24 +6,24 @@ use Prim.Native.Nat.{ℕ, suc, ◌+◌, ◌-◌, ◌≤◌, ◌<◌}
 use mathlib.Core.Path.{◌≡◌, refl, sym, ap, ◌∙◌}
 use mathlib.Core.List.{List}
 use lib.ListN.{length}
-use Rattle.wrapper_fit.specs.Fit.{longest, placed, withCells}
+use Rattle.wrapper_fit.specs.Fit.{longest, placed, with_cells}
 use Rattle.wrapper_fit.proofs.FitLaws.{placed-length, longest-placed}
 use Rattle.wrapper_layout.proofs.places.add_cells.Statement.{statement}
 use Rattle.wrapper_layout.proofs.places.add_cells.Tie as tie
 
-cells-start : (n : ℕ) (l : List ℕ) → withCells n l ≡ withCells (n - 0) l
+cells-start : (n : ℕ) (l : List ℕ) → with_cells n l ≡ with_cells (n - 0) l
 cells-start n l = let e : n - 0 ≡ n = omega arith in rw e
 
-cells-step : (n i : ℕ) (l : List ℕ) → i < n → withCells (n - i) l ≡ withCells (n - (i + 1)) (placed 1 l)
-unfolding withCells
+cells-step : (n i : ℕ) (l : List ℕ) → i < n → with_cells (n - i) l ≡ with_cells (n - (i + 1)) (placed 1 l)
+unfolding with_cells
 cells-step n i l h = let e : n - i ≡ suc (n - (i + 1)) = omega arith in rw e
 
-cells-end : (n i : ℕ) (l : List ℕ) → n ≤ i → withCells (n - i) l ≡ l
-unfolding withCells
+cells-end : (n i : ℕ) (l : List ℕ) → n ≤ i → with_cells (n - i) l ≡ l
+unfolding with_cells
 cells-end n i l h = let e : n - i ≡ 0 = omega arith in rw e
 
 abbrev invariant-loop : tie.invariant-loop
-invariant-loop l₀ n i₀ l i = (i ≤ n) × (length l ≡ length l₀) × (longest l ≤ longest l₀ + i) × (withCells n l₀ ≡ withCells (n - i) l)
+invariant-loop l₀ n i₀ l i = (i ≤ n) × (length l ≡ length l₀) × (longest l ≤ longest l₀ + i) × (with_cells n l₀ ≡ with_cells (n - i) l)
 
 abbrev decreases-loop : tie.decreases-loop
 decreases-loop l₀ n i₀ l i = n - i

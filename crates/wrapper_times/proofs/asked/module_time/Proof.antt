@@ -7,18 +7,18 @@ use mathlib.Core.List.{List, map}
 use lib.ListN.{get_or}
 use Rattle.units.specs.Places.{padded}
 use Rattle.soc.specs.declared.record.Module.{Module}
-use Rattle.wrapper_fit.specs.Maxima.{widthMax}
+use Rattle.wrapper_fit.specs.Maxima.{width_max}
 use Rattle.wrapper_fit.specs.Counts.{wires, cycles}
-use Rattle.wrapper_scans.proofs.AskedLaws.{module-refused, module-found, Found, found-kept}
-use Rattle.wrapper_times.specs.Times.{Best, moduleBest}
-use Rattle.wrapper_times.specs.TimeAnswers.{bestsFrom, noModuleTime, moduleTimeOf, moduleTimeAnswer, cyclesIn, wiresIn, timesOf}
+use Rattle.wrapper_scans.proofs.AskedLaws.{module_refused, module_found, Found, found-kept}
+use Rattle.wrapper_times.specs.Times.{Best, module_best}
+use Rattle.wrapper_times.specs.TimeAnswers.{bests_from, no_module_time, module_time_of, module_time_answer, cycles_in, wires_in, times_of}
 use Rattle.wrapper_times.specs.declared.asked.ModuleTime.{ModuleTime}
-use Rattle.wrapper_times.proofs.TimeLaws.{bests-last}
+use Rattle.wrapper_times.proofs.TimeLaws.{bests_last}
 use Rattle.wrapper_times.proofs.asked.module_time.Statement.{statement}
 use Rattle.wrapper_times.proofs.asked.module_time.Tie as tie
 
 abbrev timed : ℕ → ℕ → Module → ModuleTime
-timed w c d = moduleTimeOf (moduleBest c d w)
+timed w c d = module_time_of (module_best c d w)
 
 found : (c : tie.Else1) → Found c.before.before.asked-module.result.«module» c.before.before.before.args.width.0
     c.before.before.before.args.capture.0
@@ -30,8 +30,8 @@ found c =
 
 -- what stands in the last place
 last : {A : Type 0} (f : Best → A) (z y : A) (d : Module) (w c : ℕ) (l : List A) → Found d w c
-    → l ≡ padded widthMax z (map f (bestsFrom c d w 1)) → get_or l (w - 1) y ≡ f (moduleBest c d w)
-last f z y d w c l h e = rw e (bests-last f z c d w h.some h.most y)
+    → l ≡ padded width_max z (map f (bests_from c d w 1)) → get_or l (w - 1) y ≡ f (module_best c d w)
+last f z y d w c l h e = rw e (bests_last f z c d w h.some h.most y)
 
 asked-module-requires : tie.Need-asked-module-requires
 asked-module-requires c κs = search rules
@@ -40,12 +40,12 @@ no-module-time-requires : tie.Need-no-module-time-requires
 no-module-time-requires c κs = search rules
 
 returns : tie.Need-returns
-unfolding moduleTimeAnswer
+unfolding module_time_answer
 returns c =
     let a = c.before.before.before in
     let s = a.before.args in
     c.no-module-time.ensures
-    ∙ module-refused s.s s.«module» s.width.0 s.capture.0 noModuleTime (timed s.width.0 s.capture.0)
+    ∙ module_refused s.s s.«module» s.width.0 s.capture.0 no_module_time (timed s.width.0 s.capture.0)
     a.asked-module.result
     a.asked-module.ensures c.before.if1.true
 
@@ -74,7 +74,7 @@ none-requires : tie.Need-none-requires
 none-requires c κs = search rules
 
 returns-2 : tie.Need-returns-2
-unfolding moduleTimeAnswer timesOf
+unfolding module_time_answer times_of
 returns-2 c =
     let t = c.before.before.before in
     let e = t.before.before.before in
@@ -82,15 +82,15 @@ returns-2 c =
     let s = a.before.args in
     let d = a.asked-module.result.«module» in
     let cs =
-    last cyclesIn (cycles 0) (cycles 0) d s.width.0 s.capture.0 t.times-of.result.cycles (found e)
+    last cycles_in (cycles 0) (cycles 0) d s.width.0 s.capture.0 t.times-of.result.cycles (found e)
     (ap (λ r. r.cycles) t.times-of.ensures)
     in
     let ws =
-    last wiresIn (wires 0) (wires 0) d s.width.0 s.capture.0 t.times-of.result.wires (found e)
+    last wires_in (wires 0) (wires 0) d s.width.0 s.capture.0 t.times-of.result.wires (found e)
     (ap (λ r. r.wires) t.times-of.ensures)
     in
     rw (c.none.ensures, cs, ws)
-    (module-found s.s s.«module» s.width.0 s.capture.0 noModuleTime (timed s.width.0 s.capture.0)
+    (module_found s.s s.«module» s.width.0 s.capture.0 no_module_time (timed s.width.0 s.capture.0)
     a.asked-module.result a.asked-module.ensures
     e.if1.false)
 

@@ -5,14 +5,14 @@ use Prim.Native.Nat.{ℕ}
 use mathlib.Core.Path.{◌∙◌}
 use Rattle.units.specs.Refusals.{accepted}
 use Rattle.soc.specs.declared.record.Module.{Module}
-use Rattle.wrapper_scans.proofs.AskedLaws.{module-refused, module-found, found-kept}
-use Rattle.wrapper_times.specs.TimeAnswers.{timesOf, noModuleTimes, moduleTimesAnswer}
+use Rattle.wrapper_scans.proofs.AskedLaws.{module_refused, module_found, found-kept}
+use Rattle.wrapper_times.specs.TimeAnswers.{times_of, no_module_times, module_times_answer}
 use Rattle.wrapper_times.specs.declared.asked.ModuleTimes.{ModuleTimes}
 use Rattle.wrapper_times.proofs.asked.module_times.Statement.{statement}
 use Rattle.wrapper_times.proofs.asked.module_times.Tie as tie
 
 abbrev timed : ℕ → ℕ → Module → ModuleTimes
-timed w c d = record { refusal = accepted; times = timesOf c d w }
+timed w c d = record { refusal = accepted; times = times_of c d w }
 
 asked-module-requires : tie.Need-asked-module-requires
 asked-module-requires c κs = search rules
@@ -21,12 +21,12 @@ no-module-times-requires : tie.Need-no-module-times-requires
 no-module-times-requires c κs = search rules
 
 returns : tie.Need-returns
-unfolding moduleTimesAnswer
+unfolding module_times_answer
 returns c =
     let a = c.before.before.before in
     let s = a.before.args in
     c.no-module-times.ensures
-    ∙ module-refused s.s s.«module» s.width.0 s.capture.0 noModuleTimes (timed s.width.0 s.capture.0)
+    ∙ module_refused s.s s.«module» s.width.0 s.capture.0 no_module_times (timed s.width.0 s.capture.0)
     a.asked-module.result
     a.asked-module.ensures c.before.if1.true
 
@@ -47,13 +47,13 @@ times-of-requires c κs =
     (f.kept, f.some, f.most, f.capture)
 
 returns-2 : tie.Need-returns-2
-unfolding moduleTimesAnswer
+unfolding module_times_answer
 returns-2 c =
     let e = c.before.before.before.before in
     let a = e.before.before in
     let s = a.before.args in
     rw (c.before.before.none.ensures, c.times-of.ensures)
-    (module-found s.s s.«module» s.width.0 s.capture.0 noModuleTimes (timed s.width.0 s.capture.0)
+    (module_found s.s s.«module» s.width.0 s.capture.0 no_module_times (timed s.width.0 s.capture.0)
     a.asked-module.result
     a.asked-module.ensures e.if1.false)
 

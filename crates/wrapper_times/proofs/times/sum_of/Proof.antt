@@ -6,17 +6,17 @@ use Prim.Native.Nat.{◌+◌, ◌-◌, ◌*◌, ◌≤◌, ◌<◌}
 use mathlib.Core.Path.{◌≡◌, sym, ap, ◌∙◌}
 use lib.ListN.{length, length-map, length-take, get_or, drop}
 use lib.Seq.{get_or-take}
-use Rattle.soc.specs.Record.{noTest, testsOf}
-use Rattle.wrapper_fit.specs.Maxima.{testTimeMax}
-use Rattle.wrapper_times.specs.Sums.{sumScans, plannedCycles}
+use Rattle.soc.specs.Record.{no_test, tests_of}
+use Rattle.wrapper_fit.specs.Maxima.{test_time_max}
+use Rattle.wrapper_times.specs.Sums.{sum_scans, planned_cycles}
 use Rattle.wrapper_times.proofs.TimeLaws.{planned-most, sum_step, sum-end}
 use Rattle.wrapper_times.proofs.times.sum_of.Statement.{statement}
 use Rattle.wrapper_times.proofs.times.sum_of.Tie as tie
 
 abbrev invariant-loop : tie.invariant-loop
 invariant-loop with without capture d n sum₀ i₀ sum i =
-    (i ≤ n) × (sum ≤ i * testTimeMax)
-    × (sumScans capture with without (testsOf d) ≡ sum + sumScans capture with without (drop i (testsOf d)))
+    (i ≤ n) × (sum ≤ i * test_time_max)
+    × (sum_scans capture with without (tests_of d) ≡ sum + sum_scans capture with without (drop i (tests_of d)))
 
 abbrev decreases-loop : tie.decreases-loop
 decreases-loop with without capture d n sum₀ i₀ sum i = n - i
@@ -25,12 +25,12 @@ len : (c : tie.Start invariant-loop decreases-loop) → length c.args.t1.tests �
 len c = simp length-map at c.well-formed.0.1.1.1.1.1.1.1.1.1.1.1.0.1.0.1
 
 -- what the test of this turn adds
-most : (c : tie.After-planned-cycles invariant-loop decreases-loop) → c.planned-cycles.result ≤ testTimeMax
+most : (c : tie.After-planned-cycles invariant-loop decreases-loop) → c.planned-cycles.result ≤ test_time_max
 most c =
     let l = c.before.before.before in
     let s = l.before in
     rw c.planned-cycles.ensures
-    (planned-most s.args.capture s.args.with s.args.without (get_or s.args.t1.tests l.loop.i noTest) s.requires.3
+    (planned-most s.args.capture s.args.with s.args.without (get_or s.args.t1.tests l.loop.i no_test) s.requires.3
     s.requires.1 s.requires.2
     (s.requires.0.patterns l.loop.i))
 
@@ -64,17 +64,17 @@ loop-again c =
     let s = l.before in
     let d = s.args.t1 in
     let i = l.loop.i in
-    let below : i < length (testsOf d) =
+    let below : i < length (tests_of d) =
     omega (arith, c.before.before.loop-test.true, length-take d.test_count d.tests, len s, s.requires.0.tests)
     in
-    let at : get_or (testsOf d) i noTest ≡ get_or d.tests i noTest =
-    get_or-take d.test_count d.tests i noTest c.before.before.loop-test.true
+    let at : get_or (tests_of d) i no_test ≡ get_or d.tests i no_test =
+    get_or-take d.test_count d.tests i no_test c.before.before.loop-test.true
     in
-    let cycles = plannedCycles s.args.capture s.args.with s.args.without in
-    let e : c.planned-cycles.result ≡ cycles (get_or (testsOf d) i noTest) = c.planned-cycles.ensures ∙ ap cycles (sym at) in (
+    let cycles = planned_cycles s.args.capture s.args.with s.args.without in
+    let e : c.planned-cycles.result ≡ cycles (get_or (tests_of d) i no_test) = c.planned-cycles.ensures ∙ ap cycles (sym at) in (
       omega arith,
       omega (arith, most c, l.loop.invariant.1),
-      omega (arith, l.loop.invariant.2, e, sum_step s.args.capture s.args.with s.args.without (testsOf d) i below),
+      omega (arith, l.loop.invariant.2, e, sum_step s.args.capture s.args.with s.args.without (tests_of d) i below),
     )
 
 returns : tie.Need-returns invariant-loop decreases-loop
@@ -85,7 +85,7 @@ returns c =
     omega (
       arith,
       l.loop.invariant.2,
-      sum-end s.args.capture s.args.with s.args.without (testsOf d) l.loop.i
+      sum-end s.args.capture s.args.with s.args.without (tests_of d) l.loop.i
           (omega (arith, c.loop-test.false, length-take d.test_count d.tests)),
     )
 

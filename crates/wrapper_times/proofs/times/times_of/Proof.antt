@@ -11,30 +11,30 @@ use Rattle.units.specs.declared.Wires.{Wires}
 use Rattle.units.specs.declared.Cycles.{Cycles}
 use Rattle.units.specs.Places.{padded}
 use Rattle.soc.specs.declared.record.Module.{Module}
-use Rattle.wrapper_fit.specs.Maxima.{widthMax}
+use Rattle.wrapper_fit.specs.Maxima.{width_max}
 use Rattle.wrapper_fit.specs.Counts.{wires, cycles}
-use Rattle.wrapper_times.specs.Times.{figure, moduleBest}
-use Rattle.wrapper_times.specs.TimeAnswers.{bestsFrom, cyclesIn, wiresIn, timesOf}
-use Rattle.wrapper_times.proofs.TimeLaws.{best-one, best-less, best-stays, bests-first, bests-set}
+use Rattle.wrapper_times.specs.Times.{figure, module_best}
+use Rattle.wrapper_times.specs.TimeAnswers.{bests_from, cycles_in, wires_in, times_of}
+use Rattle.wrapper_times.proofs.TimeLaws.{best-one, best_less, best_stays, bests_first, bests_set}
 use Rattle.wrapper_times.proofs.times.times_of.Statement.{statement}
 use Rattle.wrapper_times.proofs.times.times_of.Tie as tie
 
 -- the best at width u, and the arrays of the widths 1 to u
 record Held (c : ℕ) (d : Module) (u best at : ℕ) (cs : List Cycles) (ws : List Wires) : Type 0 where
-  least : best ≡ (moduleBest c d u).cycles
-  width : at ≡ (moduleBest c d u).wires
-  times : cs ≡ padded widthMax (cycles 0) (map cyclesIn (bestsFrom c d u 1))
-  places : ws ≡ padded widthMax (wires 0) (map wiresIn (bestsFrom c d u 1))
+  least : best ≡ (module_best c d u).cycles
+  width : at ≡ (module_best c d u).wires
+  times : cs ≡ padded width_max (cycles 0) (map cycles_in (bests_from c d u 1))
+  places : ws ≡ padded width_max (wires 0) (map wires_in (bests_from c d u 1))
 
 held_more : (c : ℕ) (d : Module) (u best at : ℕ) (cs : List Cycles) (ws : List Wires) (b a : ℕ) → u < 64 → Held c d u best at cs ws
-    → b ≡ (moduleBest c d (u + 1)).cycles → a ≡ (moduleBest c d (u + 1)).wires
+    → b ≡ (module_best c d (u + 1)).cycles → a ≡ (module_best c d (u + 1)).wires
     → Held c d (u + 1) b a (set cs u (cycles b)) (set ws u (wires a))
 held_more c d u best at cs ws b a h k e f =
     record {
       least = e;
       width = f;
-      times = rw (k.times, e) (bests-set cyclesIn (cycles 0) c d u h);
-      places = rw (k.places, f) (bests-set wiresIn (wires 0) c d u h);
+      times = rw (k.times, e) (bests_set cycles_in (cycles 0) c d u h);
+      places = rw (k.places, f) (bests_set wires_in (wires 0) c d u h);
     }
 
 abbrev invariant-loop : tie.invariant-loop
@@ -59,15 +59,15 @@ loop-holds : tie.Need-loop-init invariant-loop decreases-loop
 loop-holds c =
     let d = c.before.before.args.d in
     let x = c.before.before.args.capture in
-    let e : c.figure-at.result ≡ (moduleBest x d 1).cycles = c.figure-at.ensures ∙ sym (ap (λ b. b.cycles) (best-one x d)) in
-    let f : ◌≡◌ {A = ℕ} 1 (moduleBest x d 1).wires = sym (ap (λ b. b.wires) (best-one x d)) in (
+    let e : c.figure-at.result ≡ (module_best x d 1).cycles = c.figure-at.ensures ∙ sym (ap (λ b. b.cycles) (best-one x d)) in
+    let f : ◌≡◌ {A = ℕ} 1 (module_best x d 1).wires = sym (ap (λ b. b.wires) (best-one x d)) in (
       omega arith,
       c.before.before.requires.1,
       record {
         least = e;
         width = f;
-        times = rw e (bests-first cyclesIn (cycles 0) x d);
-        places = ap (λ a. set (replicate widthMax (wires 0)) 0 (wires a)) f ∙ bests-first wiresIn (wires 0) x d;
+        times = rw e (bests_first cycles_in (cycles 0) x d);
+        places = ap (λ a. set (replicate width_max (wires 0)) 0 (wires a)) f ∙ bests_first wires_in (wires 0) x d;
       },
     )
 
@@ -118,16 +118,16 @@ loop-again c =
       omega (arith, c.before.before.loop-test.true),
       ⊎_elim
           (λ w.
-          let e = best-less x d u l.loop.invariant.0 (omega (arith, f, k.least, w.0.taken)) in
+          let e = best_less x d u l.loop.invariant.0 (omega (arith, f, k.least, w.0.taken)) in
           more (w.1 ∙ f ∙ sym (ap (λ b. b.cycles) e)) (w.2 ∙ sym (ap (λ b. b.wires) e)))
           (λ w.
-          let e = best-stays x d u l.loop.invariant.0 (omega (arith, f, k.least, w.0.left)) in
+          let e = best_stays x d u l.loop.invariant.0 (omega (arith, f, k.least, w.0.left)) in
           more (w.1 ∙ k.least ∙ sym (ap (λ b. b.cycles) e)) (w.2 ∙ k.width ∙ sym (ap (λ b. b.wires) e)))
           c.if1.branch,
     )
 
 returns : tie.Need-returns invariant-loop decreases-loop
-unfolding timesOf
+unfolding times_of
 returns c =
     let l = c.before in
     let s = l.before.before.before in
