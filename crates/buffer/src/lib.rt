@@ -1,4 +1,6 @@
 // Bytes in lent buffers: put at a place, written all or not at all. A place is a count of bytes from the front.
+#![tactic(auto)]
+
 mod put;
 mod written;
 

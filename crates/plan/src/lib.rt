@@ -1,4 +1,5 @@
 // The first planner (document 01, "The plan"): the first plan of least time.
+#![tactic(auto)]
 mod answer;
 mod entry;
 mod limits;

@@ -1,5 +1,6 @@
 // The printing program: standard input to a printed plan (document 01, "The printing program"). Reading and writing are all that it does; what is
 // printed is the promise of `listing`.
+#![tactic(auto)]
 use libc::{STDIN_FILENO, STDOUT_FILENO};
 use listing::LISTING_MAX;
 

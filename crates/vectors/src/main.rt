@@ -1,6 +1,7 @@
 // Runs the product on the texts in data/ and prints what it finds: texts read and written, layouts and times, plans, plan files, pairs
 // (document 01, "The SOC text", "The wrapper rule", "The plan", "The plan file"; document 02, items 1, 3, 5 and 7). The file args names the
 // texts, and stdout is what must be printed.
+#![tactic(auto)]
 use pairs::{show_asked, show_lines, show_padded_pair, show_pair, show_written};
 use plan_files::{show_changes, show_longest, show_old, show_part, show_plan_file};
 use plans::{show_budget, show_plan, show_table_9};
