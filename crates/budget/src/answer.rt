@@ -3,7 +3,7 @@ use plan_record::BusPlan;
 use units::Refusal;
 
 // Whether the search needed no more tries than the budget.
-#[derive(Drop)]
+#[derive(Clone, Copy)]
 pub enum Ended {
     Finished,
     Unfinished,
@@ -11,7 +11,7 @@ pub enum Ended {
 
 // How the search ended, the tries that it spent, whether a plan was met, and the best one, else a plan that says nothing. Or the refusal, with
 // nothing found.
-#[derive(Drop)]
+#[derive(Clone, Copy)]
 pub struct BudgetAnswer {
     pub refusal: Refusal,
     pub ended: Ended,

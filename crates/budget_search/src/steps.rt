@@ -8,7 +8,7 @@ ghost use Rattle.budget_search.specs.Steps.{budget_max, reaches, counts, halts, 
 pub(crate) const NO_TIME: u64 = 9223372036854775808;
 
 // The best time, and the tries spent, which are one more than the budget once a try was due with the budget spent.
-#[derive(Drop)]
+#[derive(Clone, Copy)]
 pub(crate) struct Progress {
     pub best: u64,
     pub tries: u64,

@@ -14,7 +14,7 @@ use plan_search::Found;
 use units::{Cycles, Wires};
 
 // The best plan, where one is known; whether the search was stopped, and the tries that it spent.
-#[derive(Drop)]
+#[derive(Clone, Copy)]
 pub struct Spent {
     pub known: bool,
     pub stopped: bool,

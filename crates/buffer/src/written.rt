@@ -8,7 +8,7 @@ use super::put::write_bytes;
 use units::Refusal;
 
 // How many bytes were written; or the refusal.
-#[derive(Drop)]
+#[derive(Clone, Copy)]
 pub struct Written {
     pub refusal: Refusal,
     pub len: usize,

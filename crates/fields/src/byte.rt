@@ -3,7 +3,7 @@ ghost use Rattle.std.specs.Prelude.{◌≡◌, drop, get_or, ◌+◌};
 ghost use Rattle.fields.specs.Bytes.{allowed, bad_byte, same_bytes, lf_next};
 
 // The first byte that a text may not have: its line.
-#[derive(Drop)]
+#[derive(Clone, Copy)]
 pub enum BadByte {
     OnLine(usize),
     Nowhere,

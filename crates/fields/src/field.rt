@@ -3,7 +3,7 @@ ghost use Rattle.std.specs.Prelude.{◌≡◌, ◌+◌, drop};
 ghost use Rattle.fields.specs.Fields.{gap, gaps, run, next_field, fields_of, blank};
 
 // The next field: where it begins and where it ends.
-#[derive(Drop)]
+#[derive(Clone, Copy)]
 pub enum Next {
     Field(usize, usize),
     Nothing,

@@ -1,6 +1,7 @@
 // From bytes to lines, from lines to fields, from fields to numbers, keywords and names; and how numbers and fields are written
 // (document 01, "The SOC text"). A place is a count of bytes from the front; a place behind the end has nothing behind it.
 #![tactic(auto)]
+
 mod byte;
 mod field;
 mod line;

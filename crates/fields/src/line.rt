@@ -3,14 +3,14 @@ ghost use Rattle.std.specs.Prelude.{◌≡◌, ◌+◌, drop};
 ghost use Rattle.fields.specs.Lines.{until_lf, line_at, NextLineIs};
 
 // A line's place without its end, and where the next line begins.
-#[derive(Drop)]
+#[derive(Clone, Copy)]
 pub struct OneLine {
     pub to: usize,
     pub next: usize,
 }
 
 // The next line that is not blank: where it begins and ends, where the line behind it begins, and how many blank lines were passed.
-#[derive(Drop)]
+#[derive(Clone, Copy)]
 pub enum NextLine {
     Found(usize, usize, usize, usize),
     End,

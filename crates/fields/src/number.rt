@@ -2,7 +2,7 @@
 ghost use Rattle.std.specs.Prelude.{◌≡◌, ◌-◌, ◌≤◌, min};
 ghost use Rattle.fields.specs.Numbers.{cap, cut, decimal_of};
 
-#[derive(Drop)]
+#[derive(Clone, Copy)]
 pub enum Number {
     Bad,
     Value(u64),

@@ -5,13 +5,13 @@ ghost use Rattle.fields.specs.Readers.{word_answer, number_answer, key_number_an
 
 use super::{Next, Number};
 
-#[derive(Drop)]
+#[derive(Clone, Copy)]
 pub enum Past {
     No(u8),
     At(usize),
 }
 
-#[derive(Drop)]
+#[derive(Clone, Copy)]
 pub enum Figure {
     No(u8),
     Is(u64, usize),

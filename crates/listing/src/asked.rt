@@ -13,7 +13,7 @@ const PLAN_LINE_MAX: usize = 32;
 const ASKED_MAX: u32 = 4294967295;
 
 // W, B and c; or the refusal's number.
-#[derive(Drop)]
+#[derive(Clone, Copy)]
 pub enum Asked {
     No(u8),
     For(u32, u32, u32),

@@ -8,7 +8,7 @@ ghost use Rattle.module_part.specs.Trimmed.{in_field, until_field, last_field, t
 use text_reader::Marks;
 
 // A part of a text: where it begins and where it ends. One that ends at 0 is empty.
-#[derive(Drop)]
+#[derive(Clone, Copy)]
 pub struct Part {
     pub from: usize,
     pub to: usize,

@@ -18,28 +18,28 @@ use text_reader::{Marks, Step, marked, missing, module_rest};
 use units::Refusal;
 
 // The first line of a block: its module's number, and the rest of it.
-#[derive(Drop)]
+#[derive(Clone, Copy)]
 pub struct BlockLine {
     pub verdict: Verdict,
     pub number: u32,
     pub line: LevelLine,
 }
 
-#[derive(Drop)]
+#[derive(Clone, Copy)]
 pub struct BlockStep {
     pub step: Step,
     pub number: u32,
     pub line: LevelLine,
 }
 
-#[derive(Drop)]
+#[derive(Clone, Copy)]
 pub struct OneBlock {
     pub step: Step,
     pub number: u32,
     pub module: Module,
 }
 
-#[derive(Drop)]
+#[derive(Clone, Copy)]
 pub struct BlocksStep {
     pub step: Step,
     pub has: [bool; MODULES_MAX],

@@ -16,7 +16,7 @@ use text_reader::{Marks, OptionsStep, Step, missing, options_step};
 use units::Refusal;
 
 // What an overlay says: which modules it has, and each at the place of its number; the other places hold a spare module.
-#[derive(Drop)]
+#[derive(Clone, Copy)]
 pub struct Overlay {
     pub name_len: usize,
     pub name: [u8; NAME_MAX],
@@ -27,20 +27,20 @@ pub struct Overlay {
 }
 
 // What an overlay says; or its refusal, with an overlay that says nothing.
-#[derive(Drop)]
+#[derive(Clone, Copy)]
 pub struct OverlayRead {
     pub refusal: Refusal,
     pub overlay: Overlay,
 }
 
 // The same with the marks of one module.
-#[derive(Drop)]
+#[derive(Clone, Copy)]
 pub struct OverlayMarked {
     pub read: OverlayRead,
     pub marks: Marks,
 }
 
-#[derive(Drop)]
+#[derive(Clone, Copy)]
 pub struct HeadStep {
     pub step: Step,
     pub line: NameLine,

@@ -9,7 +9,7 @@ use text_reader::{Marks, read_soc_marked};
 use units::Refusal;
 
 // The text that a refusal is about.
-#[derive(Drop)]
+#[derive(Clone, Copy)]
 pub enum Meant {
     Base,
     Overlay,
@@ -18,7 +18,7 @@ pub enum Meant {
 
 // The combined description of a pair, and which of its modules are the overlay's; or its refusal and the text that is meant, with a record
 // that says nothing.
-#[derive(Drop)]
+#[derive(Clone, Copy)]
 pub struct PairRead {
     pub refusal: Refusal,
     pub meant: Meant,
@@ -27,7 +27,7 @@ pub struct PairRead {
 }
 
 // The same with the marks of one module in the base and in the overlay.
-#[derive(Drop)]
+#[derive(Clone, Copy)]
 pub struct PairMarked {
     pub pair: PairRead,
     pub base: Marks,

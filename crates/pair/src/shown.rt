@@ -11,7 +11,7 @@ use units::Refusal;
 
 // Where the lines of a module stand: in the overlay or in the base, from where to where. Or the refusal and the text that is meant, with an
 // empty part.
-#[derive(Drop)]
+#[derive(Clone, Copy)]
 pub struct Shown {
     pub refusal: Refusal,
     pub meant: Meant,

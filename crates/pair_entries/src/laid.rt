@@ -8,7 +8,7 @@ use units::{CaptureCycles, Cycles, FlipFlops, Refusal, Wires};
 use wrapper::{WIDTH_PLACES, WrapperLayout};
 
 // What the wrapper layer answers, and the text that a refusal is about.
-#[derive(Drop)]
+#[derive(Clone, Copy)]
 pub struct PairLayout {
     pub meant: Meant,
     pub answer: WrapperLayout,

@@ -8,7 +8,7 @@ use plan_record::no_plan;
 use units::{CaptureCycles, Refusal, Wires};
 
 // What the first planner answers, and the text that a refusal is about.
-#[derive(Drop)]
+#[derive(Clone, Copy)]
 pub struct PairPlan {
     pub meant: Meant,
     pub answer: PlanAnswer,

@@ -7,7 +7,7 @@ use units::{CaptureCycles, Cycles, Refusal, Wires};
 use wrapper::ModuleTime;
 
 // What the wrapper layer answers, and the text that a refusal is about.
-#[derive(Drop)]
+#[derive(Clone, Copy)]
 pub struct PairModuleTime {
     pub meant: Meant,
     pub answer: ModuleTime,

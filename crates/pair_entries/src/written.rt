@@ -7,7 +7,7 @@ use pair::{Meant, read_pair};
 use units::Refusal;
 
 // What the writer answers, and the text that a refusal is about.
-#[derive(Drop)]
+#[derive(Clone, Copy)]
 pub struct PairWritten {
     pub meant: Meant,
     pub answer: Written,

@@ -3,7 +3,7 @@ use plan_record::BusPlan;
 use units::Refusal;
 
 // A plan; or the refusal, with a plan that says nothing.
-#[derive(Drop)]
+#[derive(Clone, Copy)]
 pub struct PlanAnswer {
     pub refusal: Refusal,
     pub plan: BusPlan,

@@ -11,7 +11,7 @@ use units::{CaptureCycles, Wires};
 use wrapper_times::Times;
 
 // A row of places for each planned module, with a place for each width.
-#[derive(Drop)]
+#[derive(Clone, Copy)]
 pub struct Tables {
     pub cycles: [u64; TABLE_PLACES],
     pub wires: [u32; TABLE_PLACES],

@@ -17,7 +17,7 @@ use plan_record::{
 use units::{Cycles, Refusal, Wires};
 
 // What a file says; or the refusal, with a plan that says nothing.
-#[derive(Drop)]
+#[derive(Clone, Copy)]
 pub struct FileRead {
     pub refusal: Refusal,
     pub plan: BusPlan,

@@ -1,6 +1,7 @@
 // The search for the first plan of least time (document 01, "The plan") over a table of times. It knows numbers alone. What it shows is for the
 // planner above it, which asks it for good tables only.
 #![tactic(auto)]
+
 mod busy;
 mod groups;
 mod least;

@@ -16,7 +16,7 @@ use super::thumb::bound_of;
 use units::{Cycles, Wires};
 
 // The first plan of least time: its buses, their widths, the bus of each module, and its time. Spare places are 0.
-#[derive(Drop)]
+#[derive(Clone, Copy)]
 pub struct Found {
     pub count: usize,
     pub widths: [u32; FOUND_BUSES],

@@ -29,7 +29,7 @@ pub const POWER_MAX: i32 = 16777215;
 // X, Y or Power that is not given.
 pub const NOT_GIVEN: i32 = -1;
 
-#[derive(Drop)]
+#[derive(Clone, Copy)]
 pub struct Test {
     pub scan_use: bool,
     pub tam_use: bool,
@@ -37,7 +37,7 @@ pub struct Test {
     pub power: i32,
 }
 
-#[derive(Drop)]
+#[derive(Clone, Copy)]
 pub struct Module {
     pub level: u32,
     pub inputs: u32,
@@ -51,7 +51,7 @@ pub struct Module {
     pub tests: [Test; TESTS_MAX],
 }
 
-#[derive(Drop)]
+#[derive(Clone, Copy)]
 pub struct Soc {
     pub name_len: usize,
     pub name: [u8; NAME_MAX],

@@ -10,20 +10,20 @@ ghost use Rattle.text_lines.specs.LineAnswers.{name_answer, count_answer, option
 use super::part::{Flag, Verdict};
 use fields::{Figure, NAME_MAX, Next, Past};
 
-#[derive(Drop)]
+#[derive(Clone, Copy)]
 pub struct NameLine {
     pub verdict: Verdict,
     pub len: usize,
     pub name: [u8; NAME_MAX],
 }
 
-#[derive(Drop)]
+#[derive(Clone, Copy)]
 pub enum Count {
     No(u8),
     Is(usize),
 }
 
-#[derive(Drop)]
+#[derive(Clone, Copy)]
 pub enum OptionsLine {
     No(u8),
     Are(bool, bool),

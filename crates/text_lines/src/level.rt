@@ -12,7 +12,7 @@ use fields::{Figure, Past};
 use soc::{CHAINS_MAX, LENGTH_MAX, LEVEL_MAX, TERMINALS_MAX};
 use units::FlipFlops;
 
-#[derive(Drop)]
+#[derive(Clone, Copy)]
 pub struct LevelLine {
     pub verdict: Verdict,
     pub level: u32,
@@ -23,13 +23,13 @@ pub struct LevelLine {
     pub chains: [FlipFlops; CHAINS_MAX],
 }
 
-#[derive(Drop)]
+#[derive(Clone, Copy)]
 pub enum Terms {
     No(u8),
     Are(u32, u32, u32, usize),
 }
 
-#[derive(Drop)]
+#[derive(Clone, Copy)]
 pub struct Lengths {
     pub past: Past,
     pub chains: [FlipFlops; CHAINS_MAX],

@@ -10,19 +10,19 @@ use fields::{Next, Number, Past};
 use soc::NOT_GIVEN;
 
 // Whether a line was read.
-#[derive(Drop)]
+#[derive(Clone, Copy)]
 pub enum Verdict {
     Refused(u8),
     Taken,
 }
 
-#[derive(Drop)]
+#[derive(Clone, Copy)]
 pub enum Flag {
     No(u8),
     Is(bool, usize),
 }
 
-#[derive(Drop)]
+#[derive(Clone, Copy)]
 pub enum Given {
     No(u8),
     Is(i32, usize),

@@ -10,7 +10,7 @@ use super::part::Given;
 use fields::{Figure, Past};
 use soc::{NOT_GIVEN, POSITION_MAX, TESTS_MAX};
 
-#[derive(Drop)]
+#[derive(Clone, Copy)]
 pub enum SecondLine {
     No(u8),
     Position(i32, i32),

@@ -10,13 +10,13 @@ use super::part::{Flag, Given};
 use fields::{Figure, Past};
 use soc::{NOT_GIVEN, PATTERNS_MAX, POWER_MAX, Test};
 
-#[derive(Drop)]
+#[derive(Clone, Copy)]
 pub enum TestLine {
     No(u8),
     Is(Test),
 }
 
-#[derive(Drop)]
+#[derive(Clone, Copy)]
 pub enum Used {
     No(u8),
     Are(bool, bool, usize),

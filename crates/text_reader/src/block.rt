@@ -16,31 +16,31 @@ use text_line_reader::{Due, Place, due_line};
 use text_lines::{Count, LevelLine, SecondLine, TestLine, Verdict};
 use units::Refusal;
 
-#[derive(Drop)]
+#[derive(Clone, Copy)]
 pub struct LevelStep {
     pub step: Step,
     pub line: LevelLine,
 }
 
-#[derive(Drop)]
+#[derive(Clone, Copy)]
 pub enum BodyStep {
     No(Refusal),
     Is(i32, i32, usize, Place),
 }
 
-#[derive(Drop)]
+#[derive(Clone, Copy)]
 pub enum TestStep {
     No(Refusal),
     Is(Test, Place),
 }
 
-#[derive(Drop)]
+#[derive(Clone, Copy)]
 pub struct TestsStep {
     pub step: Step,
     pub tests: [Test; TESTS_MAX],
 }
 
-#[derive(Drop)]
+#[derive(Clone, Copy)]
 pub struct ModuleStep {
     pub step: Step,
     pub module: Module,

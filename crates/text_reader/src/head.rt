@@ -10,19 +10,19 @@ use text_line_reader::{Due, Place, due_line};
 use text_lines::{Count, NameLine, OptionsLine, Verdict};
 use units::Refusal;
 
-#[derive(Drop)]
+#[derive(Clone, Copy)]
 pub struct NameStep {
     pub step: Step,
     pub line: NameLine,
 }
 
-#[derive(Drop)]
+#[derive(Clone, Copy)]
 pub enum CountStep {
     No(Refusal),
     Is(usize, Place),
 }
 
-#[derive(Drop)]
+#[derive(Clone, Copy)]
 pub enum OptionsStep {
     No(Refusal),
     Are(bool, bool, Place),

@@ -3,7 +3,7 @@ ghost use Rattle.std.specs.Prelude.{◌≡◌};
 ghost use Rattle.text_reader.specs.Marks.{new_marks};
 
 // The place before a module's first line and the place behind its last.
-#[derive(Drop)]
+#[derive(Clone, Copy)]
 pub struct Marks {
     pub from: usize,
     pub to: usize,

@@ -17,20 +17,20 @@ use text_lines::NameLine;
 use units::Refusal;
 
 // The record of a text; or its refusal, with a record that says nothing.
-#[derive(Drop)]
+#[derive(Clone, Copy)]
 pub struct SocRead {
     pub refusal: Refusal,
     pub soc: Soc,
 }
 
 // The same with the marks of one module.
-#[derive(Drop)]
+#[derive(Clone, Copy)]
 pub struct SocMarked {
     pub read: SocRead,
     pub marks: Marks,
 }
 
-#[derive(Drop)]
+#[derive(Clone, Copy)]
 pub struct ModulesStep {
     pub step: Step,
     pub modules: [Module; MODULES_MAX],

@@ -6,7 +6,7 @@ use text_line_reader::Place;
 use units::Refusal;
 
 // The refusal, or the place behind what was read.
-#[derive(Drop)]
+#[derive(Clone, Copy)]
 pub enum Step {
     No(Refusal),
     Next(Place),

@@ -5,21 +5,21 @@
 ghost use Rattle.std.specs.Prelude.{◌≡◌};
 ghost use Rattle.units.specs.Refusals.{accepted, refused};
 
-#[derive(Drop)]
+#[derive(Clone, Copy)]
 pub struct Wires(pub u32);
 
-#[derive(Drop)]
+#[derive(Clone, Copy)]
 pub struct FlipFlops(pub u32);
 
-#[derive(Drop)]
+#[derive(Clone, Copy)]
 pub struct Cycles(pub u64);
 
 // The clock cycles between load and unload.
-#[derive(Drop)]
+#[derive(Clone, Copy)]
 pub struct CaptureCycles(pub u32);
 
 // Number 0 says that nothing is refused.
-#[derive(Drop)]
+#[derive(Clone, Copy)]
 pub struct Refusal {
     pub number: u8,
     pub line: usize,

@@ -1,6 +1,7 @@
 // The ground of the wrapper layer (document 01, "The wrapper rule"; document 02, items 4 and 5): its limits, and the rule for one element,
 // over lengths alone.
 #![tactic(auto)]
+
 mod fit;
 mod maxima;
 

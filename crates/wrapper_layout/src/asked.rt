@@ -5,7 +5,7 @@ ghost use Rattle.wrapper_layout.specs.Held.{found_test};
 use soc::{Module, Test};
 
 // The test that is asked for; or the refusal's number.
-#[derive(Drop)]
+#[derive(Clone, Copy)]
 pub enum AskedTest {
     No(u8),
     Is(Test),

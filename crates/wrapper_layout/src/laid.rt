@@ -18,7 +18,7 @@ use wrapper_scans::{asked_module, cycles_of, lengths_of, order_of, scan_at};
 // For each wrapper chain its flip-flops, input cells, output cells and bidirectional cells; for each internal chain its wrapper chain from
 // 1. Entries past the width or past the chains, and those of chains that the test does not use, are 0. Then the longest scan-in and
 // scan-out of that layout, and the test's cycles with them.
-#[derive(Drop)]
+#[derive(Clone, Copy)]
 pub struct WrapperLayout {
     pub refusal: Refusal,
     pub flip_flops: [FlipFlops; WIDTH_PLACES],

@@ -12,7 +12,7 @@ use wrapper_fit::{WIDTH_PLACES, goes_to, longest_of};
 use wrapper_scans::Order;
 
 // The lengths of the wrapper chains, and for each internal chain its wrapper chain from 1, or 0.
-#[derive(Drop)]
+#[derive(Clone, Copy)]
 pub struct Threading {
     pub lengths: [u64; WIDTH_PLACES],
     pub places: [usize; CHAINS_MAX],

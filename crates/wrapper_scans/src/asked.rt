@@ -7,7 +7,7 @@ use units::{CaptureCycles, Wires};
 use wrapper_fit::{CAPTURE_MAX, WIDTH_MAX};
 
 // The module that is asked for, where number is 0; else the refusal's number, and a module that says nothing.
-#[derive(Drop)]
+#[derive(Clone, Copy)]
 pub struct AskedModule {
     pub number: u8,
     pub module: Module,

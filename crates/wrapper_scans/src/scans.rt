@@ -11,7 +11,7 @@ use soc::Module;
 use wrapper_fit::{longest_after, longest_with};
 
 // The longest scan-in and scan-out of a module at one width, with its chains or without.
-#[derive(Drop)]
+#[derive(Clone, Copy)]
 pub struct Scan {
     pub si: u64,
     pub so: u64,

@@ -8,14 +8,14 @@ use units::{CaptureCycles, Cycles, Refusal, Wires};
 use wrapper_fit::WIDTH_PLACES;
 use wrapper_scans::asked_module;
 
-#[derive(Drop)]
+#[derive(Clone, Copy)]
 pub struct ModuleTime {
     pub refusal: Refusal,
     pub cycles: Cycles,
     pub wires: Wires,
 }
 
-#[derive(Drop)]
+#[derive(Clone, Copy)]
 pub struct ModuleTimes {
     pub refusal: Refusal,
     pub times: Times,

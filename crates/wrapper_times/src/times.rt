@@ -17,7 +17,7 @@ use wrapper_fit::WIDTH_PLACES;
 use wrapper_scans::{ChainLengths, Scan, cycles_of, lengths_of, scan_at};
 
 // A module's times and wires at the widths from 1 on: place i is for width i + 1.
-#[derive(Drop)]
+#[derive(Clone, Copy)]
 pub struct Times {
     pub cycles: [Cycles; WIDTH_PLACES],
     pub wires: [Wires; WIDTH_PLACES],
@@ -85,7 +85,7 @@ fn scan_if(needed: bool, d: Module, c: ChainLengths, k: usize) -> Scan
 }
 
 // What the figures of a module at all widths have in common: its chains' lengths in order, and which scan lengths are needed.
-#[derive(Drop)]
+#[derive(Clone, Copy)]
 pub struct Plain {
     pub with: ChainLengths,
     pub without: ChainLengths,

@@ -1,0 +1,19 @@
+use native.Mathlib.Omega.{arith}
+use Prim.Native.Nat.{◌-◌}
+use mathlib.Core.Path.{refl, sym, ap, ◌∙◌}
+use mathlib.Core.Bool.{not}
+use Rattle.fields.specs.Fields.{gap, run}
+use Rattle.fields.proofs.CountLaws.{run-counts, count_on, count_stop, count-end}
+use Rattle.fields.proofs.field.past_run.Goals as goal
+
+pub loop-i-init : goal.loop-i-init
+loop-i-init c = refl
+
+pub returns-then-is_gap : goal.returns-then-is_gap
+returns-then-is_gap c = sym (c.loop-i.invariant ∙ count_stop run (λ b. not (gap b)) run-counts c.args.l.now c.loop-i.i (omega arith) (ap not (sym c.is_gap.ensures ∙ c.if-is_gap.true)))
+
+pub loop-i-preserved : goal.loop-i-preserved
+loop-i-preserved c = c.loop-i.invariant ∙ count_on run (λ b. not (gap b)) run-counts c.args.l.now c.loop-i.i (omega arith) (ap not (sym c.is_gap.ensures ∙ c.if-is_gap.false))
+
+pub returns : goal.returns
+returns c = sym (c.loop-i.invariant ∙ count-end run (λ b. not (gap b)) run-counts c.args.l.now c.loop-i.i (omega arith))

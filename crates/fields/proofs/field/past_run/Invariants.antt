@@ -1,0 +1,13 @@
+-- `fields::field::past_run` meets its contract. The loop's invariant: `i` and the run behind it end where `from` and the run behind it do.
+-- The measure is what is left of the length. Assumes nothing.
+use Prim.Native.Nat.{◌+◌, ◌-◌}
+use mathlib.Core.Path.{◌≡◌}
+use lib.ListN.{length, drop}
+use Rattle.fields.specs.Fields.{run}
+use Rattle.fields.proofs.field.past_run.Given as goal
+
+abbrev pub invariant-loop-i : goal.invariant-loop-i
+invariant-loop-i l = l.from + run (drop l.from l.l) ≡ l.i + run (drop l.i l.l)
+
+abbrev pub decreases-loop-i : goal.decreases-loop-i
+decreases-loop-i l = length l.l - l.i

@@ -1,0 +1,13 @@
+-- `fields::line::past_line` meets its contract. The loop's invariant: from `i` and from `from` the first LF is at the same place.
+-- The measure is what is left of the length. Assumes nothing.
+use Prim.Native.Nat.{◌+◌, ◌-◌}
+use mathlib.Core.Path.{◌≡◌}
+use lib.ListN.{length, drop}
+use Rattle.fields.specs.Lines.{until_lf}
+use Rattle.fields.proofs.line.past_line.Given as goal
+
+abbrev pub invariant-loop-i : goal.invariant-loop-i
+invariant-loop-i l = l.from + until_lf (drop l.from l.text) ≡ l.i + until_lf (drop l.i l.text)
+
+abbrev pub decreases-loop-i : goal.decreases-loop-i
+decreases-loop-i l = length l.text - l.i

@@ -1,0 +1,17 @@
+-- `groups::may_beat` meets its contract: where nothing below the best is found, the least time is the best (`not_found`). Assumes nothing.
+use native.Mathlib.Omega.{arith}
+use borrow.Author.Tests.{ltb-false}
+use Rattle.plan_rules.specs.Plans.{time_of}
+use Rattle.plan_rules.proofs.FirstLaws.{least_le}
+use Rattle.plan_search.specs.Search.{table_time}
+use Rattle.plan_search.proofs.SoughtLaws.{not_found}
+use Rattle.plan_search.proofs.groups.may_beat.Goals as goal
+
+pub returns-then-best-eq0 : goal.returns-then-best-eq0
+returns-then-best-eq0 c = λ e. omega (arith, c.if-best-eq0.true, least_le (time_of (table_time c.args.table.now)) c.args.n c.args.widths.now c.args.best.0)
+
+pub returns : goal.returns
+returns c = let k = c.least_on-r in
+    λ e.
+    not_found c.args.table.now c.args.widths.now c.args.n c.args.best.0 k.result.0 (omega (arith, c.if-best-eq0.false))
+    (ltb-false k.result.0 c.args.best.0 e) k.ensures
