@@ -1,5 +1,6 @@
 // The line reader, which holds the text and its place in it (document 01, "The SOC text").
 #![tactic(auto)]
+
 mod line_reader;
 mod place;
 
