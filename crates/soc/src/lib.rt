@@ -1,6 +1,7 @@
 // The SOC record, by value: what a SOC text says, within document 01's limits. Whether a handed record keeps the limits and rules of the
 // text (refusal 14), and which of its modules are planned.
 #![tactic(auto)]
+
 mod module_rules;
 mod planned;
 mod record;

@@ -1,0 +1,28 @@
+use borrow.Author.Rules.{rules}
+use borrow.Author.Tests.{eq-eqb, ne_eqb}
+use Prim.Native.Nat.{◌-◌}
+use mathlib.Core.Path.{◌≡◌, refl, sym, ◌∙◌}
+use native.Mathlib.Omega.{arith}
+use lib.ListN.{length}
+use Rattle.soc.specs.Rules.{none}
+use Rattle.units.proofs.PlaceLaws.{all_step, all_fails, all_end}
+use Rattle.soc.proofs.rules.are_spare_bytes.Goals as goal
+use Rattle.soc.proofs.rules.are_spare_bytes.Goals.{Start}
+
+len : (c : Start) → length c.args.name ≡ 32
+len c = search rules
+
+pub loop-i-init : goal.loop-i-init
+loop-i-init c = (omega arith, refl)
+
+pub returns-then-name-i-ne0 : goal.returns-then-name-i-ne0
+returns-then-name-i-ne0 c = sym (c.loop-i.invariant.1 ∙ all_fails none c.args.name c.loop-i.i 0 (omega (arith, len (goal.at.returns-then-name-i-ne0 c).Start)) (ne_eqb _ _ c.if-name-i-ne0.true))
+
+pub loop-i-smaller : goal.loop-i-smaller
+loop-i-smaller c = omega arith
+
+pub loop-i-preserved : goal.loop-i-preserved
+loop-i-preserved c = (omega arith, c.loop-i.invariant.1 ∙ all_step none c.args.name c.loop-i.i 0 (omega (arith, len (goal.at.loop-i-preserved c).Start)) (eq-eqb _ _ c.if-name-i-ne0.false))
+
+pub returns : goal.returns
+returns c = sym (c.loop-i.invariant.1 ∙ all_end none c.args.name c.loop-i.i (omega (arith, len (goal.at.returns c).Start)))
