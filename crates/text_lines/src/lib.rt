@@ -1,6 +1,7 @@
 // The lines of a SOC text (document 01, "The SOC text"): each reader takes one line and answers its figures, or the number of its first
 // fault from the left.
 #![tactic(auto)]
+
 mod head;
 mod level;
 mod part;

@@ -1,6 +1,7 @@
 // What times and layouts have in common (document 01, "The wrapper rule"; document 02, items 2, 4 and 5): the module that is asked for, its
 // internal chains in their order, its scan lengths at a width and the time of a test.
 #![tactic(auto)]
+
 mod asked;
 mod chains;
 mod scans;
