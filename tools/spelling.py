@@ -50,7 +50,8 @@ def declared():
             m = DECL.match(l)
             if not m or m[3] in ("use", "mod", "module", "let", "where"):
                 continue
-            names.setdefault(m[3], p)
+            if m[3] not in names or os.sep + "specs" + os.sep in p:
+                names[m[3]] = p
             if os.sep + "specs" + os.sep in p or "abbrev" in m[2] or "record" in m[2] or "data" in m[2]:
                 words.add(snake(m[3]))
     return words, names

@@ -118,7 +118,7 @@ block-lines o low ls b ms h = after_gives _ b ms (line (block_line low) ls) star
           rest = ks;
           lines = q;
           begins = record { left = g.0; begins = g.1 };
-          goes_on_lem = rest-passes o s.number s.shape d ks js i;
+          goes_on = rest-passes o s.number s.shape d ks js i;
         })
         e
 

@@ -1,6 +1,7 @@
 // The sums of a plan record (document 01, "The plan file"; document 02, item 1): whether its busy figures, its time and its starts are
 // those of its own modules.
 #![tactic(auto)]
+
 mod starts;
 mod times;
 

@@ -145,7 +145,7 @@ module_lines_lem o m last d ls ms h = after_gives _ d ms (line (level_line m las
           rest = ks;
           lines = i;
           begins = begun l (level-begins m last l.fields s w);
-          goes_on_lem = rest-passes o m s d ks ms k;
+          goes_on = rest-passes o m s d ks ms k;
         })
         e
       where

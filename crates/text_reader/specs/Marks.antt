@@ -43,7 +43,7 @@ pub record LinesOf (m : ℕ) (ls ms : List Line) : Type 0 where
   pub rest : List Line
   pub lines : ls ≡ first ∷ rest
   pub begins : Of m first
-  pub goes_on_lem : Passes (Of m) rest ms
+  pub goes_on : Passes (Of m) rest ms
 
 -- among the lines from ls up to ms those of module m stand between two places of the text t, and no others
 pub record Marked (m : ℕ) (t : List ℕ) (ls ms : List Line) (from to : ℕ) : Type 0 where

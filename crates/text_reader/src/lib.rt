@@ -1,5 +1,6 @@
 // A SOC text read to its record, or to its first refusal (document 01, "The SOC text").
 #![tactic(auto)]
+
 mod block;
 mod head;
 mod marks;

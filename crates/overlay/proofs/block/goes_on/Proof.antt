@@ -1,4 +1,4 @@
--- `overlay::block::goes_on_lem` meets its contract. Assumes nothing.
+-- `overlay::block::goes_on` meets its contract. Assumes nothing.
 use borrow.Author.Rules.{rules}
 use mathlib.Core.Path.{sym}
 use Rattle.text_reader.proofs.StepLaws.{due-found, due_missing}
