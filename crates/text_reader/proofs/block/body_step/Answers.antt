@@ -18,7 +18,7 @@ use Rattle.text_reader.proofs.block.body_step.Goals as goal
 use Rattle.text_reader.proofs.block.body_step.Goals.{In-Line, In-Position}
 
 -- the line that is due
-found : (c : In-Line) → let g = c.a-1.given.0 in LineIs c.args.text.now c.args.p g.0 g.1.0 g.1.1.0 g.1.1.1.0
+found : (c : In-Line) → LineIs c.args.text.now c.args.p c.in-Line.a c.in-Line.e c.in-Line.n c.in-Line.next
 found c = due-found _ _ _ c.due_line.ensures _ _ _ _ c.in-Line.is
 
 -- the position that was read
@@ -64,5 +64,4 @@ returns-in-No-tests_count_step c = sym (after-got _ _ _ _ (position (goal.at.ret
 pub returns-in-Is : goal.returns-in-Is
 unfolding body behind
 returns-in-Is c = let r = count_step_is _ _ _ c.tests_count_step.ensures _ _ c.in-Is.is in
-    let x = c.x-1.given.0 in
-    (rw (figure_back x.0 (x_fits (goal.at.returns-in-Is c).In-Position), figure_back x.1.0 (y-fits (goal.at.returns-in-Is c).In-Position)) (sym (after-got _ _ _ _ (position (goal.at.returns-in-Is c).In-Position) ∙ after-got _ _ _ _ r.0)), r.1)
+    (rw (figure_back c.in-Position.x (x_fits (goal.at.returns-in-Is c).In-Position), figure_back c.in-Position.y (y-fits (goal.at.returns-in-Is c).In-Position)) (sym (after-got _ _ _ _ (position (goal.at.returns-in-Is c).In-Position) ∙ after-got _ _ _ _ r.0)), r.1)

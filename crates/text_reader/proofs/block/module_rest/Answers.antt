@@ -15,8 +15,7 @@ use Rattle.text_reader.proofs.block.module_rest.Goals as goal
 use Rattle.text_reader.proofs.block.module_rest.Goals.{In-Is}
 
 -- the position and the number of tests that were read
-read : (c : In-Is) → let t = c.args.text.now in let g = c.x-1.given.0 in
-    (body c.args.m c.args.xy (lines_at t c.args.p) ≡ got (record { x = g.0; y = g.1.0; tests = g.1.1.0 }) (lines_at t g.1.1.1.0)) × Inside t g.1.1.1.0
+read : (c : In-Is) → let t = c.args.text.now in (body c.args.m c.args.xy (lines_at t c.args.p) ≡ got (record { x = c.in-Is.x; y = c.in-Is.y; tests = c.in-Is.n }) (lines_at t c.in-Is.q)) × Inside t c.in-Is.q
 read c = body_step_is _ _ _ c.body_step.ensures _ _ _ _ c.in-Is.is
 
 x_fits : (c : In-Is) → SFits w32 c.in-Is.x
@@ -34,5 +33,4 @@ returns-in-No c = step_refuses _ _ _ _ _ c.refused_module.ensures (after-no _ _ 
 
 pub returns-in-Is : goal.returns-in-Is
 unfolding module_rest
-returns-in-Is c = let x = c.x-1.given.0 in
-    step_as _ _ _ _ _ (after-got _ _ _ _ (read (goal.at.returns-in-Is c).In-Is).0) (rw (figure_back x.0 (x_fits (goal.at.returns-in-Is c).In-Is), figure_back x.1.0 (y-fits (goal.at.returns-in-Is c).In-Is)) at c.module_tests.ensures)
+returns-in-Is c = step_as _ _ _ _ _ (after-got _ _ _ _ (read (goal.at.returns-in-Is c).In-Is).0) (rw (figure_back c.in-Is.x (x_fits (goal.at.returns-in-Is c).In-Is), figure_back c.in-Is.y (y-fits (goal.at.returns-in-Is c).In-Is)) at c.module_tests.ensures)

@@ -9,7 +9,7 @@ use Rattle.text_reader.proofs.block.tests_count_step.Goals as goal
 use Rattle.text_reader.proofs.block.tests_count_step.Goals.{In-Line}
 
 -- the line that is due
-found : (c : In-Line) → let g = c.a-1.given.0 in LineIs c.args.text.now c.args.p g.0 g.1.0 g.1.1.0 g.1.1.1.0
+found : (c : In-Line) → LineIs c.args.text.now c.args.p c.in-Line.a c.in-Line.e c.in-Line.n c.in-Line.next
 found c = due-found _ _ _ c.due_line.ensures _ _ _ _ c.in-Line.is
 
 pub slice_bounds-tests_line-count : goal.slice_bounds-tests_line-count

@@ -17,8 +17,8 @@ invariant-loop-i l = (l.i ≤ l.n)
     × (length l.list ≡ 40)
     × Inside l.text l.place
     × (drop l.i l.list ≡ replicate (40 - l.i) no_module)
-    × (modules (record { l.power = l.power; l.xy = l.xy }) l.n 0 0 (lines_at l.text l.initial.place)
-    ≡ prepend (take l.i l.list) (modules (record { l.power = l.power; l.xy = l.xy }) (l.n - l.i) l.i l.last (lines_at l.text l.place)))
+    × (modules (record { power = l.power; xy = l.xy }) l.n 0 0 (lines_at l.text l.initial.place)
+    ≡ prepend (take l.i l.list) (modules (record { power = l.power; xy = l.xy }) (l.n - l.i) l.i l.last (lines_at l.text l.place)))
     × Marking l.m l.i (ltb l.m l.i) l.text (lines_at l.text l.initial.place) (lines_at l.text l.place) l.marks
 
 abbrev pub decreases-loop-i : goal.decreases-loop-i

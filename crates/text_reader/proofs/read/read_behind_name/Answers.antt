@@ -16,18 +16,15 @@ use Rattle.text_reader.proofs.read.read_behind_name.Goals as goal
 use Rattle.text_reader.proofs.read.read_behind_name.Goals.{In-Are, In-Is}
 
 -- the number of modules that was read
-total : (c : In-Is) → let t = c.args.text.now in let g = c.n-1.given.0 in
-    (line total_line (lines_at t c.args.p) ≡ got g.0 (lines_at t g.1.0)) × Inside t g.1.0
+total : (c : In-Is) → let t = c.args.text.now in (line total_line (lines_at t c.args.p) ≡ got c.in-Is.n (lines_at t c.in-Is.q)) × Inside t c.in-Is.q
 total c = count_step_is _ _ _ c.total_step.ensures _ _ c.in-Is.is
 
 -- the options that were read
-options : (c : In-Are) → let t = c.args.text.now in let g = c.power-1.given.0 in
-    (line options_line (lines_at t c.in-Is.q) ≡ got (record { power = g.0; xy = g.1.0 }) (lines_at t g.1.1.0)) × Inside t g.1.1.0
+options : (c : In-Are) → let t = c.args.text.now in (line options_line (lines_at t c.in-Is.q) ≡ got (record { power = c.in-Are.power; xy = c.in-Are.xy }) (lines_at t c.in-Are.q2)) × Inside t c.in-Are.q2
 options c = options_step_are _ _ _ c.options_step.ensures _ _ _ c.in-Are.is
 
 -- what stands behind them
-behind : (c : In-Are) → let t = c.args.text.now in let g = c.power-1.given.0 in
-    behind_name (name_in c.args.name) (lines_at t c.args.p) ≡ rest (name_in c.args.name) c.in-Is.n (record { power = g.0; xy = g.1.0 }) (lines_at t g.1.1.0)
+behind : (c : In-Are) → let t = c.args.text.now in behind_name (name_in c.args.name) (lines_at t c.args.p) ≡ rest (name_in c.args.name) c.in-Is.n (record { power = c.in-Are.power; xy = c.in-Are.xy }) (lines_at t c.in-Are.q2)
 unfolding behind_name
 behind c = after-got _ _ _ _ (total (goal.at.In-Are c).In-Is).0 ∙ after-got _ _ _ _ (options c).0
 
