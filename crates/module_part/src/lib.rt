@@ -1,6 +1,7 @@
 // The part of a text in which the lines of a module stand, from their first field to their last (document 02, item 3): the reader of the
 // text has marked a place before them and a place behind them.
 #![tactic(auto)]
+
 ghost use Rattle.std.specs.Prelude.{◌≡◌, drop, ◌+◌};
 ghost use Rattle.fields.specs.Fields.{gap};
 ghost use Rattle.module_part.specs.Trimmed.{in_field, until_field, last_field, trimmed};

@@ -1,5 +1,6 @@
 // Late changes as an overlay (document 02, item 3): the text of an overlay read to what it says, or to its first refusal.
 #![tactic(auto)]
+
 mod block;
 mod line;
 mod read;
