@@ -1,5 +1,6 @@
 // The pair of a SOC text and an overlay (document 02, item 3): the combined description, and the lines of a module as they stand.
 #![tactic(auto)]
+
 mod read;
 mod shown;
 

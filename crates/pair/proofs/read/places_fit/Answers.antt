@@ -1,0 +1,37 @@
+use borrow.Author.Rules.{rules}
+use native.Mathlib.Omega.{arith}
+use Prim.Native.Nat.{◌-◌}
+use mathlib.Core.Path.{◌≡◌, refl, sym, ◌∙◌}
+use lib.ListN.{length}
+use Rattle.pair.proofs.PairLaws.{fit_stops, fit_goes, fit_end}
+use Rattle.pair.proofs.read.places_fit.Goals as goal
+use Rattle.pair.proofs.read.places_fit.Goals.{Start}
+
+len-has : (c : Start) → length c.args.has ≡ 40
+len-has c = search rules
+
+len-over : (c : Start) → length c.args.over ≡ 40
+len-over c = search rules
+
+len-base : (c : Start) → length c.args.base ≡ 40
+len-base c = search rules
+
+pub loop-m-init : goal.loop-m-init
+loop-m-init c = (omega arith, refl)
+
+pub returns-then-not-place_fits : goal.returns-then-not-place_fits
+returns-then-not-place_fits c = let l = c.loop-m in
+    sym (l.invariant.1 ∙ fit_stops l.m c.args.has c.args.over c.args.base _ _ _ (omega (arith, len-has (goal.at.returns-then-not-place_fits c).Start)) (omega (arith, len-over (goal.at.returns-then-not-place_fits c).Start)) (omega (arith, len-base (goal.at.returns-then-not-place_fits c).Start)) c.args.n (sym c.place_fits.ensures ∙ c.if-not-place_fits.true))
+
+pub loop-m-smaller : goal.loop-m-smaller
+loop-m-smaller c = omega arith
+
+pub loop-m-preserved : goal.loop-m-preserved
+loop-m-preserved c = let l = c.loop-m in (
+  omega arith,
+  l.invariant.1 ∙ fit_goes l.m c.args.has c.args.over c.args.base _ _ _ (omega (arith, len-has (goal.at.loop-m-preserved c).Start)) (omega (arith, len-over (goal.at.loop-m-preserved c).Start)) (omega (arith, len-base (goal.at.loop-m-preserved c).Start)) c.args.n (sym c.place_fits.ensures ∙ c.if-not-place_fits.false),
+)
+
+pub returns : goal.returns
+returns c = let l = c.loop-m in
+    sym (l.invariant.1 ∙ fit_end c.args.n l.m c.args.has _ _ (omega (arith, len-has (goal.at.returns c).Start)))
