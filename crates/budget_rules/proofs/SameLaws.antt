@@ -6,8 +6,7 @@ use mathlib.Core.List.{List, [], ◌∷◌, ◌++◌, Memᴰ}
 use native.Mathlib.Omega.{arith}
 use lib.ListN.{length, get_or, set, replicate}
 use Rattle.plan_rules.specs.Listed.{width_lists}
-use Rattle.plan_rules.specs.Plans.{sum}
-use Rattle.plan_rules.specs.Widths.{Rising, none, more}
+use Rattle.plan_rules.specs.Widths.{Rising, more}
 use Rattle.plan_rules.proofs.ListedLaws.{widths_sound}
 use Rattle.plan_rules.proofs.BoundLaws.{width-most}
 use Rattle.budget_rules.specs.Tries.{Sought, counted, each, busy_with, placed, placed_on, on_lists, on_counts, begin, searched}

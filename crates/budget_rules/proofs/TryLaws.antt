@@ -16,7 +16,7 @@ use Rattle.budget_rules.specs.NoSlower.{NoSlower}
 pub data Tried (m busy : ℕ) (due : Type 0) (on : Sought → Sought) (s : Sought) : Sought → Type 0 where
   halts : m ≤ s.tries → Tried m busy due on s (halted s)
   drops : due → reached s.best busy ≡ true → Tried m busy due on s (counted s)
-  goes_on_lem : due → reached s.best busy ≡ false → Tried m busy due on s (on (counted s))
+  goes_on : due → reached s.best busy ≡ false → Tried m busy due on s (on (counted s))
 
 module _ (m busy : ℕ) (on : Sought → Sought) (s : Sought) where
   tried-due : (due : Type 0) → due → (t : Bool) → reached s.best busy ≡ t → Tried m busy due on s (cond t (counted s) (on (counted s)))

@@ -1,5 +1,5 @@
 -- Placing the modules on buses of given widths within a budget of tries: what the buffers have to be, and what each step leaves in them.
-use Rattle.std.specs.Prelude.{ℕ, ◌+◌, ◌-◌, ◌*◌, ◌≤◌, ◌<◌, ◌≡◌, List, [], ◌∷◌, ◌++◌, length, get_or, take, set}
+use Rattle.std.specs.Prelude.{ℕ, ◌+◌, ◌*◌, ◌≤◌, ◌<◌, ◌≡◌, List, [], ◌∷◌, ◌++◌, length, get_or, take, set}
 use Rattle.plan_rules.specs.Plans.{largest}
 use Rattle.plan_search.specs.Search.{row_places, time_bound, AreTimes}
 use Rattle.budget_rules.specs.Tries.{Sought, busy_with, tried, placed}

@@ -1,9 +1,9 @@
 -- Laws of the search over all lists of widths, by the number of buses: what holds as it rises (`Counted`), and what a part that was
 -- lent leaves in the whole. Assumes nothing.
-use Prim.Native.Nat.{ℕ, zero, suc, ◌+◌, ◌-◌, ◌*◌, ◌/◌, ◌≤◌, ◌<◌, min}
+use Prim.Native.Nat.{ℕ, suc, ◌+◌, ◌-◌, ◌*◌, ◌/◌, ◌≤◌, ◌<◌, min}
 use mathlib.Core.Path.{◌≡◌, refl, sym, ap, ◌∙◌}
 use mathlib.Core.Logic.{◌⊎◌, ⊎_elim}
-use mathlib.Core.List.{List, [], ◌∷◌, ◌++◌, map, map-id}
+use mathlib.Core.List.{List, [], ◌++◌, map-id}
 use native.Mathlib.Omega.{arith}
 use native.Mathlib.Nat.{mul_comm, le-div_iff_mul-le, div-lt_iff_lt-mul, div-le_self}
 use native.Mathlib.Numerals.{add-one}

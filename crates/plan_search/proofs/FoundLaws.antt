@@ -1,6 +1,6 @@
 -- Laws of what was found: the list of widths that is kept is that of the first plan of least time, and the first placement on it that
 -- keeps to the time is its own. Assumes nothing.
-use Prim.Native.Nat.{ℕ, suc, ◌+◌, ◌-◌, ◌*◌, ◌≤◌, ◌<◌}
+use Prim.Native.Nat.{ℕ, suc, ◌+◌, ◌*◌, ◌≤◌, ◌<◌}
 use mathlib.Core.Path.{◌≡◌, refl, sym, ap, ◌∙◌}
 use mathlib.Core.List.{List, [], ◌∷◌}
 use native.Mathlib.Omega.{arith}
@@ -8,7 +8,7 @@ use native.Mathlib.Nat.{mul-le-mul_right}
 use lib.ListN.{length, get_or, take, drop, length-drop}
 use lib.Seq.{length-take-le}
 use Rattle.plan_rules.specs.Plans.{Plan, sum, busies, largest, time_of}
-use Rattle.plan_rules.specs.Listed.{width_lists, plans_on, plans, placements, best_of, best_plan}
+use Rattle.plan_rules.specs.Listed.{width_lists, plans_on, plans, placements, best_plan}
 use Rattle.plan_rules.specs.Least.{least_on, Kept, keep_lists, all_lists, keep_all, Reached, Stands}
 use Rattle.plan_rules.specs.Reordered.{InOrder}
 use Rattle.plan_rules.proofs.ListLaws.{upward_of}
@@ -17,7 +17,6 @@ use Rattle.plan_rules.proofs.Demand.{best-first}
 use Rattle.plan_rules.proofs.FirstLaws.{best-below-order, reached-best}
 use Rattle.plan_rules.proofs.LastLaws.{last_search}
 use Rattle.plan_rules.proofs.BusyLaws.{busies-most}
-use Rattle.units.specs.Places.{padded}
 use Rattle.plan_search.specs.Search.{search_buses, search_modules, row_places, time_bound, table_time, time_on, found_of, found_in, IsTable, AreWidths}
 use Rattle.plan_search.specs.Order.{RowsIn}
 use Rattle.plan_search.specs.Lists.{kept}

@@ -1,6 +1,6 @@
 -- Laws of groups of width lists: what the widest of a group is, when all of a group may be skipped, and how a group falls into others.
 -- Assumes nothing.
-use Prim.Native.Nat.{ℕ, zero, suc, ◌+◌, ◌-◌, ◌*◌, ◌/◌, ◌≤◌, ◌<◌}
+use Prim.Native.Nat.{ℕ, suc, ◌+◌, ◌-◌, ◌*◌, ◌/◌, ◌≤◌, ◌<◌}
 use mathlib.Core.Path.{◌≡◌, refl, sym, ap, ◌∙◌, subst}
 use mathlib.Core.Logic.{⊎_elim}
 use mathlib.Core.List.Memᴰ
@@ -8,9 +8,9 @@ use mathlib.Core.List.{List, [], ◌∷◌, ◌++◌, map, append_assoc, append-
 use native.Mathlib.Omega.{arith}
 use native.Mathlib.Numerals.{add-one}
 use native.Mathlib.Nat.{eq-or-lt_of_le, suc-mul, mul_comm, mul-le-mul_left, le-div_iff_mul-le, div-lt_iff_lt-mul, div-le_self}
-use lib.ListN.{length, get_or, take, drop, set, replicate, length-append, length-set}
-use lib.Seq.{take-suc-set, take_all, take_at, take-length, length-take-le, take-append_seam}
-use Rattle.plan_rules.specs.Plans.{sum, largest}
+use lib.ListN.{length, take, set, length-append, length-set}
+use lib.Seq.{take-suc-set, take_all, take_at, length-take-le}
+use Rattle.plan_rules.specs.Plans.{largest}
 use Rattle.plan_rules.specs.Listed.{upward, width_lists}
 use Rattle.plan_rules.specs.Least.{least_on, Kept, keep_lists}
 use Rattle.plan_rules.specs.Widths.{Rising, none, more, Wider, wider, widest}
@@ -19,7 +19,7 @@ use Rattle.plan_rules.proofs.ListedLaws.{widths_sound}
 use Rattle.plan_rules.proofs.BusyLaws.{largest-append}
 use Rattle.plan_rules.proofs.FirstLaws.{keep-none}
 use Rattle.plan_rules.proofs.WiderLaws.{wider-behind, wider-none, widest-wider, length-widest, widest-most, widest-rising, rising-behind}
-use Rattle.plan_search.specs.Search.{search_buses, row_places, table_time, IsTable, AreWidths}
+use Rattle.plan_search.specs.Search.{row_places, table_time, IsTable, AreWidths}
 use Rattle.plan_search.specs.Lists.{starting_with, group, Group}
 use Rattle.plan_rules.proofs.WidthListLaws.{upward-append, width_lists-one}
 use Rattle.plan_search.proofs.ListLaws.{lists_group}

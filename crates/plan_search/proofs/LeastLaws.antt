@@ -6,13 +6,13 @@ use native.Mathlib.Omega.{arith}
 use native.Mathlib.Nat.{mul-le-mul_left, mul-le-mul_right}
 use lib.ListN.{length, get_or, set, replicate, length-set, length-replicate}
 use lib.Seq.{set-set, set-get_or}
-use Rattle.plan_rules.specs.Plans.{sum, largest}
+use Rattle.plan_rules.specs.Plans.{sum}
 use Rattle.plan_rules.specs.Least.{least_on}
 use Rattle.plan_rules.specs.From.{loaded, each_bus, least_from}
 use Rattle.plan_rules.proofs.BusyLaws.{largest-zeros}
 use Rattle.plan_rules.proofs.FromLaws.{sum_added, from_on, from_le, from_top_skip, from_load_skip, from_more, from_end, each_le, each_step, each-end, largest-loaded-is}
-use Rattle.plan_search.specs.Search.{search_buses, search_modules, table_time, time_bound, best_max, TimeIn, IsTable, AreWidths}
-use Rattle.plan_search.specs.Least.{RestIs, last_of, Board, Loads, Reaches}
+use Rattle.plan_search.specs.Search.{search_buses, search_modules, table_time, time_bound, best_max, TimeIn}
+use Rattle.plan_search.specs.Least.{last_of, Board, Loads, Reaches}
 use Rattle.plan_search.proofs.RestLaws.{total-most}
 use Rattle.plan_search.proofs.WidthLaws.{width-at, last-least}
 

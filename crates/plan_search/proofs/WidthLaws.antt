@@ -3,7 +3,6 @@ use Prim.Native.Nat.{ℕ, zero, suc, ◌-◌, ◌≤◌, ◌<◌}
 use mathlib.Core.List.{List, [], ◌∷◌}
 use native.Mathlib.Omega.{arith}
 use lib.ListN.{length, get_or}
-use Rattle.plan_rules.specs.Plans.{largest}
 use Rattle.plan_rules.specs.Widths.{Rising, none, more}
 use Rattle.plan_rules.proofs.BusyLaws.{largest_le}
 use Rattle.plan_search.specs.Search.{row_places, table_time, IsTable, AreWidths}

@@ -1,5 +1,5 @@
 -- The least time on buses of given widths: what its search asks and leaves. The modules may stand in any order.
-use Rattle.std.specs.Prelude.{ℕ, ◌+◌, ◌-◌, ◌*◌, ◌≤◌, ◌<◌, ◌≡◌, List, length, get_or}
+use Rattle.std.specs.Prelude.{ℕ, ◌-◌, ◌*◌, ◌≤◌, ◌<◌, ◌≡◌, List, length, get_or}
 use Rattle.plan_rules.specs.Plans.{sum, largest}
 use Rattle.plan_rules.specs.Bounds.{total}
 use Rattle.plan_search.specs.Search.{table_time, time_bound, IsTable, AreWidths}

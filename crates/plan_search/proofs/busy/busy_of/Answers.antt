@@ -1,6 +1,6 @@
 use borrow.Author.Rules.{rules}
 use native.Mathlib.Omega.{arith}
-use Prim.Native.Nat.{◌-◌, ◌≤◌, ◌<◌}
+use Prim.Native.Nat.{◌≤◌, ◌<◌}
 use mathlib.Core.Path.{◌≡◌, ap, ◌∙◌}
 use lib.ListN.{length}
 use Rattle.units.specs.declared.Cycles.{Cycles}
@@ -9,12 +9,12 @@ use Rattle.plan_search.proofs.BusyLaws.{busy-none, busy-here, busy_else}
 use Rattle.plan_search.proofs.busy.busy_of.Goals as goal
 use Rattle.plan_search.proofs.busy.busy_of.Goals.{Start, then-buses-i, else-buses-i}
 
-len : (c : Start) → length c.args.t2 ≡ found_modules
+len : (c : Start) → length c.args.buses ≡ found_modules
 len c = search rules
 
 pub loop-i-init : goal.loop-i-init
 loop-i-init c = let a = c.args in
-    (omega arith, busy-none (table_time a.table.now) a.b a.w.0 a.t2, omega arith)
+    (omega arith, busy-none (table_time a.table.now) a.b a.w.0 a.buses, omega arith)
 
 pub overflow_add-sum : goal.overflow_add-sum
 overflow_add-sum c = let l = c.loop-i in
@@ -23,18 +23,18 @@ overflow_add-sum c = let l = c.loop-i in
 
 pub loop-i-preserved : goal.loop-i-preserved
 loop-i-preserved c = let l = c.loop-i in
-    let h : l.i < length c.args.t2 = omega (arith, len (goal.at.loop-i-preserved c).Start) in
+    let h : l.i < length c.args.buses = omega (arith, len (goal.at.loop-i-preserved c).Start) in
     let f = table_time c.args.table.now in
     let v = c.args.w.0 in
     (elim c.if-buses-i.branch [
-      | then-buses-i w ↦ let t : w.1.result.0 ≤ time_bound = rw w.1.ensures (c.requires.0.times l.i v) in
-          let e = ap (λ (x : Cycles). x.0) w.4 in (
+      | then-buses-i w ↦ let t : w.time_at-t.result.0 ≤ time_bound = rw w.time_at-t.ensures (c.requires.0.times l.i v) in
+          let e = ap (λ (x : Cycles). x.0) w.sum-is in (
             omega arith,
-            e ∙ rw (busy-here f c.args.b v c.args.t2 l.i h w.0.taken, ← l.invariant.1, ← w.1.ensures),
+            e ∙ rw (busy-here f c.args.b v c.args.buses l.i h w.if-buses-i.true, ← l.invariant.1, ← w.time_at-t.ensures),
             omega (arith, e),
           )
-      | else-buses-i w ↦ let e = ap (λ (x : Cycles). x.0) w.1 in
-          (omega arith, e ∙ rw (busy_else f c.args.b v c.args.t2 l.i h w.0.left) l.invariant.1, omega (arith, e))
+      | else-buses-i w ↦ let e = ap (λ (x : Cycles). x.0) w.sum-is in
+          (omega arith, e ∙ rw (busy_else f c.args.b v c.args.buses l.i h w.if-buses-i.false) l.invariant.1, omega (arith, e))
     ])
 
 pub returns : goal.returns

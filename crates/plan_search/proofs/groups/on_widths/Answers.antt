@@ -11,7 +11,7 @@ keep_widths-requires c = (c.requires.1.few, c.requires.3.places)
 
 pub returns-then-r-best : goal.returns-then-r-best
 returns-then-r-best c = let k = c.keep_widths in
-    sought_less c.requires.3 (found-exact c.least_on-r.ensures) k.new.1.0 c.if-r-best.true k.ensures
+    sought_less c.requires.3 (found-exact c.least_on-r.ensures) k.new.found c.if-r-best.true k.ensures
 
 pub returns-else-r-best : goal.returns-else-r-best
 returns-else-r-best c = sought-same c.requires.3 (found-exact c.least_on-r.ensures) c.if-r-best.false

@@ -1,5 +1,4 @@
 use native.Mathlib.Omega.{arith}
-use Prim.Native.Nat.{◌-◌}
 use mathlib.Core.Path.{◌∙◌}
 use lib.ListN.{length-set}
 use Rattle.plan_search.proofs.GroupLaws.{high-left, widened-first, widened_less, widened-next, widened-all, widened-wide}

@@ -14,17 +14,17 @@ use Rattle.plan_search.proofs.least.least_on.Goals as goal
 use Rattle.plan_search.proofs.least.least_on.Goals.{After-sum_rest}
 
 -- the sums of what is left, and the array that holds them
-rest-length : (c : After-sum_rest) → length c.sum_rest.new.1.1.0 ≡ c.args.n + 1
-rest-length c = c.sum_rest.auto.1.1.0 ∙ lent_length (c.args.n + 1) (search_modules + 1) (omega (arith, c.requires.0.few))
+rest-length : (c : After-sum_rest) → length c.sum_rest.new.rest ≡ c.args.n + 1
+rest-length c = c.sum_rest.auto.rest ∙ lent_length (c.args.n + 1) (search_modules + 1) (omega (arith, c.requires.0.few))
 
-whole : (c : After-sum_rest) → length (c.sum_rest.new.1.1.0 ++ drop (c.args.n + 1) (replicate (search_modules + 1) 0)) ≡ search_modules + 1
-whole c = length_front (replicate (search_modules + 1) 0) c.sum_rest.new.1.1.0 (c.args.n + 1) c.sum_rest.auto.1.1.0
+whole : (c : After-sum_rest) → length (c.sum_rest.new.rest ++ drop (c.args.n + 1) (replicate (search_modules + 1) 0)) ≡ search_modules + 1
+whole c = length_front (replicate (search_modules + 1) 0) c.sum_rest.new.rest (c.args.n + 1) c.sum_rest.auto.rest
 
 rest-is : (c : After-sum_rest)
-    → take (c.args.n + 1) (c.sum_rest.new.1.1.0 ++ drop (c.args.n + 1) (replicate (search_modules + 1) 0)) ≡ c.sum_rest.new.1.1.0
-rest-is c = take_at c.sum_rest.new.1.1.0 (drop (c.args.n + 1) (replicate (search_modules + 1) 0)) (c.args.n + 1) (rest-length c)
+    → take (c.args.n + 1) (c.sum_rest.new.rest ++ drop (c.args.n + 1) (replicate (search_modules + 1) 0)) ≡ c.sum_rest.new.rest
+rest-is c = take_at c.sum_rest.new.rest (drop (c.args.n + 1) (replicate (search_modules + 1) 0)) (c.args.n + 1) (rest-length c)
 
-board : (c : After-sum_rest) → Board c.args.table.now c.args.widths.now c.sum_rest.new.1.1.0
+board : (c : After-sum_rest) → Board c.args.table.now c.args.widths.now c.sum_rest.new.rest
 board c = let m : c.args.n + 1 - 1 ≡ c.args.n = omega arith in
     let one : 1 ≤ c.args.n + 1 = omega arith in
     record { table = rw (rest-length c, m) c.requires.0; some = rw (rest-length c) one; widths = c.requires.1; rest-is = c.sum_rest.ensures }
@@ -58,10 +58,10 @@ pub overflow_add-rest-2 : goal.overflow_add-rest-2
 overflow_add-rest-2 c = omega (arith, c.requires.0.few)
 
 pub slice_bounds-rest-end-2 : goal.slice_bounds-rest-end-2
-slice_bounds-rest-end-2 c = omega (arith, c.requires.0.few, whole c)
+slice_bounds-rest-end-2 c = omega (arith, c.requires.0.few, whole (goal.at.slice_bounds-rest-end-2 c).After-sum_rest)
 
 pub slice_bounds-least-end : goal.slice_bounds-least-end
-slice_bounds-least-end c = simp length-take (omega (arith, c.requires.0.few, whole c))
+slice_bounds-least-end c = simp length-take (omega (arith, c.requires.0.few, whole (goal.at.slice_bounds-least-end c).After-sum_rest))
 
 pub slice_bounds-loads-end : goal.slice_bounds-loads-end
 slice_bounds-loads-end c = omega (arith, c.requires.1.few)
@@ -70,13 +70,13 @@ pub slice_bounds-least-end-2 : goal.slice_bounds-least-end-2
 slice_bounds-least-end-2 c = simp length-take (omega (arith, c.requires.1.few))
 
 pub least-requires : goal.least-requires
-least-requires c = let e = rest-length c in
+least-requires c = let e = rest-length (goal.at.least-requires c).After-sum_rest in
     let n : 0 < c.args.n + 1 = omega arith in
     let f = take-replicate (length c.args.widths.now) search_buses 0 c.requires.1.few in
-    rw (rest-is c) (board c, loads_first c.args.widths.now f, rw e n, c.requires.2)
+    rw (rest-is (goal.at.least-requires c).After-sum_rest) (board (goal.at.least-requires c).After-sum_rest, loads_first c.args.widths.now f, rw e n, c.requires.2)
 
 pub returns : goal.returns
 returns c = let a = c.args in
     let m : a.n + 1 - 1 ≡ a.n = omega arith in
     let f = take-replicate (length a.widths.now) search_buses 0 c.requires.1.few in
-    on_first a.table.now a.widths.now a.n a.best.0 f (rw (rest-is (goal.at.returns c).After-sum_rest, rest-length (goal.at.returns c).After-sum_rest, m) at c.least.ensures.1)
+    on_first a.table.now a.widths.now a.n a.best.0 f (rw (rest-is (goal.at.returns c).After-sum_rest, rest-length (goal.at.returns c).After-sum_rest, m) at c.least.ensures.reaches)

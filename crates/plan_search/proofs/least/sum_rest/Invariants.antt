@@ -1,5 +1,4 @@
 -- `least::sum_rest` meets its contract. The loop's invariant: the sums from place i on stand in their places (`Summed`). Assumes nothing.
-use Prim.Native.Nat.{ℕ, ◌-◌}
 use Rattle.plan_search.specs.Search.{table_time}
 use Rattle.plan_search.proofs.RestLaws.{Summed}
 use Rattle.plan_search.proofs.least.sum_rest.Given as goal

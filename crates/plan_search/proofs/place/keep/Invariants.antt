@@ -1,7 +1,6 @@
 -- `place::keep` meets its contract. The loop's invariant is `Copied`: the bus numbers before i stand behind the time. Assumes nothing.
 use Prim.Native.Nat.{◌+◌, ◌-◌}
 use mathlib.Core.Path.{◌≡◌}
-use mathlib.Core.List.{[]}
 use lib.ListN.{length}
 use Rattle.plan_search.proofs.CopyLaws.{Copied}
 use Rattle.plan_search.proofs.place.keep.Given as goal

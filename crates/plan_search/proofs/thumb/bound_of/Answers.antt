@@ -1,5 +1,4 @@
 use native.Mathlib.Omega.{arith}
-use Prim.Native.Nat.{◌-◌}
 use Rattle.plan_search.proofs.ThumbLaws.{reached-more}
 use Rattle.plan_search.proofs.thumb.bound_of.Goals as goal
 use Rattle.plan_search.proofs.thumb.bound_of.Goals.{then-t-best, else-t-best}
@@ -25,7 +24,7 @@ loop-c-preserved c = let l = c.loop-c in
     let a = c.args in
     let u = c.thumb_with-t in
     let r = reached-more a.table.now a.wires.0 l.c a.limit a.n u.result.0 c.loop-c-test.true u.ensures in
-    (omega (arith, l.invariant.0), (elim c.if-t-best.branch [ then-t-best w ↦ rw w.1 r | else-t-best w ↦ rw w.1 l.invariant.1 ]))
+    (omega (arith, l.invariant.0), (elim c.if-t-best.branch [ then-t-best w ↦ rw w.best-is r | else-t-best w ↦ rw w.best-is l.invariant.1 ]))
 
 pub returns : goal.returns
 returns c = c.loop-c.invariant.1

@@ -1,5 +1,5 @@
 use native.Mathlib.Omega.{arith}
-use Prim.Native.Nat.{◌+◌, ◌-◌}
+use Prim.Native.Nat.{◌+◌}
 use lib.ListN.{get_or}
 use Rattle.plan_search.proofs.ThumbLaws.{bus-time, partly_length, partly_most}
 use Rattle.plan_search.proofs.thumb.earliest.Goals as goal
@@ -42,7 +42,7 @@ loop-b-smaller c = omega (arith, c.loop-b-test.true)
 
 pub loop-b-preserved : goal.loop-b-preserved
 loop-b-preserved c = let l = c.loop-b in
-    (elim c.if-end-ends.branch [ then-end-ends w ↦ (omega arith, rw w.2 c.loop-b-test.true) | else-end-ends w ↦ (omega arith, rw w.2 l.invariant.1) ])
+    (elim c.if-end-ends.branch [ then-end-ends w ↦ (omega arith, rw w.best-is c.loop-b-test.true) | else-end-ends w ↦ (omega arith, rw w.best-is l.invariant.1) ])
 
 pub returns : goal.returns
 returns c = c.loop-b.invariant.1

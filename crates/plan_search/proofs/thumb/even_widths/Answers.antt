@@ -1,5 +1,4 @@
 use native.Mathlib.Omega.{arith}
-use Prim.Native.Nat.{◌-◌}
 use mathlib.Core.Path.{refl}
 use lib.ListN.{length, length-set}
 use Rattle.plan_search.proofs.ThumbLaws.{evened-none, evened-left, evened-more, evened-all}

@@ -1,5 +1,5 @@
 use native.Mathlib.Omega.{arith}
-use Prim.Native.Nat.{◌+◌, ◌-◌}
+use Prim.Native.Nat.{◌+◌}
 use lib.ListN.{get_or, length-take}
 use Rattle.plan_search.proofs.ThumbLaws.{table-fewer, bus-time, thumbed_none, thumbed_most, thumbed_more, thumbed_all}
 use Rattle.plan_search.proofs.thumb.thumb_on.Goals as goal

@@ -1,5 +1,4 @@
 use native.Mathlib.Omega.{arith}
-use Prim.Native.Nat.{◌-◌}
 use mathlib.Core.Path.{refl}
 use mathlib.Core.Logic.{inl, inr}
 use lib.ListN.{length-take}
@@ -39,18 +38,18 @@ pub loop-c-preserved : goal.loop-c-preserved
 loop-c-preserved c = let a = c.args in
     let o = c.over_group-r in
     counted_next a.table.now a.wires.0 a.limit a.n a.best.0 a.found.now c.requires c.loop-c.invariant c.loop-c-test.true c.if-wires-c.false
-    o.new.1.1.1.1.1.1.0 o.new.1.1.1.1.1.1.1.0 o.result.0 o.auto.1.1.1.1.1.1.0 o.ensures.1
+    o.new.widths o.new.found o.result.0 o.auto.widths o.ensures.sought
 
 pub shape_of-found-after-loop-c : goal.shape_of-found-after-loop-c
 shape_of-found-after-loop-c c = c.loop-c.invariant.found-room
 
 pub returns-after-loop-c : goal.returns-after-loop-c
 returns-after-loop-c c = let a = c.args in
-    (counted-last a.table.now a.wires.0 a.limit a.n a.best.0 a.found.now c.requires c.loop-c.invariant (inl c.loop-c-test.false), c.loop-c.invariant.count)
+    record { found_after = counted-last a.table.now a.wires.0 a.limit a.n a.best.0 a.found.now c.requires c.loop-c.invariant (inl c.loop-c-test.false); found_in_bounds = c.loop-c.invariant.count }
 
 pub shape_of-found-then-wires-c : goal.shape_of-found-then-wires-c
 shape_of-found-then-wires-c c = c.loop-c.invariant.found-room
 
 pub returns-then-wires-c : goal.returns-then-wires-c
 returns-then-wires-c c = let a = c.args in
-    (counted-last a.table.now a.wires.0 a.limit a.n a.best.0 a.found.now c.requires c.loop-c.invariant (inr c.if-wires-c.true), c.loop-c.invariant.count)
+    record { found_after = counted-last a.table.now a.wires.0 a.limit a.n a.best.0 a.found.now c.requires c.loop-c.invariant (inr c.if-wires-c.true); found_in_bounds = c.loop-c.invariant.count }

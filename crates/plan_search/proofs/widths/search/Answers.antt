@@ -17,77 +17,77 @@ use Rattle.plan_search.proofs.widths.search.Goals as goal
 use Rattle.plan_search.proofs.widths.search.Goals.{After-first_placement, After-least_list-time}
 
 -- the widths that are kept stand, and lie within their buffer
-stands : (c : After-least_list-time) → let a = c.args in Stands (time_of (table_time a.table.now)) a.n (kept c.least_list-time.result.0 c.least_list-time.new.1.1.1.1.0) (best_plan (table_time a.table.now) a.wires.0 a.limit a.n)
-stands c = c.least_list-time.ensures.0
+stands : (c : After-least_list-time) → let a = c.args in Stands (time_of (table_time a.table.now)) a.n (kept c.least_list-time.result.0 c.least_list-time.new.found) (best_plan (table_time a.table.now) a.wires.0 a.limit a.n)
+stands c = c.least_list-time.ensures.stands
 
 most : (c : After-least_list-time) → c.least_list-time.result.0 ≤ search_modules * time_bound
 most c = let a = c.args in
-    found-most a.table.now a.wires.0 a.limit a.n c.requires.1 c.requires.3 c.least_list-time.result.0 c.least_list-time.new.1.1.1.1.0 (stands c) c.least_list-time.ensures.1 c.requires.0
+    found-most a.table.now a.wires.0 a.limit a.n c.requires.1 c.requires.3 c.least_list-time.result.0 c.least_list-time.new.found (stands c) c.least_list-time.ensures.found_in_bounds c.requires.0
 
 -- the part of the buffer that holds them
-part-is : (c : After-least_list-time) → let f = c.least_list-time.new.1.1.1.1.0 in take (get_or f 0 0 + 1 - 1) (drop 1 f) ≡ (best_plan (table_time c.args.table.now) c.args.wires.0 c.args.limit c.args.n).widths
+part-is : (c : After-least_list-time) → let f = c.least_list-time.new.found in take (get_or f 0 0 + 1 - 1) (drop 1 f) ≡ (best_plan (table_time c.args.table.now) c.args.wires.0 c.args.limit c.args.n).widths
 part-is c = let a = c.args in
-    let f = c.least_list-time.new.1.1.1.1.0 in
+    let f = c.least_list-time.new.found in
     let z : get_or f 0 0 + 1 - 1 ≡ get_or f 0 0 = omega arith in
-    rw z (found-widths a.table.now a.wires.0 a.limit a.n c.requires.1 c.requires.3 c.least_list-time.result.0 f (stands c) c.least_list-time.ensures.1)
+    rw z (found-widths a.table.now a.wires.0 a.limit a.n c.requires.1 c.requires.3 c.least_list-time.result.0 f (stands c) c.least_list-time.ensures.found_in_bounds)
 
 -- the places of the bus numbers and of the time before them
 room : (c : After-least_list-time) → length (take (c.args.n + 1) ((c.least_list-time.result.0 + 1) ∷ replicate search_modules 0)) ≡ c.args.n + 1
 room c = length-take-le (c.args.n + 1) ((c.least_list-time.result.0 + 1) ∷ replicate search_modules 0) (omega (arith, c.requires.0.few))
 
-whole : (c : After-first_placement) → length (c.first_placement.new.1.1.0 ++ drop (c.args.n + 1) ((c.least_list-time.result.0 + 1) ∷ replicate search_modules 0)) ≡ search_modules + 1
-whole c = length_front ((c.least_list-time.result.0 + 1) ∷ replicate search_modules 0) c.first_placement.new.1.1.0 (c.args.n + 1) c.first_placement.auto.1.1.0
+whole : (c : After-first_placement) → length (c.first_placement.new.best ++ drop (c.args.n + 1) ((c.least_list-time.result.0 + 1) ∷ replicate search_modules 0)) ≡ search_modules + 1
+whole c = length_front ((c.least_list-time.result.0 + 1) ∷ replicate search_modules 0) c.first_placement.new.best (c.args.n + 1) c.first_placement.auto.best
 
 -- what was found stands at the front of its buffer
-best-is : (c : After-first_placement) → take (c.args.n + 1) (c.first_placement.new.1.1.0 ++ drop (c.args.n + 1) ((c.least_list-time.result.0 + 1) ∷ replicate search_modules 0)) ≡ c.first_placement.new.1.1.0
-best-is c = take_at c.first_placement.new.1.1.0 (drop (c.args.n + 1) ((c.least_list-time.result.0 + 1) ∷ replicate search_modules 0)) (c.args.n + 1)
-    (c.first_placement.auto.1.1.0 ∙ room (goal.at.After-first_placement c).After-least_list-time)
+best-is : (c : After-first_placement) → take (c.args.n + 1) (c.first_placement.new.best ++ drop (c.args.n + 1) ((c.least_list-time.result.0 + 1) ∷ replicate search_modules 0)) ≡ c.first_placement.new.best
+best-is c = take_at c.first_placement.new.best (drop (c.args.n + 1) ((c.least_list-time.result.0 + 1) ∷ replicate search_modules 0)) (c.args.n + 1)
+    (c.first_placement.auto.best ∙ room (goal.at.After-first_placement c).After-least_list-time)
 
 pub least_list-time-requires : goal.least_list-time-requires
 least_list-time-requires c = (c.requires.0, c.requires.1, c.requires.2, c.requires.3, c.requires.4, record { places = omega arith; count = omega arith })
 
 pub overflow_add-best : goal.overflow_add-best
-overflow_add-best c = omega (arith, most c)
+overflow_add-best c = omega (arith, most (goal.at.overflow_add-best c).After-least_list-time)
 
 pub slice_bounds-first_placement-end-2 : goal.slice_bounds-first_placement-end-2
 slice_bounds-first_placement-end-2 c = simp length-take (omega (arith, c.requires.0.few))
 
 pub first_placement-requires : goal.first_placement-requires
-first_placement-requires c = let e = room c in
+first_placement-requires c = let e = room (goal.at.first_placement-requires c).After-least_list-time in
     let m : c.args.n + 1 - 1 ≡ c.args.n = omega arith in
     let one : 1 ≤ c.args.n + 1 = omega arith in (
       rw (e, m) c.requires.0,
-      rw (part-is c) (best-widths c.args.table.now c.args.wires.0 c.args.limit c.args.n c.requires.1 c.requires.3 c.requires.2 c.requires.4),
+      rw (part-is (goal.at.first_placement-requires c).After-least_list-time) (best-widths c.args.table.now c.args.wires.0 c.args.limit c.args.n c.requires.1 c.requires.3 c.requires.2 c.requires.4),
       rw e one,
     )
 
 pub slice_bounds-best-end-2 : goal.slice_bounds-best-end-2
-slice_bounds-best-end-2 c = omega (arith, c.requires.0.few, whole c)
+slice_bounds-best-end-2 c = omega (arith, c.requires.0.few, whole (goal.at.slice_bounds-best-end-2 c).After-first_placement)
 
 pub slice_bounds-found_in-end : goal.slice_bounds-found_in-end
-slice_bounds-found_in-end c = simp length-take (omega (arith, c.requires.0.few, whole c))
+slice_bounds-found_in-end c = simp length-take (omega (arith, c.requires.0.few, whole (goal.at.slice_bounds-found_in-end c).After-first_placement))
 
 pub found_in-requires : goal.found_in-requires
 found_in-requires c = let p = best-widths c.args.table.now c.args.wires.0 c.args.limit c.args.n c.requires.1 c.requires.3 c.requires.2 c.requires.4 in
-    let e = c.first_placement.auto.1.1.0 ∙ room (goal.at.found_in-requires c).After-least_list-time in
-    let f = found-count c.args.table.now c.args.wires.0 c.args.limit c.args.n c.requires.1 c.requires.3 c.least_list-time.result.0 c.least_list-time.new.1.1.1.1.0 (stands (goal.at.found_in-requires c).After-least_list-time) c.least_list-time.ensures.1 in
+    let e = c.first_placement.auto.best ∙ room (goal.at.found_in-requires c).After-least_list-time in
+    let f = found-count c.args.table.now c.args.wires.0 c.args.limit c.args.n c.requires.1 c.requires.3 c.least_list-time.result.0 c.least_list-time.new.found (stands (goal.at.found_in-requires c).After-least_list-time) c.least_list-time.ensures.found_in_bounds in
     record {
-      time = rw (best-is c) (omega (arith, e));
-      modules = rw (best-is c) (omega (arith, e, c.requires.0.few));
-      counted = omega (arith, c.least_list-time.auto.1.1.1.1.0);
+      time = rw (best-is (goal.at.found_in-requires c).After-first_placement) (omega (arith, e));
+      modules = rw (best-is (goal.at.found_in-requires c).After-first_placement) (omega (arith, e, c.requires.0.few));
+      counted = omega (arith, c.least_list-time.auto.found);
       few = omega (arith, f, p.few);
-      count = c.least_list-time.ensures.1;
+      count = c.least_list-time.ensures.found_in_bounds;
     }
 
 pub returns : goal.returns
 returns c = let a = c.args in
     let T = c.least_list-time.result.0 in
-    let f = c.least_list-time.new.1.1.1.1.0 in
+    let f = c.least_list-time.new.found in
     let z : get_or f 0 0 + 1 - 1 ≡ get_or f 0 0 = omega arith in
     let w : take (get_or f 0 0 + 1 - 1) (drop 1 f) ≡ take (get_or f 0 0) (drop 1 f) = rw z in
     let m : length (take (a.n + 1) ((T + 1) ∷ replicate search_modules 0)) - 1 ≡ a.n = rw (room (goal.at.returns c).After-least_list-time) (omega arith) in
     let b = take (a.n + 1) ((T + 1) ∷ replicate search_modules 0) in
     let h : get_or b 0 0 ≡ suc T = get_or-take (a.n + 1) ((T + 1) ∷ replicate search_modules 0) 0 0 (omega arith) ∙ add-one T in
-    let g = found-buses a.table.now a.wires.0 a.limit a.n c.requires.1 c.requires.3 T f (stands (goal.at.returns c).After-least_list-time) c.least_list-time.ensures.1 b w m h c.first_placement.ensures in
+    let g = found-buses a.table.now a.wires.0 a.limit a.n c.requires.1 c.requires.3 T f (stands (goal.at.returns c).After-least_list-time) c.least_list-time.ensures.found_in_bounds b w m h c.first_placement.ensures in
     c.found_in.ensures
-    ∙ rw (best-is (goal.at.returns c).After-first_placement) (found-is a.table.now a.wires.0 a.limit a.n c.requires.1 c.requires.3 T f (stands (goal.at.returns c).After-least_list-time) c.least_list-time.ensures.1 c.first_placement.new.1.1.0 g)
+    ∙ rw (best-is (goal.at.returns c).After-first_placement) (found-is a.table.now a.wires.0 a.limit a.n c.requires.1 c.requires.3 T f (stands (goal.at.returns c).After-least_list-time) c.least_list-time.ensures.found_in_bounds c.first_placement.new.best g)

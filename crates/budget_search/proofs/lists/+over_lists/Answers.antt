@@ -1,0 +1,156 @@
+use native.Mathlib.Omega.{arith}
+use Prim.Native.Nat.{ℕ, suc, ◌+◌, ◌-◌, ◌*◌, ◌≤◌, ◌<◌}
+use mathlib.Core.Path.{refl, sym, ap, ◌∙◌}
+use mathlib.Core.List.{List, ◌++◌, map}
+use lib.ListN.{length, take, set, length-set}
+use lib.Seq.{take-set-le}
+use Rattle.plan_rules.specs.Listed.{width_lists}
+use Rattle.budget_rules.specs.Tries.{on_lists}
+use Rattle.budget_search.specs.Steps.{held_in}
+use Rattle.plan_search.specs.Search.{table_time}
+use Rattle.budget_search.proofs.SpendLaws.{lists_append, lists_none, lists_one, lists_stopped}
+use Rattle.budget_search.proofs.PlaceLaws.{spent_held}
+use Rattle.budget_search.proofs.ListLaws.{share-small, low_fits, begun-next, begun_more, left-none, last-widths, left_one}
+use Rattle.budget_search.proofs.ListLaws.{left-more, front_same}
+use Rattle.budget_search.proofs.lists.+over_lists.Goals as goal
+use Rattle.budget_search.proofs.lists.+over_lists.Goals.{Start, Else-left-low, Else-due-eq1}
+
+-- some list is left
+fits : (t : ℕ) (c : Else-left-low t) → c.args.low.0 ≤ c.args.left.0
+fits t c =
+    let a = c.args in
+    low_fits a.low.0 (length a.widths.now - a.at) a.left.0 (omega (arith, c.requires.4.at_most)) (omega (arith, c.if-left-low.false))
+
+-- a width behind this one is to be set too
+less : (t : ℕ) (c : Else-due-eq1 t) → suc c.args.at < length c.args.widths.now
+less t c = omega (arith, c.requires.4.at_most, c.if-due-eq1.false)
+
+-- the lists that are left
+abbrev left-lists : (t : ℕ) → Start t → List (List ℕ)
+left-lists t c =
+    map (λ us. take c.args.at c.args.widths.now ++ us)
+    (width_lists (length c.args.widths.now - c.args.at) c.args.low.0 c.args.left.0)
+
+pub returns-then-is_stopped : goal.returns-then-is_stopped
+returns-then-is_stopped t c =
+    let a = c.args in
+    let e = sym c.is_stopped.ensures ∙ c.if-is_stopped.true in (
+      sym (lists_stopped (table_time a.table.now) a.budget (held_in a.n a.budget a.s a.best.now) e
+          (spent_held a.n a.budget a.s a.best.now e) a.n (left-lists t (goal.at.returns-then-is_stopped t c).Start) c.requires.1),
+      c.requires.3,
+      refl,
+    )
+
+pub overflow_sub-due : goal.overflow_sub-due
+overflow_sub-due t c = omega (arith, c.requires.4.at_most)
+
+pub overflow_cast-due : goal.overflow_cast-due
+overflow_cast-due t c = omega (arith, c.requires.4.few)
+
+pub overflow_mul-low : goal.overflow_mul-low
+overflow_mul-low t c =
+    let a = c.args in
+    omega (arith, share-small a.low.0 (length a.widths.now - a.at) c.requires.4.low-most (omega (arith, c.requires.4.few)))
+
+pub returns-then-left-low : goal.returns-then-left-low
+returns-then-left-low t c =
+    let a = c.args in
+    let none = left-none c.requires.4 c.if-left-low.true in (
+      sym (ap (λ wss. on_lists (table_time a.table.now) a.budget a.n wss (held_in a.n a.budget a.s a.best.now)) none
+          ∙ lists_none (table_time a.table.now) a.budget a.n (held_in a.n a.budget a.s a.best.now)),
+      c.requires.3,
+      refl,
+    )
+
+pub offset_bounds-widths-at : goal.offset_bounds-widths-at
+offset_bounds-widths-at t c = omega (arith, c.requires.4.at_most, c.requires.4.few)
+
+pub bounds-widths-at : goal.bounds-widths-at
+bounds-widths-at t c = omega (arith, c.requires.4.at_most)
+
+pub placed_on-requires : goal.placed_on-requires
+placed_on-requires t c = (
+  c.requires.0,
+  last-widths c.requires.4 c.if-due-eq1.true (fits t (goal.at.placed_on-requires t c).Else-left-low),
+  c.requires.2,
+  c.requires.3,
+)
+
+pub returns-then-due-eq1 : goal.returns-then-due-eq1
+returns-then-due-eq1 t c =
+    let a = c.args in
+    let p = c.placed_on in
+    let one = left_one c.requires.4 c.if-due-eq1.true (fits t (goal.at.returns-then-due-eq1 t c).Else-left-low) in (
+      p.ensures.0
+          ∙ sym (ap (λ wss. on_lists (table_time a.table.now) a.budget a.n wss
+          (held_in a.n a.budget a.s a.best.now)) one
+          ∙ lists_one (table_time a.table.now) a.budget a.n (set a.widths.now a.at a.left.0)
+          (held_in a.n a.budget a.s a.best.now)),
+      p.ensures.1,
+      take-set-le a.at a.widths.now a.at a.left.0 (omega arith),
+    )
+
+pub offset_bounds-widths-at-2 : goal.offset_bounds-widths-at-2
+offset_bounds-widths-at-2 t c = omega (arith, c.requires.4.at_most, c.requires.4.few)
+
+pub bounds-widths-at-2 : goal.bounds-widths-at-2
+bounds-widths-at-2 t c = omega (arith, c.requires.4.at_most)
+
+pub overflow_add-at : goal.overflow_add-at
+overflow_add-at t c = omega (arith, c.requires.4.at_most, c.requires.4.few)
+
+pub overflow_sub-left : goal.overflow_sub-left
+overflow_sub-left t c = fits t (goal.at.overflow_sub-left t c).Else-left-low
+
+pub over_lists-r-requires : goal.over_lists-r-requires
+over_lists-r-requires t c =
+    let a = c.args in
+    let l = less t (goal.at.over_lists-r-requires t c).Else-due-eq1 in
+    let n = length-set a.widths.now a.at a.low.0 in
+    let m : (length (set a.widths.now a.at a.low.0) - (a.at + 1)) * 66 + (65 - a.low.0) < t = omega (arith, n, l) in
+    let f = fits t (goal.at.over_lists-r-requires t c).Else-left-low in
+    (m, (c.requires.0, c.requires.1, c.requires.2, c.requires.3, begun-next c.requires.4 l f))
+
+pub overflow_add-low : goal.overflow_add-low
+overflow_add-low t c = omega (arith, c.requires.4.low-most)
+
+-- the next width is more, by omega, so that a wrong one is met where the lists are told
+pub over_lists-requires : goal.over_lists-requires
+over_lists-requires t c =
+    let a = c.args in
+    let o = c.over_lists-r in
+    let f = fits t (goal.at.over_lists-requires t c).Else-left-low in
+    let w = c.requires.4.narrow in
+    let n = o.auto.widths ∙ length-set a.widths.now a.at a.low.0 in
+    let e = front_same a.widths.now o.new.widths a.at a.low.0 o.ensures.2 in (
+      rw n (omega (arith, f, w)),
+      (
+        c.requires.0,
+        c.requires.1,
+        c.requires.2,
+        o.ensures.1,
+        begun_more c.requires.4 n e (omega arith) (omega (arith, f, w)),
+      ),
+    )
+
+pub shape_of-widths : goal.shape_of-widths
+shape_of-widths t c =
+    let a = c.args in
+    c.over_lists.auto.widths ∙ c.over_lists-r.auto.widths ∙ length-set a.widths.now a.at a.low.0
+
+pub returns : goal.returns
+returns t c =
+    let a = c.args in
+    let o = c.over_lists-r in
+    let q = c.over_lists in
+    let time = table_time a.table.now in
+    let vs = o.new.widths in
+    let n = o.auto.widths ∙ length-set a.widths.now a.at a.low.0 in
+    let e = front_same a.widths.now vs a.at a.low.0 o.ensures.2 in
+    let more = left-more c.requires.4 vs n e (fits t (goal.at.returns t c).Else-left-low) in (
+      q.ensures.0 ∙ ap (on_lists time a.budget a.n _) o.ensures.0
+          ∙ sym (ap (λ wss. on_lists time a.budget a.n wss (held_in a.n a.budget a.s a.best.now)) more
+          ∙ lists_append time a.budget a.n _ _ (held_in a.n a.budget a.s a.best.now)),
+      q.ensures.1,
+      q.ensures.2 ∙ e,
+    )
