@@ -40,21 +40,21 @@ due0 : (s : Start) → Left s (part1 s ++ rest1 s) s.args.at s.args.buf.now
 due0 c = due_all (module_text c.args.power c.args.xy c.args.m c.args.d) c.requires.2
 
 abbrev start1 : After-put_level_line-a → Start
-start1 c = c
+start1 c = (goal.at.After-put_level_line-a c).Start
 
-due1 : (c : After-put_level_line-a) → Left (start1 c) (rest1 (start1 c)) c.put_level_line-a.result c.put_level_line-a.new.0
+due1 : (c : After-put_level_line-a) → Left (start1 c) (rest1 (start1 c)) c.put_level_line-a.result c.put_level_line-a.new.buf
 due1 c = due-next (part1 (start1 c)) (rest1 (start1 c)) (due0 (goal.at.After-put_level_line-a c).Start) c.put_level_line-a.ensures
 
 abbrev start2 : After-put_position_line-b → Start
 start2 c = start1 (goal.at.After-put_position_line-b c).After-put_level_line-a
 
-due2 : (c : After-put_position_line-b) → Left (start2 c) (rest2 (start2 c)) c.put_position_line-b.result c.put_position_line-b.new.0
+due2 : (c : After-put_position_line-b) → Left (start2 c) (rest2 (start2 c)) c.put_position_line-b.result c.put_position_line-b.new.buf
 due2 c = due-next (part2 (start2 c)) (rest2 (start2 c)) (due1 (goal.at.After-put_position_line-b c).After-put_level_line-a) c.put_position_line-b.ensures
 
 abbrev start3 : After-put_tests_line-c → Start
 start3 c = start2 (goal.at.After-put_tests_line-c c).After-put_position_line-b
 
-due3 : (c : After-put_tests_line-c) → Left (start3 c) (rest3 (start3 c)) c.put_tests_line-c.result c.put_tests_line-c.new.0
+due3 : (c : After-put_tests_line-c) → Left (start3 c) (rest3 (start3 c)) c.put_tests_line-c.result c.put_tests_line-c.new.buf
 due3 c = due-next (part3 (start3 c)) (rest3 (start3 c)) (due2 (goal.at.After-put_tests_line-c c).After-put_position_line-b) c.put_tests_line-c.ensures
 
 pub put_level_line-a-requires : goal.put_level_line-a-requires

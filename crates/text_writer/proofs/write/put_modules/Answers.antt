@@ -1,5 +1,5 @@
 use native.Mathlib.Omega.{arith}
-use Prim.Native.Nat.{◌+◌, ◌-◌, ◌≤◌}
+use Prim.Native.Nat.{◌+◌, ◌≤◌}
 use mathlib.Core.Path.{◌≡◌, refl, ◌∙◌}
 use mathlib.Core.List.{[], ◌++◌}
 use lib.IntN.{pos}
@@ -25,7 +25,7 @@ blank = record { level = 0; inputs = 0; outputs = 0; bidirs = 0; chain_count = 0
 -- the lines of the next module are due
 due : (c : In-loop-i) →
     let a = c.args in
-    let s = a.t3 in
+    let s = a.s in
     Due
     (written_lines (module_lines_of s.power s.xy c.loop-i.i (get_or s.modules c.loop-i.i blank))
     ++ modules_text s.power s.xy (c.loop-i.i + 1) (drop (c.loop-i.i + 1) (take a.n s.modules)))
@@ -49,7 +49,7 @@ put_module-e-requires c = let modules = c.args.s.modules in
     (rw same counts.0, rw same counts.1, due-room (written_lines (module_lines_of _ _ _ _)) _ (due (goal.at.put_module-e-requires c).In-loop-i))
 
 pub loop-i-preserved : goal.loop-i-preserved
-loop-i-preserved c = let same = c.put_module-e.auto.0 ∙ c.loop-i.invariant.1 in
+loop-i-preserved c = let same = c.put_module-e.auto.buf ∙ c.loop-i.invariant.1 in
     (omega arith, same, due-next (written_lines (module_lines_of _ _ _ _)) _ (due (goal.at.loop-i-preserved c).In-loop-i) c.put_module-e.ensures)
 
 pub shape_of-buf : goal.shape_of-buf
@@ -58,4 +58,4 @@ shape_of-buf c = c.loop-i.invariant.1
 pub returns : goal.returns
 unfolding module_lines_from written_lines
 returns c = let a = c.args in
-    (rw (rest-none a.n a.t3.modules c.loop-i.i (omega arith)) at c.loop-i.invariant.2).done _ _ (put-none _ _)
+    (rw (rest-none a.n a.s.modules c.loop-i.i (omega arith)) at c.loop-i.invariant.2).done _ _ (put-none _ _)

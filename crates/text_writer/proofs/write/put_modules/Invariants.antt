@@ -2,7 +2,6 @@
 -- is still due. The measure is what is left of `n`. Assumes nothing.
 use Prim.Native.Nat.{◌-◌, ◌≤◌}
 use mathlib.Core.Path.{◌≡◌}
-use mathlib.Core.List.{[]}
 use lib.ListN.{length, take, drop}
 use Rattle.buffer.proofs.PutLaws.{Due}
 use Rattle.text_writer.proofs.RunLaws.{modules_text}

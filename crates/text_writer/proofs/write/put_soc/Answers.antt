@@ -28,9 +28,9 @@ due0 : (s : Start) → Left s (part1 s ++ part2 s) 0 s.args.buf.now
 due0 c = due_all (soc-text c.args.s) (omega (arith, c.requires.1))
 
 abbrev start1 : After-put_head-a → Start
-start1 c = c
+start1 c = (goal.at.After-put_head-a c).Start
 
-due1 : (c : After-put_head-a) → Left (start1 c) (part2 (start1 c)) c.put_head-a.result c.put_head-a.new.0
+due1 : (c : After-put_head-a) → Left (start1 c) (part2 (start1 c)) c.put_head-a.result c.put_head-a.new.buf
 due1 c = due-next (part1 (start1 c)) (part2 (start1 c)) (due0 (start1 c)) c.put_head-a.ensures
 
 pub put_head-a-requires : goal.put_head-a-requires
@@ -38,7 +38,7 @@ put_head-a-requires c = ((soc-figures c.args.s c.requires.0).name-len, due-room 
 
 pub put_modules-requires : goal.put_modules-requires
 put_modules-requires c = let s = start1 (goal.at.put_modules-requires c).After-put_head-a in
-    ((soc-figures s.args.s s.pre.0).module-count, omega arith, good_countable s.args.s s.pre.0, (due1 (goal.at.put_modules-requires c).After-put_head-a).room)
+    ((soc-figures s.args.s s.requires.0).module_count, omega arith, good_countable s.args.s s.requires.0, (due1 (goal.at.put_modules-requires c).After-put_head-a).room)
 
 pub returns : goal.returns
 returns c = (due1 (goal.at.returns c).After-put_head-a).done _ _ c.put_modules.ensures

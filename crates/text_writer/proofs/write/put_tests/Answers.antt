@@ -1,5 +1,5 @@
 use native.Mathlib.Omega.{arith}
-use Prim.Native.Nat.{◌+◌, ◌-◌, ◌≤◌}
+use Prim.Native.Nat.{◌+◌, ◌≤◌}
 use mathlib.Core.Path.{◌≡◌, refl, ◌∙◌}
 use mathlib.Core.List.{[], ◌∷◌, ◌++◌}
 use lib.ListN.{length, get_or, take, drop}
@@ -19,7 +19,7 @@ len c = c.well_formed.1.1.1.0.1.1.1.1.1.1.1.1.1.1.1.0.1.0.1
 -- the line of the next test is due
 due : (c : In-loop-i) →
     let a = c.args in
-    let tests = a.t4.tests in
+    let tests = a.d.tests in
     let t = get_or tests c.loop-i.i no_test in
     Due
     (test_text a.power a.m (c.loop-i.i + 1) t
@@ -30,8 +30,8 @@ due : (c : In-loop-i) →
     c.loop-i.e
     c.loop-i.buf
 due c = let a = c.args in
-    let room : a.n ≤ length a.t4.tests = omega (arith, len (goal.at.In-loop-i c).Start, c.requires.0) in
-    rw (tests-more a.power a.m a.n a.t4.tests c.loop-i.i no_test (omega arith) room) at c.loop-i.invariant.2
+    let room : a.n ≤ length a.d.tests = omega (arith, len (goal.at.In-loop-i c).Start, c.requires.0) in
+    rw (tests-more a.power a.m a.n a.d.tests c.loop-i.i no_test (omega arith) room) at c.loop-i.invariant.2
 
 pub loop-i-init : goal.loop-i-init
 loop-i-init c = (omega arith, refl, due_all refl c.requires.1)
@@ -40,7 +40,7 @@ pub put_test_line-e-requires : goal.put_test_line-e-requires
 put_test_line-e-requires c = due-room (written_lines (test_fields _ _ _ _ ∷ [])) _ (due (goal.at.put_test_line-e-requires c).In-loop-i)
 
 pub loop-i-preserved : goal.loop-i-preserved
-loop-i-preserved c = let same = c.put_test_line-e.auto.0 ∙ c.loop-i.invariant.1 in
+loop-i-preserved c = let same = c.put_test_line-e.auto.buf ∙ c.loop-i.invariant.1 in
     (omega arith, same, due-next (written_lines (test_fields _ _ _ _ ∷ [])) _ (due (goal.at.loop-i-preserved c).In-loop-i) c.put_test_line-e.ensures)
 
 pub shape_of-buf : goal.shape_of-buf
@@ -49,4 +49,4 @@ shape_of-buf c = c.loop-i.invariant.1
 pub returns : goal.returns
 unfolding test_lines written_lines
 returns c = let a = c.args in
-    (rw (rest-none a.n a.t4.tests c.loop-i.i (omega arith)) at c.loop-i.invariant.2).done _ _ (put-none _ _)
+    (rw (rest-none a.n a.d.tests c.loop-i.i (omega arith)) at c.loop-i.invariant.2).done _ _ (put-none _ _)

@@ -1,9 +1,8 @@
 -- `text_writer::write_lines::put_head` meets its contract: each call puts what is due behind the call before it. Assumes nothing.
 use native.Mathlib.Omega.{arith}
-use mathlib.Core.Path.{◌≡◌, sym}
+use mathlib.Core.Path.{◌≡◌}
 use mathlib.Core.List.{◌∷◌}
 use lib.ListN.{length}
-use lib.Seq.{length-take-le}
 use Rattle.fields.specs.Bytes.{bytes, lf}
 use Rattle.fields.specs.Names.{name_max}
 use Rattle.fields.specs.WrittenLines.{decimal}
@@ -19,9 +18,6 @@ len c = c.well_formed.1.1.0.1.1.1.0.1.0.1
 
 pub slice_bounds-name-end : goal.slice_bounds-name-end
 slice_bounds-name-end c = omega (arith, len (goal.at.slice_bounds-name-end c).Start, c.requires.0)
-
--- UNMATCHED slice-aggregate-put-bytes-2 : slice-aggregate-put-bytes-2
--- sym (length-take-le _ _ (omega (arith, len c, c.requires.0)))
 
 pub returns : goal.returns
 returns c = let r = c.args.s in

@@ -1,5 +1,4 @@
 use native.Mathlib.Omega.{arith}
-use Prim.Native.Nat.{◌-◌}
 use mathlib.Core.Path.{◌≡◌, refl, ◌∙◌}
 use lib.ListN.{length, get_or}
 use Rattle.fields.specs.Bytes.{bytes}
@@ -22,7 +21,7 @@ pub loop-i-preserved : goal.loop-i-preserved
 loop-i-preserved c = let chains = c.args.d.chains in
     let more = spaced_more c.args.n chains c.loop-i.i (flip_flops 0) (omega arith) (omega (arith, len (goal.at.loop-i-preserved c).Start, c.requires.0)) in
     let f = decimal (get_or chains c.loop-i.i (flip_flops 0)).0 in
-    (omega arith, c.put_key-e.auto.0 ∙ c.loop-i.invariant.1, due-key (bytes " ") f _ (rw more at c.loop-i.invariant.2) c.put_key-e.ensures)
+    (omega arith, c.put_key-e.auto.buf ∙ c.loop-i.invariant.1, due-key (bytes " ") f _ (rw more at c.loop-i.invariant.2) c.put_key-e.ensures)
 
 pub shape_of-buf : goal.shape_of-buf
 shape_of-buf c = c.loop-i.invariant.1

@@ -9,21 +9,18 @@ use Rattle.buffer.proofs.PutLaws.{Due, due_all, due-key, due-put, due-room, due-
 use Rattle.text_writer.specs.WrittenSoc.{spaced_lengths}
 use Rattle.text_writer.proofs.LineLaws.{level-text}
 use Rattle.text_writer.proofs.write_lines.put_level_line.Goals as goal
-use Rattle.text_writer.proofs.write_lines.put_level_line.Goals.{After-put_bytes-h, Start}
-
-abbrev start : After-put_bytes-h → Start
-start c = c
+use Rattle.text_writer.proofs.write_lines.put_level_line.Goals.{After-put_bytes-h}
 
 -- behind the colon the lengths and the line's end are due
-due : (k7 : After-put_bytes-h) →
-    let a = (start k7).args in
+due : (c : After-put_bytes-h) →
+    let a = c.args in
     Due
     (spaced_lengths (chains_of a.d) ++ lf ∷ [])
     (written_lines (level_fields a.m a.d ∷ []))
     a.at
     a.buf.now
-    k7.put-bytes.result
-    k7.put-bytes.new.0
+    c.put_bytes-h.result
+    c.put_bytes-h.new.buf
 due c = let d = c.args.d in
     let d0 = due_all (level-text c.args.m d) c.requires.1 in
     let d1 = due-key (bytes "Module ") (decimal c.args.m) _ d0 c.put_key-a.ensures in
@@ -35,11 +32,11 @@ due c = let d = c.args.d in
     due-put (bytes " :") _ d6 c.put_bytes-h.ensures
 
 pub put_lengths-i-requires : goal.put_lengths-i-requires
-put_lengths-i-requires c = (omega (arith, (start (goal.at.put_lengths-i-requires c).After-put_bytes-h).requires.0), due-room (spaced_lengths (chains_of (start (goal.at.put_lengths-i-requires c).After-put_bytes-h).args.d)) _ (due (goal.at.put_lengths-i-requires c).After-put_bytes-h))
+put_lengths-i-requires c = (omega (arith, c.requires.0), due-room (spaced_lengths (chains_of c.args.d)) _ (due (goal.at.put_lengths-i-requires c).After-put_bytes-h))
 
 pub returns : goal.returns
-returns c = let d8 = due-next (spaced_lengths (chains_of (start (goal.at.returns c).After-put_bytes-h).args.d)) _ (due (goal.at.returns c).After-put_bytes-h) c.put_lengths-i.ensures in
+returns c = let d8 = due-next (spaced_lengths (chains_of c.args.d)) _ (due (goal.at.returns c).After-put_bytes-h) c.put_lengths-i.ensures in
     d8.done _ _ (put_is d8.room c.put_bytes.ensures)
 
 pub shape_of-buf : goal.shape_of-buf
-shape_of-buf c = put-kept (returns c) (start (goal.at.shape_of-buf c).After-put_bytes-h).requires.1
+shape_of-buf c = put-kept (returns c) c.requires.1

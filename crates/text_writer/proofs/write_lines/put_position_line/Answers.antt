@@ -1,5 +1,6 @@
 -- `text_writer::write_lines::put_position_line` meets its contract: with XY 0 there is nothing to put, and with XY 1 each call puts
 -- what is due behind the call before it. Assumes nothing.
+use borrow.Author.Rules.{rules}
 use mathlib.Core.Path.{◌≡◌}
 use mir.Syntax.{w32}
 use mir.Val.{to_z, of_z}
@@ -16,10 +17,8 @@ returns-then-not-xy c = rw (position-none c.args.xy c.args.m c.args.d c.if-not-x
 
 pub returns : goal.returns
 returns c = let d = c.args.d in
-    let gx = c.struct_told-1.given.1.1.1.1.1.1.0.1 in
-    let gy = c.struct_told-2-1.given.1.1.1.1.1.1.1.0.1 in
-    let back-x : to_z w32 (of_z w32 d.x) ≡ d.x = figure_back d.x (record { sfits = gx }) in
-    let back-y : to_z w32 (of_z w32 d.y) ≡ d.y = figure_back d.y (record { sfits = gy }) in
+    let back-x : to_z w32 (of_z w32 d.x) ≡ d.x = figure_back d.x (record { sfits = search rules }) in
+    let back-y : to_z w32 (of_z w32 d.y) ≡ d.y = figure_back d.y (record { sfits = search rules }) in
     let d0 = due_all (position-text c.args.xy c.args.m d c.if-not-xy.false) c.requires in
     let d1 = due-key (bytes "Module ") (decimal c.args.m) _ d0 c.put_key-a.ensures in
     let d2 = due-key (bytes " X ") (given_field d.x) _ d1 (rw back-x at c.put_given-b.ensures) in

@@ -11,19 +11,15 @@ use Rattle.text_writer.proofs.write_lines.put_test_line.Goals as goal
 use Rattle.text_writer.proofs.write_lines.put_test_line.Goals.{After-put_key-e}
 
 -- behind the patterns the line's end is due
-due : (k5 : After-put_key-e) →
-    let k4 = k5.before.before.before.before.before.before in
-    let k3 = k4.before.before.before.before.before in
-    let k2 = k3.before.before.before.before.before in
-    let k1 = k2.before.before.before.before.before in
-    let a = k1.before.before.before.before.args in
+due : (c : After-put_key-e) →
+    let a = c.args in
     Due
     (power_end a.power a.t)
     (written_lines (test_fields a.m a.i a.t (cond a.power (power_fields a.t) []) ∷ []))
     a.at
     a.buf.now
-    k5.put-key3.result
-    k5.put-key3.new.0
+    c.put_key-e.result
+    c.put_key-e.new.buf
 due c = let t = c.args.t in
     let d0 = due_all (test-text c.args.m c.args.i t c.args.power) c.requires in
     let d1 = due-key (bytes "Module ") (decimal c.args.m) _ d0 c.put_key-a.ensures in
