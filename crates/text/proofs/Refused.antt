@@ -70,11 +70,15 @@ module _ (R : ℕ → ℕ → Type 0) where
       → AlikeReader (line p)
   unfolding line
   alike_line p h [] [] none = ended
+  alike_line p h [] (m ∷ ms) s = elim s [ ]
+  alike_line p h (l ∷ ls) [] s = elim s [ ]
   alike_line p h (l ∷ ls) (m ∷ ms) (more r e s) = rw e (alike_judged r s (whole p m.fields) (h m.fields))
 
   pub alike_no_more : AlikeReader no_more
   unfolding no_more
   alike_no_more [] [] none = going none
+  alike_no_more [] (m ∷ ms) s = elim s [ ]
+  alike_no_more (l ∷ ls) [] s = elim s [ ]
   alike_no_more (l ∷ ls) (m ∷ ms) (more r e s) = stopped {c = 3} (inl (omega arith, omega arith)) r
 
   -- the parts of a text
