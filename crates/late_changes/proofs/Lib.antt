@@ -10,7 +10,7 @@ pub mod Laid
 pub mod OtherLevel
 pub mod OverlayAcceptance
 pub mod OverlayOnce
-pub mod OverlayRead
+pub mod OverlayReadLaws
 pub mod BlockBack
 pub mod BlocksTogether
 pub mod LineParts

@@ -27,7 +27,7 @@ use Rattle.overlay.specs.declared.read.OverlayRead.{OverlayRead}
 use Rattle.late_changes.specs.DescribesOverlay.{DescribesOverlay}
 use Rattle.late_changes.specs.OverlayRules.{good_overlay, SizedOverlay}
 use Rattle.late_changes.proofs.OverlayRefused.{overlay-refuses}
-use Rattle.late_changes.proofs.OverlayRead.{OverlayIs, overlay_only, reads_described}
+use Rattle.late_changes.proofs.OverlayReadLaws.{OverlayIs, overlay_only, reads_described}
 
 -- the answer accepts t, for this overlay
 abbrev Right : List ℕ → OverlayRead → Type 0

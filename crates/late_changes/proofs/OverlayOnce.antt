@@ -21,7 +21,7 @@ use Rattle.overlay.specs.declared.read.Overlay.{Overlay}
 use Rattle.late_changes.specs.DescribesOverlay.{head_of, overlay_fields, BlocksLines, DescribesOverlay}
 use Rattle.late_changes.specs.OverlayRules.{SizedOverlay}
 use Rattle.late_changes.proofs.BlockPlaces.{spare-sized}
-use Rattle.late_changes.proofs.OverlayRead.{sized-places}
+use Rattle.late_changes.proofs.OverlayReadLaws.{sized-places}
 
 -- the first line of blocks from m on is not that of a module before m
 level-number : (m k : ℕ) (d e : Module) → level_fields m d ≡ level_fields k e → m ≡ k

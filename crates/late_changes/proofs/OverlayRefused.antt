@@ -61,6 +61,8 @@ module _ (R : ℕ → ℕ → Type 0) where
   alike_end : {p : List Line → LinesRead (List Block)} → AlikeReader R p → AlikeReader R (to_end p)
   unfolding goes_on
   alike_end f [] [] none = going none
+  alike_end f [] (m ∷ ms) s = elim s [ ]
+  alike_end f (l ∷ ls) [] s = elim s [ ]
   alike_end f (l ∷ ls) (m ∷ ms) (more r e s) = f (l ∷ ls) (m ∷ ms) (more r e s)
 
   alike_blocks : (o : Options) (n low : ℕ) → AlikeReader R (blocks o n low)

@@ -22,7 +22,7 @@ use Rattle.overlay.specs.declared.read.OverlayRead.{OverlayRead}
 use Rattle.late_changes.specs.DescribesOverlay.{head_of, DescribesOverlay}
 use Rattle.late_changes.specs.OverlayRules.{good_overlay, SizedOverlay}
 use Rattle.late_changes.specs.WrittenOverlay.{block_lines_from, overlay_lines, written_overlay}
-use Rattle.late_changes.proofs.OverlayRead.{sized-places, blocks-spare}
+use Rattle.late_changes.proofs.OverlayReadLaws.{sized-places, blocks-spare}
 use Rattle.late_changes.proofs.OverlayAcceptance.{overlay-good, overlay-sized, describes_accepted}
 use Rattle.late_changes.proofs.WrittenBlocks.{blocks-written, written-some, overlay_plain, overlay-has, overlay-written-short}
 
