@@ -2,7 +2,7 @@
 -- a layout's si, so and cycles (item 8), of the answers themselves where nothing is refused.
 -- Assumes nothing.
 use Prim.Native.Nat.{ℕ, suc, ◌-◌, ◌≤◌, ◌<◌}
-use mathlib.Core.Path.{◌≡◌, refl, sym, ap, ◌∙◌}
+use mathlib.Core.Path.{◌≡◌, refl}
 use mathlib.Core.Bool.{Bool, true, false, cond, ◌&&◌}
 use native.Mathlib.Omega.{arith}
 use borrow.Author.Tests.{leb-true, ltb-true}
@@ -14,7 +14,6 @@ use Rattle.soc.specs.Limits.{chains_max}
 use Rattle.soc.specs.Record.{chains_of, flip_flops}
 use Rattle.soc.specs.Rules.{good_soc}
 use Rattle.soc.specs.Sized.{Sized}
-use Rattle.soc.specs.declared.record.Module.{Module}
 use Rattle.soc.specs.declared.record.Soc.{Soc}
 use Rattle.wrapper_fit.specs.Fit.{longest, total, with_cells}
 use Rattle.wrapper_fit.specs.Maxima.{test_time_max, module_time_max, width_max, capture_max}

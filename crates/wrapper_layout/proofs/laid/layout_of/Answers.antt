@@ -21,7 +21,7 @@ use Rattle.wrapper_layout.specs.LayoutAnswers.{layout_of}
 use Rattle.wrapper_layout.specs.Held.{threading_of}
 use Rattle.wrapper_layout.proofs.LaidLaws.{held-threaded, threaded-length, cells_held, gained-held, map-padded, padded-longest}
 use Rattle.wrapper_layout.proofs.laid.layout_of.Goals as goal
-use Rattle.wrapper_layout.proofs.laid.layout_of.Goals.{After-scan_at-scan, After-thread_chains-threads, After-with_cells-scan_in, After-with_cells-scan_out, After-with_cells-with_bidirs, Start}
+use Rattle.wrapper_layout.proofs.laid.layout_of.Goals.{After-scan_at-scan, After-thread_chains-threads, After-with_cells-scan_in, After-with_cells-scan_out, After-with_cells-with_bidirs}
 
 -- the module's chains in the wrapper
 abbrev chains : After-thread_chains-threads → Threaded
@@ -47,39 +47,31 @@ front-longest k a l e h = ap (λ x. longest (take k x)) e ∙ ap longest (rw h a
 
 -- the lengths with the bidirectional cells
 abbrev threads : After-with_cells-with_bidirs → After-thread_chains-threads
-threads c = c
-
--- the module, the test and the width, where the scan lengths are known
-abbrev start : After-scan_at-scan → Start
-start c = (threads (goal.at.After-scan_at-scan c).After-with_cells-with_bidirs).before.before
+threads c = (goal.at.After-with_cells-with_bidirs c).After-thread_chains-threads
 
 abbrev shared : After-with_cells-with_bidirs → List ℕ
-shared c = with_bidirs (threads c).before.before.args.d (chains (threads c))
+shared c = with_bidirs c.args.d (chains (threads c))
 
 with-bidirs : (c : After-with_cells-with_bidirs) → c.with_cells-with_bidirs.result ≡ padded width_max 0 (shared c)
 with-bidirs c = let t = threads c in
-    let s = t.before.before in
-    c.with_cells-with_bidirs.ensures ∙ cells_held s.args.d.bidirs s.args.k _ (chains t).lengths (lengths t) (long t)
+    c.with_cells-with_bidirs.ensures ∙ cells_held c.args.d.bidirs c.args.k _ (chains t).lengths (lengths t) (long t)
 
-shared_long : (c : After-with_cells-with_bidirs) → length (shared c) ≡ (threads c).before.before.args.k
-shared_long c = let t = threads c in cells_length t.before.before.args.d.bidirs (chains t).lengths ∙ long t
+shared_long : (c : After-with_cells-with_bidirs) → length (shared c) ≡ c.args.k
+shared_long c = let t = threads c in cells_length c.args.d.bidirs (chains t).lengths ∙ long t
 
-shared-short : (c : After-with_cells-with_bidirs) → longest (take (threads c).before.before.args.k c.with_cells-with_bidirs.result) ≤ 270335
+shared-short : (c : After-with_cells-with_bidirs) → longest (take c.args.k c.with_cells-with_bidirs.result) ≤ 270335
 shared-short c = let t = threads c in
-    let s = t.before.before in
-    rw (front-longest s.args.k c.with_cells-with_bidirs.result (shared c) (with-bidirs c) (shared_long c))
-    (omega (arith, longest_cells s.args.d.bidirs (chains t).lengths, short t, s.pre.0.bidirs))
+    rw (front-longest c.args.k c.with_cells-with_bidirs.result (shared c) (with-bidirs c) (shared_long c))
+    (omega (arith, longest_cells c.args.d.bidirs (chains t).lengths, short t, c.requires.0.bidirs))
 
 -- and with the input cells too, and with the output cells
 scan-in : (c : After-with_cells-scan_in) →
-    c.with_cells-scan_in.result ≡ padded width_max 0 (with_cells (threads (goal.at.After-with_cells-scan_in c).After-with_cells-with_bidirs).before.before.args.d.inputs (shared (goal.at.After-with_cells-scan_in c).After-with_cells-with_bidirs))
-scan-in c = let s = (threads (goal.at.After-with_cells-scan_in c).After-with_cells-with_bidirs).before.before in
-    c.with_cells-scan_in.ensures ∙ cells_held s.args.d.inputs s.args.k _ (shared (goal.at.After-with_cells-scan_in c).After-with_cells-with_bidirs) (with-bidirs (goal.at.After-with_cells-scan_in c).After-with_cells-with_bidirs) (shared_long (goal.at.After-with_cells-scan_in c).After-with_cells-with_bidirs)
+    c.with_cells-scan_in.result ≡ padded width_max 0 (with_cells c.args.d.inputs (shared (goal.at.After-with_cells-scan_in c).After-with_cells-with_bidirs))
+scan-in c = c.with_cells-scan_in.ensures ∙ cells_held c.args.d.inputs c.args.k _ (shared (goal.at.After-with_cells-scan_in c).After-with_cells-with_bidirs) (with-bidirs (goal.at.After-with_cells-scan_in c).After-with_cells-with_bidirs) (shared_long (goal.at.After-with_cells-scan_in c).After-with_cells-with_bidirs)
 
 scan-out : (c : After-with_cells-scan_out) →
-    c.with_cells-scan_out.result ≡ padded width_max 0 (with_cells (threads (goal.at.After-with_cells-scan_out c).After-with_cells-with_bidirs).before.before.args.d.outputs (shared (goal.at.After-with_cells-scan_out c).After-with_cells-with_bidirs))
-scan-out c = let s = (threads (goal.at.After-with_cells-scan_out c).After-with_cells-with_bidirs).before.before in
-    c.with_cells-scan_out.ensures ∙ cells_held s.args.d.outputs s.args.k _ (shared (goal.at.After-with_cells-scan_out c).After-with_cells-with_bidirs) (with-bidirs (goal.at.After-with_cells-scan_out c).After-with_cells-with_bidirs) (shared_long (goal.at.After-with_cells-scan_out c).After-with_cells-with_bidirs)
+    c.with_cells-scan_out.result ≡ padded width_max 0 (with_cells c.args.d.outputs (shared (goal.at.After-with_cells-scan_out c).After-with_cells-with_bidirs))
+scan-out c = c.with_cells-scan_out.ensures ∙ cells_held c.args.d.outputs c.args.k _ (shared (goal.at.After-with_cells-scan_out c).After-with_cells-with_bidirs) (with-bidirs (goal.at.After-with_cells-scan_out c).After-with_cells-with_bidirs) (shared_long (goal.at.After-with_cells-scan_out c).After-with_cells-with_bidirs)
 
 pub thread_chains-threads-requires : goal.thread_chains-threads-requires
 thread_chains-threads-requires c = (c.requires.2, c.requires.3, rw c.order_of.ensures (kept_threadable c.args.d c.args.t.scan_use c.requires.0))
@@ -88,30 +80,24 @@ pub with_cells-with_bidirs-requires : goal.with_cells-with_bidirs-requires
 with_cells-with_bidirs-requires c = omega (arith, c.requires, c.requires.0.bidirs, front-longest c.args.k _ (chains (goal.at.with_cells-with_bidirs-requires c).After-thread_chains-threads).lengths (lengths (goal.at.with_cells-with_bidirs-requires c).After-thread_chains-threads) (long (goal.at.with_cells-with_bidirs-requires c).After-thread_chains-threads), short (goal.at.with_cells-with_bidirs-requires c).After-thread_chains-threads)
 
 pub with_cells-scan_in-requires : goal.with_cells-scan_in-requires
-with_cells-scan_in-requires c = let s = (threads (goal.at.with_cells-scan_in-requires c).After-with_cells-with_bidirs).before.before in
-    omega (arith, s.pre, s.pre.0.inputs, shared-short (goal.at.with_cells-scan_in-requires c).After-with_cells-with_bidirs)
+with_cells-scan_in-requires c = omega (arith, c.requires, c.requires.0.inputs, shared-short (goal.at.with_cells-scan_in-requires c).After-with_cells-with_bidirs)
 
 pub with_cells-scan_out-requires : goal.with_cells-scan_out-requires
-with_cells-scan_out-requires c = let s = (threads (goal.at.with_cells-scan_out-requires c).After-with_cells-with_bidirs).before.before in
-    omega (arith, s.pre, s.pre.0.outputs, shared-short (goal.at.with_cells-scan_out-requires c).After-with_cells-with_bidirs)
+with_cells-scan_out-requires c = omega (arith, c.requires, c.requires.0.outputs, shared-short (goal.at.with_cells-scan_out-requires c).After-with_cells-with_bidirs)
 
 -- the scan lengths are those of the rule
 scanned : (c : After-scan_at-scan) →
-    let s = start c in
-    c.scan_at-scan.result ≡ scan_with s.args.d s.args.t.scan_use s.args.k
-scanned c = let s = start c in
-    c.scan_at-scan.ensures ∙ ap (λ o. scan_of s.args.d o s.args.k) c.lengths_of.ensures
+    c.scan_at-scan.result ≡ scan_with c.args.d c.args.t.scan_use c.args.k
+scanned c = c.scan_at-scan.ensures ∙ ap (λ o. scan_of c.args.d o c.args.k) c.lengths_of.ensures
 
 pub scan_at-scan-requires : goal.scan_at-scan-requires
-scan_at-scan-requires c = let s = (threads (goal.at.scan_at-scan-requires c).After-with_cells-with_bidirs).before.before in
-    let k : Measured c.lengths_of.result =
-    rw c.lengths_of.ensures (kept_measured s.args.d s.args.t.scan_use s.pre.0)
+scan_at-scan-requires c = let k : Measured c.lengths_of.result =
+    rw c.lengths_of.ensures (kept_measured c.args.d c.args.t.scan_use c.requires.0)
     in
-    (omega (arith, s.pre.2), omega (arith, s.pre.3), k)
+    (omega (arith, c.requires.2), omega (arith, c.requires.3), k)
 
 pub cycles_of-cycles-requires : goal.cycles_of-cycles-requires
-cycles_of-cycles-requires c = let s = start c in
-    (rw (scanned c) (short-scan s.args.d s.args.t.scan_use s.args.k s.pre.0), s.pre.1, omega (arith, s.pre.4))
+cycles_of-cycles-requires c = (rw (scanned c) (short-scan c.args.d c.args.t.scan_use c.args.k c.requires.0), c.requires.1, omega (arith, c.requires.4))
 
 pub flip_flops_of-requires : goal.flip_flops_of-requires
 flip_flops_of-requires c = let t = threads (goal.at.flip_flops_of-requires c).After-with_cells-with_bidirs in
@@ -120,8 +106,7 @@ flip_flops_of-requires c = let t = threads (goal.at.flip_flops_of-requires c).Af
 pub returns : goal.returns
 unfolding layout_of
 returns c = let t = threads (goal.at.returns c).After-with_cells-with_bidirs in
-    let s = t.before.before in
-    let d = s.args.d in
+    let d = c.args.d in
     let n = cells_length d.bidirs (chains t).lengths in
     let e0 = c.none.ensures in
     let e1 = ap (λ c. c.places) (held t) in
@@ -131,8 +116,8 @@ returns c = let t = threads (goal.at.returns c).After-with_cells-with_bidirs in
     let e4 = c.gained_by-2.ensures
     ∙ gained-held _ _ _ _ (with-bidirs (goal.at.returns c).After-with_cells-with_bidirs) (scan-out (goal.at.returns c).After-with_cells-scan_out) (sym (cells_length d.outputs (shared (goal.at.returns c).After-with_cells-with_bidirs))) in
     let e5 = c.gained_by-3.ensures ∙ gained-held _ _ _ _ (lengths t) (with-bidirs (goal.at.returns c).After-with_cells-with_bidirs) (sym n) in
-    let e6 = scanned (goal.at.returns c).After-scan_at-scan ∙ scan-is d s.args.t.scan_use s.args.k in
+    let e6 = scanned (goal.at.returns c).After-scan_at-scan ∙ scan-is d c.args.t.scan_use c.args.k in
     let e7 = c.cycles_of-cycles.ensures
-    ∙ ap (λ a. test_cycles s.args.capture a.si a.so s.args.t.patterns) (scanned (goal.at.returns c).After-scan_at-scan)
-    ∙ scan-time s.args.capture d s.args.k s.args.t in
+    ∙ ap (λ a. test_cycles c.args.capture a.si a.so c.args.t.patterns) (scanned (goal.at.returns c).After-scan_at-scan)
+    ∙ scan-time c.args.capture d c.args.k c.args.t in
     rw (e0, e1, e2, e3, e4, e5, ap (λ a. a.si) e6, ap (λ a. a.so) e6, e7)

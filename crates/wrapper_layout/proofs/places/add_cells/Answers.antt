@@ -26,7 +26,7 @@ place-requires c = omega (arith, c.loop-i.invariant, c.requires)
 
 pub loop-i-preserved : goal.loop-i-preserved
 loop-i-preserved c = let p = c.place in
-    let e : p.new.0 ≡ placed 1 c.loop-i.l = p.ensures.1 in (
+    let e : p.new.l ≡ placed 1 c.loop-i.l = p.ensures.1 in (
       omega arith,
       ap length e ∙ placed-length 1 c.loop-i.l ∙ c.loop-i.invariant.1,
       rw e (omega (arith, c.loop-i.invariant.2, longest-placed 1 c.loop-i.l)),

@@ -1,6 +1,6 @@
 -- `wrapper_layout::places::add_cells` meets its contract. The loop's invariant: all the cells in the old lengths are those that are left in
 -- the present ones, of which the longest grew by at most `i`. The measure is what is left of `n`. Assumes nothing.
-use Prim.Native.Nat.{ℕ, ◌+◌, ◌-◌, ◌≤◌}
+use Prim.Native.Nat.{◌+◌, ◌-◌, ◌≤◌}
 use mathlib.Core.Path.{◌≡◌}
 use lib.ListN.{length}
 use Rattle.wrapper_fit.specs.Fit.{longest, with_cells}

@@ -88,7 +88,7 @@ loop-i-preserved c = let k = c.args.k in
     let o = c.args.o in
     let ch = get_or o.chains i no_chain in
     let ls = take k c.loop-i.lengths in
-    let last = c.place-at.new.0 in
+    let last = c.place-at.new.l in
     let below : i < o.count = c.loop-i-test.true in
     let e : last ≡ placed ch.length ls = c.place-at.ensures.1 in
     let n : length last ≡ k = ap length e ∙ placed-length ch.length ls ∙ part (goal.at.loop-i-preserved c).At-loop-i in

@@ -1,5 +1,4 @@
 use native.Mathlib.Omega.{arith}
-use Prim.Native.Nat.{◌-◌}
 use mathlib.Core.Path.{◌≡◌, refl, sym, ◌∙◌}
 use mathlib.Core.Logic.{inl}
 use mathlib.Core.Bool.{false}
@@ -9,7 +8,7 @@ use Rattle.units.proofs.PlaceLaws.{any_front_step, any_front_found, any_front_en
 use Rattle.units.proofs.TestLaws.{and_stops, and_goes}
 use Rattle.wrapper_times.specs.Sums.{planned_with}
 use Rattle.wrapper_times.proofs.times.is_planned_with.Goals as goal
-use Rattle.wrapper_times.proofs.times.is_planned_with.Goals.{Joined-t, Start, then-t, else-t}
+use Rattle.wrapper_times.proofs.times.is_planned_with.Goals.{Joined-t, Start, then-t+else-t-scan, else-t}
 
 len : (c : Start) → length c.args.d.tests ≡ 8
 len c = c.well_formed.0.1.1.1.1.1.1.1.1.1.1.1.0.1.0.1
@@ -18,7 +17,7 @@ len c = c.well_formed.0.1.1.1.1.1.1.1.1.1.1.1.0.1.0.1
 passed : (c : Joined-t)
     → planned_with c.args.scan
     (get_or c.args.d.tests c.loop-i.i no_test) ≡ false
-passed c = (elim c.if-t.branch [ then-t w ↦ and_goes _ _ w.if-t.true ∙ w.2.left | else-t w ↦ and_stops _ _ w.if-t.false ])
+passed c = (elim c.if-t.branch [ then-t+else-t-scan w ↦ and_goes _ _ w.if-t.true ∙ w.if-t-scan.false | else-t w ↦ and_stops _ _ w.if-t.false ])
 
 pub loop-i-init : goal.loop-i-init
 loop-i-init c = (omega arith, refl)

@@ -1,5 +1,5 @@
 use native.Mathlib.Omega.{arith}
-use Prim.Native.Nat.{ℕ, ◌+◌, ◌-◌, ◌<◌}
+use Prim.Native.Nat.{ℕ, ◌+◌, ◌<◌}
 use mathlib.Core.Path.{◌≡◌, sym, ap, ◌∙◌}
 use mathlib.Core.List.{List}
 use lib.ListN.{set, replicate}
@@ -62,9 +62,9 @@ loop-u-preserved c = let d = c.args.d in
       omega (arith, c.loop-u-test.true),
       (elim c.if-f-best.branch [
         | then-f-best w ↦ let e = best_less x d u c.loop-u.invariant.0 (omega (arith, f, k.least, w.if-f-best.true)) in
-            more (w.1 ∙ f ∙ sym (ap (λ b. b.cycles) e)) (w.2 ∙ sym (ap (λ b. b.wires) e))
+            more (w.best-is ∙ f ∙ sym (ap (λ b. b.cycles) e)) (w.at-is ∙ sym (ap (λ b. b.wires) e))
         | else-f-best w ↦ let e = best_stays x d u c.loop-u.invariant.0 (omega (arith, f, k.least, w.if-f-best.false)) in
-            more (w.1 ∙ k.least ∙ sym (ap (λ b. b.cycles) e)) (w.2 ∙ k.width ∙ sym (ap (λ b. b.wires) e))
+            more (w.best-is ∙ k.least ∙ sym (ap (λ b. b.cycles) e)) (w.at-is ∙ k.width ∙ sym (ap (λ b. b.wires) e))
       ]),
     )
 

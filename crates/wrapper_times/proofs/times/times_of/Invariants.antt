@@ -15,10 +15,10 @@ use Rattle.wrapper_times.proofs.times.times_of.Given as goal
 
 -- the best at width u, and the arrays of the widths 1 to u
 pub record Held (c : ℕ) (d : Module) (u best at : ℕ) (cs : List Cycles) (ws : List Wires) : Type 0 where
-  least : best ≡ (module_best c d u).cycles
-  width : at ≡ (module_best c d u).wires
-  times : cs ≡ padded width_max (cycles 0) (map cycles_in (bests_from c d u 1))
-  places : ws ≡ padded width_max (wires 0) (map wires_in (bests_from c d u 1))
+  pub least : best ≡ (module_best c d u).cycles
+  pub width : at ≡ (module_best c d u).wires
+  pub times : cs ≡ padded width_max (cycles 0) (map cycles_in (bests_from c d u 1))
+  pub places : ws ≡ padded width_max (wires 0) (map wires_in (bests_from c d u 1))
 
 abbrev pub invariant-loop-u : goal.invariant-loop-u
 invariant-loop-u l = (0 < l.u) × (l.u ≤ l.w) × Held l.capture l.d l.u l.best l.at l.cycles l.wires
