@@ -1,4 +1,4 @@
-use Prim.Native.Nat.{◌<◌, ◌-◌}
+use Prim.Native.Nat.{◌<◌}
 use mathlib.Core.Path.{◌≡◌, sym, ◌∙◌}
 use native.Mathlib.Omega.{arith}
 use lib.ListN.{length, drop}
@@ -39,7 +39,7 @@ loop-i-preserved c = let p = c.args.p in
 pub returns : goal.returns
 unfolding start_of
 returns c = let a = c.args in
-    let p = a.t1 in
+    let p = a.p in
     let none = front-none p.module_count p.modules c.loop-i.i c.loop-i-test.false in
     let e : start_of (drop c.loop-i.i (modules_of p)) a.m ≡ 0 = rw none in
     omega arith

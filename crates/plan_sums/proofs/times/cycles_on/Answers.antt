@@ -1,4 +1,4 @@
-use Prim.Native.Nat.{◌<◌, ◌-◌}
+use Prim.Native.Nat.{◌<◌}
 use mathlib.Core.Path.{◌≡◌}
 use native.Mathlib.Omega.{arith}
 use lib.ListN.{length, drop}
@@ -38,5 +38,5 @@ loop-i-preserved c = let p = c.args.p in
 pub returns : goal.returns
 unfolding cycles_on
 returns c = let a = c.args in
-    let e : cycles_on a.b (drop c.loop-i.i (modules_of a.t1)) ≡ 0 = rw (front-none a.t1.module_count a.t1.modules c.loop-i.i c.loop-i-test.false) in
+    let e : cycles_on a.b (drop c.loop-i.i (modules_of a.p)) ≡ 0 = rw (front-none a.p.module_count a.p.modules c.loop-i.i c.loop-i-test.false) in
     omega arith
