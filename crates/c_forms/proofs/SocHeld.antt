@@ -18,27 +18,27 @@ use Rattle.soc.specs.contracts.record.Module as module-type
 use Rattle.soc.specs.contracts.record.Soc as soc-type
 
 -- what is so of each value that is held is so of each value in an array that is held
-each-held : {A B : Type 0} (to : A → B) (own : B → List Val → Fml) (P : A → Type 0)
-    → ((x : A) (u : Val) → shadow (own (to x) (u ∷ [])) → P x)
-    → (xs : List A) (us : List Val) → shadow (each B own (map to xs) us) → (z : A) (i : ℕ) → i < length xs → P (get_or xs i z)
-each-held to own P h [] us s z i l = absurd (omega arith)
-each-held to own P h (x ∷ xs) [] s z i l = absurd s
-each-held to own P h (x ∷ xs) (u ∷ us) s z zero l = h x u s.0
-each-held to own P h (x ∷ xs) (u ∷ us) s z (suc i) l = each-held to own P h xs us s.1 z i (omega arith)
+each-held : {A : Type 0} (own : A → List Val → Fml) (P : A → Type 0)
+    → ((x : A) (u : Val) → shadow (own x (u ∷ [])) → P x)
+    → (xs : List A) (us : List Val) → shadow (each A own xs us) → (z : A) (i : ℕ) → i < length xs → P (get_or xs i z)
+each-held own P h [] us s z i l = absurd (omega arith)
+each-held own P h (x ∷ xs) [] s z i l = absurd s
+each-held own P h (x ∷ xs) (u ∷ us) s z zero l = h x u s.0
+each-held own P h (x ∷ xs) (u ∷ us) s z (suc i) l = each-held own P h xs us s.1 z i (omega arith)
 
-held_module : (d : Module) (u : Val) → shadow ((module-type.the_field).row.own_val ((module-type.the_type).to d) (u ∷ [])) → SizedModule d
+held_module : (d : Module) (u : Val) → shadow ((module-type.the_row).own_val d (u ∷ [])) → SizedModule d
 held_module d u h = record {
-  chains = simp length-map at h.1.1.1.1.1.1.1.0.1.0.1;
-  tests = simp length-map at h.1.1.1.1.1.1.1.1.1.1.1.0.1.0.1;
+  chains = h.1.1.1.1.1.1.1.0.1.0.1;
+  tests = h.1.1.1.1.1.1.1.1.1.1.1.0.1.0.1;
 }
 
 pub held-soc : (s : Soc) (vs : List Val) → Is (declared.row soc-type.the_type) s vs → Sized s
 held-soc s vs h =
     let m = h.1.1.1.1.1.1.1.0 in
-    let n : length s.modules ≡ 40 = simp length-map at m.1.0.1 in
+    let n : length s.modules ≡ 40 = m.1.0.1 in
     record {
-      name = simp length-map at h.1.1.1.0.1.0.1;
+      name = h.1.1.1.0.1.0.1;
       modules = n;
-      each = λ i l. each-held (module-type.the_type).to (module-type.the_field).row.own_val SizedModule held_module s.modules m.0
+      each = λ i l. each-held (module-type.the_row).own_val SizedModule held_module s.modules m.0
           m.1.1 no_module i (omega arith);
     }

@@ -1,6 +1,7 @@
 // SOC records, plan records, layouts and what was found within a budget as bytes, for callers in other languages: each figure at its own
 // place, the lowest byte first.
 #![tactic(auto)]
+
 mod budget_form;
 mod layout_form;
 mod plan_form;

@@ -1,5 +1,6 @@
 // The first planner (document 01, "The plan"): the first plan of least time.
 #![tactic(auto)]
+
 mod answer;
 mod entry;
 mod limits;

@@ -1,0 +1,30 @@
+use native.Mathlib.Omega.{arith}
+use Prim.Native.Nat.{◌-◌}
+use mathlib.Core.Path.{◌≡◌}
+use lib.ListN.{length}
+use Rattle.little_endian.proofs.RowLaws.{run_none}
+use Rattle.plan_record.specs.Record.{module_places, no_placed}
+use Rattle.c_forms.specs.PlanForm.{placed_stride, placed_bytes}
+use Rattle.c_forms.proofs.PutOfLaws.{run-part, run-put}
+use Rattle.c_forms.proofs.plan_form.put_modules.Goals as goal
+use Rattle.c_forms.proofs.plan_form.put_modules.Goals.{Start}
+
+len : (s : Start) → length s.args.p.modules ≡ module_places
+len c = c.well_formed.1.1.0.1.1.1.1.1.1.1.0.1.0.1
+
+pub loop-i-init : goal.loop-i-init
+loop-i-init c = (omega arith, run_none placed_bytes placed_stride _ _ _)
+
+pub put_placed-e-requires : goal.put_placed-e-requires
+put_placed-e-requires c = omega (arith, c.loop-i.invariant.1.behind, c.loop-i.invariant.1.kept, c.requires)
+
+pub loop-i-preserved : goal.loop-i-preserved
+loop-i-preserved c = let n =
+    run-part placed_bytes placed_stride c.args.p.modules no_placed (omega (arith, len (goal.at.loop-i-preserved c).Start)) (omega (arith, c.requires)) c.loop-i.invariant.1 in
+    (omega arith, n c.put_placed-e.auto.buf c.put_placed-e.ensures)
+
+pub shape_of-buf : goal.shape_of-buf
+shape_of-buf c = c.loop-i.invariant.1.kept
+
+pub returns : goal.returns
+returns c = run-put placed_bytes placed_stride _ module_places (len (goal.at.returns c).Start) (omega arith) c.loop-i.invariant.1

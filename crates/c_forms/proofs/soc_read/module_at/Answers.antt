@@ -1,0 +1,21 @@
+-- `c_forms::soc_read::module_at` meets its contract: its fields are those of `module_at`, in order. Assumes nothing.
+use Rattle.soc.proofs.FigureLaws.{figure_back}
+use Rattle.c_forms.proofs.soc_read.module_at.Goals as goal
+
+pub returns : goal.returns
+returns c = rw (
+  c.word_at.ensures,
+  c.word_at-2.ensures,
+  c.word_at-3.ensures,
+  c.word_at-4.ensures,
+  c.word_at-5.ensures,
+  c.lengths_at.ensures,
+  figure_back c.signed_in.result (record { sfits = c.signed_in.type_inv }),
+  c.signed_in.ensures,
+  c.word_at-6.ensures,
+  figure_back c.signed_in-2.result (record { sfits = c.signed_in-2.type_inv }),
+  c.signed_in-2.ensures,
+  c.word_at-7.ensures,
+  c.word_at-8.ensures,
+  c.tests_at.ensures,
+)

@@ -1,0 +1,58 @@
+use borrow.Author.Count.{below_more}
+use Prim.Native.Nat.{ℕ, ◌+◌, ◌-◌, ◌*◌, ◌<◌}
+use mathlib.Core.Path.{◌≡◌, refl, ◌∙◌}
+use mathlib.Core.List.{List}
+use native.Mathlib.Omega.{arith}
+use lib.Seq.{get_or-set_same, get_or-set_other}
+use lib.ListN.{length, length-set, get_or, set}
+use Rattle.wrapper_fit.specs.Counts as counts
+use Rattle.plan_search.specs.Search.{row_places}
+use Rattle.plan.specs.Tables.{table_places}
+use Rattle.plan.proofs.tables.with_times.Invariants.{Stands}
+use Rattle.plan.proofs.tables.with_times.Goals as goal
+use Rattle.plan.proofs.tables.with_times.Goals.{Start}
+
+module _ {A : Type 0} {f : A → ℕ} {z : A} {at : ℕ} {xs : List A} {old : List ℕ} where
+  stands-none : length old ≡ table_places → Stands f z at 0 xs old old
+  stands-none l = record { long = l; here = λ w h. absurd (omega arith); front = λ i h. refl; behind = λ i h. refl }
+
+  stands_more : {j : ℕ} {new : List ℕ} → at + j < table_places → Stands f z at j xs old new → Stands f z at (j + 1) xs old (set new (at + j) (f (get_or xs j z)))
+  stands_more {j} {new} l s =
+      let v = f (get_or xs j z) in
+      record {
+        long = simp length-set s.long;
+        here =
+            below_more _ _
+            (λ w h. get_or-set_other new (at + j) (at + w) v 0 (λ e. omega arith) ∙ s.here w h)
+            (get_or-set_same new (at + j) v 0 (omega arith));
+        front = λ i h. get_or-set_other new (at + j) i v 0 (λ e. omega arith) ∙ s.front i h;
+        behind = λ i h. get_or-set_other new (at + j) i v 0 (λ e. omega arith) ∙ s.behind i (omega arith);
+      }
+
+-- the tables have their places
+len-cycles : (c : Start) → length c.args.t.cycles ≡ table_places
+len-cycles c = c.well_formed.0.1.1.0.1.0.1
+
+len-wires : (c : Start) → length c.args.t.wires ≡ table_places
+len-wires c = c.well_formed.0.1.1.1.0.1.0.1
+
+pub loop-j-init : goal.loop-j-init
+loop-j-init c = (omega arith, c.requires, stands-none (len-cycles (goal.at.loop-j-init c).Start), stands-none (len-wires (goal.at.loop-j-init c).Start))
+
+pub loop-j-preserved : goal.loop-j-preserved
+loop-j-preserved c = let i = c.loop-j.invariant in
+    let at = c.args.k * row_places + c.loop-j.j in
+    let m : at < table_places = omega arith in
+    (omega arith, i.1, stands_more m i.2, stands_more m i.3)
+
+pub returns : goal.returns
+returns c = let i = c.loop-j.invariant in
+    let e : c.loop-j.j ≡ row_places = omega arith in
+    let x = rw e at i.2 in
+    let y = rw e at i.3 in
+    record {
+      cycles-here = x.here;
+      wires-here = y.here;
+      cycles_else = λ j. (x.front j, x.behind j);
+      wires_else = λ j. (y.front j, y.behind j);
+    }
