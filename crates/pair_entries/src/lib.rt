@@ -1,5 +1,6 @@
 // "Plan, layout and writing work on the pair." (document 02, item 3): each entry on a SOC record, asked of a base and an overlay.
 #![tactic(auto)]
+
 mod laid;
 mod planned;
 mod timed;
