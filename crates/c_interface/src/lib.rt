@@ -1,6 +1,7 @@
 // Every entry of the library for callers in other languages, on numbers and bytes (include/tallowwing.h). An answer is one number: its lowest byte
 // is the refusal's number or 0, above it stands the refusal's line, or the figure that the function gives.
 #![tactic(auto)]
+
 ghost use Rattle.std.specs.Prelude.{◌≡◌};
 ghost use Rattle.c_interface.specs.Codes.{above, code, bytes_code, read_code, read_held, write_code, write_held, layout_code, layout_held, module_time_code, module_wires_code, plan_code, plan_held, write_plan_code, write_plan_held, read_plan_code, read_plan_held, listing_code, listing_held, show_code, show_held, meant_number, pair_refused, read_pair_code, read_pair_held, part_figure, module_lines_code};
 ghost use Rattle.c_interface.specs.Codes.{pair_figure, write_pair_code, layout_pair_code, layout_pair_held};
