@@ -4,6 +4,7 @@ use super::lent::{BEFORE, at_most, kept_to};
 use super::print::{BOTH_PADDED, END, INTO, MEANT, PAIR, print, print_line, read_text};
 use pair::Meant;
 use pair_entries::{layout_pair, module_time_pair, plan_pair, write_pair};
+use std::io;
 use units::{CaptureCycles, Refusal, Wires};
 
 // The text that a refusal is about: 0 neither, 1 the base, 2 the overlay.
@@ -15,87 +16,127 @@ fn text_of(m: Meant) -> u64 {
     }
 }
 
-fn print_time(r: Refusal, m: Meant, time: u64) {
-    print_line(PAIR, r.number as u64, r.line as u64, text_of(m), time);
+fn print_time(rt: &HostRuntime, r: Refusal, m: Meant, time: u64) -> io::Result<()> {
+    print_line(rt, PAIR, r.number as u64, r.line as u64, text_of(m), time)
 }
 
 // The plan's time of a pair.
-fn show_planned(base: &[u8], overlay: &[u8], w: u32, b: u32, capture: u32) {
+fn show_planned(
+    rt: &HostRuntime,
+    base: &[u8],
+    overlay: &[u8],
+    w: u32,
+    b: u32,
+    capture: u32,
+) -> io::Result<()> {
     let planned = plan_pair(base, overlay, Wires(w), b, CaptureCycles(capture));
     let meant = planned.meant;
-    print_time(planned.answer.refusal, meant, planned.answer.plan.time.0);
+    print_time(
+        rt,
+        planned.answer.refusal,
+        meant,
+        planned.answer.plan.time.0,
+    )
 }
 
 // The plan's time of the pair that is arguments i and j.
-pub(crate) fn show_pair(i: usize, j: usize, w: u32, b: u32, capture: u32) {
-    let mut base = io::large_buffer();
-    let n = read_text(i, &mut base);
-    let mut overlay = io::large_buffer();
-    let k = read_text(j, &mut overlay);
-    show_planned(&base[..n], &overlay[..k], w, b, capture);
+pub(crate) fn show_pair(
+    rt: &HostRuntime,
+    i: usize,
+    j: usize,
+    w: u32,
+    b: u32,
+    capture: u32,
+) -> io::Result<()> {
+    let mut base = [0u8; 65536];
+    let n = read_text(rt, i, &mut base)?;
+    let mut overlay = [0u8; 65536];
+    let k = read_text(rt, j, &mut overlay)?;
+    show_planned(rt, &base[..n], &overlay[..k], w, b, capture)
 }
 
 // The same of both texts with blank lines behind them, n and k bytes in all.
-pub(crate) fn show_padded_pair(i: usize, j: usize, n: usize, k: usize) {
+pub(crate) fn show_padded_pair(
+    rt: &HostRuntime,
+    i: usize,
+    j: usize,
+    n: usize,
+    k: usize,
+) -> io::Result<()> {
     let mut base = [b'\n'; 65536];
-    read_text(i, &mut base);
+    read_text(rt, i, &mut base)?;
     let mut overlay = [b'\n'; 65536];
-    read_text(j, &mut overlay);
-    print_line(BOTH_PADDED, n as u64, k as u64, 0, 0);
+    read_text(rt, j, &mut overlay)?;
+    print_line(rt, BOTH_PADDED, n as u64, k as u64, 0, 0)?;
     let to = at_most(n, &base);
     let end = at_most(k, &overlay);
-    show_planned(&base[..to], &overlay[..end], 4, 2, 1);
+    show_planned(rt, &base[..to], &overlay[..end], 4, 2, 1)
 }
 
 // The time of a test of a module of the pair that is arguments i and j, as its layout has it, and then the module's.
-pub(crate) fn show_asked(i: usize, j: usize, module: u32, test: u32, width: u32, capture: u32) {
-    let mut base = io::large_buffer();
-    let n = read_text(i, &mut base);
-    let mut overlay = io::large_buffer();
-    let k = read_text(j, &mut overlay);
+pub(crate) fn show_asked(
+    rt: &HostRuntime,
+    i: usize,
+    j: usize,
+    module: u32,
+    test: u32,
+    width: u32,
+    capture: u32,
+) -> io::Result<()> {
+    let mut base = [0u8; 65536];
+    let n = read_text(rt, i, &mut base)?;
+    let mut overlay = [0u8; 65536];
+    let k = read_text(rt, j, &mut overlay)?;
     let c = CaptureCycles(capture);
     let laid = layout_pair(&base[..n], &overlay[..k], module, test, Wires(width), c);
     let meant = laid.meant;
-    print_time(laid.answer.refusal, meant, laid.answer.cycles.0);
+    print_time(rt, laid.answer.refusal, meant, laid.answer.cycles.0)?;
     let time = module_time_pair(&base[..n], &overlay[..k], module, Wires(width), c);
     let about = time.meant;
-    print_time(time.answer.refusal, about, time.answer.cycles.0);
+    print_time(rt, time.answer.refusal, about, time.answer.cycles.0)
 }
 
 // Lends the writer the first n bytes of a buffer, and prints what it wrote.
-fn show_into(base: &[u8], overlay: &[u8], buf: &mut [u8], n: usize) {
+fn show_into(
+    rt: &HostRuntime,
+    base: &[u8],
+    overlay: &[u8],
+    buf: &mut [u8],
+    n: usize,
+) -> io::Result<()> {
     let k = at_most(n, &*buf);
     let w = write_pair(base, overlay, &mut buf[..k]);
     let meant = w.meant;
     let end = kept_to(&*buf, w.answer.len);
-    print_line(MEANT, text_of(meant), 0, 0, 0);
+    print_line(rt, MEANT, text_of(meant), 0, 0, 0)?;
     print_line(
+        rt,
         INTO,
         k as u64,
         w.answer.refusal.number as u64,
         w.answer.len as u64,
         end as u64,
-    );
+    )?;
     let to = at_most(w.answer.len, &*buf);
-    print(&buf[..to]);
+    print(rt, &buf[..to])
 }
 
 // The written form of the pair that is arguments i and j, in n bytes.
-pub(crate) fn show_written(i: usize, j: usize, n: usize) {
-    let mut base = io::large_buffer();
-    let k = read_text(i, &mut base);
-    let mut overlay = io::large_buffer();
-    let o = read_text(j, &mut overlay);
+pub(crate) fn show_written(rt: &HostRuntime, i: usize, j: usize, n: usize) -> io::Result<()> {
+    let mut base = [0u8; 65536];
+    let k = read_text(rt, i, &mut base)?;
+    let mut overlay = [0u8; 65536];
+    let o = read_text(rt, j, &mut overlay)?;
     let mut form = [BEFORE; 65536];
-    show_into(&base[..k], &overlay[..o], &mut form, n);
+    show_into(rt, &base[..k], &overlay[..o], &mut form, n)
 }
 
 // The lines of a module of the pair that is arguments i and j.
-pub(crate) fn show_lines(i: usize, j: usize, module: u32) {
-    let mut base = io::large_buffer();
-    let n = read_text(i, &mut base);
-    let mut overlay = io::large_buffer();
-    let k = read_text(j, &mut overlay);
-    print(pair::module_lines(&base[..n], &overlay[..k], module));
-    print_line(END, 0, 0, 0, 0);
+pub(crate) fn show_lines(rt: &HostRuntime, i: usize, j: usize, module: u32) -> io::Result<()> {
+    let mut base = [0u8; 65536];
+    let n = read_text(rt, i, &mut base)?;
+    let mut overlay = [0u8; 65536];
+    let k = read_text(rt, j, &mut overlay)?;
+    print(rt, pair::module_lines(&base[..n], &overlay[..k], module))?;
+    print_line(rt, END, 0, 0, 0, 0)
 }

@@ -4,6 +4,7 @@
 use super::lent::{BEFORE, at_most, kept_to};
 use super::print::{CHANGED, INTO, PLAN_FILE, READ_BACK, WRONG, print_line, soc_in};
 use plan_record::BusPlan;
+use std::io;
 use units::{CaptureCycles, Wires};
 
 // The file of t1's plan for 4 wires and limit 2, by hand: module 1 on bus 1, module 2 on bus 2, the two buses, the trailer.
@@ -16,109 +17,119 @@ fn by_hand() -> [u8; 80] {
 }
 
 // The number of a file's refusal. A file that is accepted must be the file of the plan that it says.
-fn refusal_of(file: &[u8]) -> u8 {
+fn refusal_of(rt: &HostRuntime, file: &[u8]) -> io::Result<u8> {
     let read = plan_file::read_plan(file);
     let number = read.refusal.number;
     if number != 0 {
-        return number;
+        return Ok(number);
     }
     let mut buffer = [0u8; 300];
     let w = plan_file::write_plan(read.plan, &mut buffer);
     let n = at_most(w.len, &buffer);
     if !fields::same_bytes(file, &buffer[..n]) {
-        print_line(WRONG, 0, 0, 0, 0);
+        print_line(rt, WRONG, 0, 0, 0, 0)?;
     }
-    0
+    Ok(0)
 }
 
 // Reads the first bytes of a buffer as a file.
-fn show_file(buf: &[u8], len: usize) {
+fn show_file(rt: &HostRuntime, buf: &[u8], len: usize) -> io::Result<()> {
     let n = at_most(len, buf);
     let hand = by_hand();
     let same = fields::same_bytes(&hand, &buf[..n]);
     print_line(
+        rt,
         READ_BACK,
         n as u64,
-        refusal_of(&buf[..n]) as u64,
+        refusal_of(rt, &buf[..n])? as u64,
         same as u64,
         0,
-    );
+    )
 }
 
 // Lends the writer the first n bytes of a buffer, and reads back what it wrote.
-fn show_into(p: BusPlan, buf: &mut [u8], n: usize) {
+fn show_into(rt: &HostRuntime, p: BusPlan, buf: &mut [u8], n: usize) -> io::Result<()> {
     let k = at_most(n, &*buf);
     let w = plan_file::write_plan(p, &mut buf[..k]);
     let end = kept_to(&*buf, w.len);
     print_line(
+        rt,
         INTO,
         k as u64,
         w.refusal.number as u64,
         w.len as u64,
         end as u64,
-    );
-    show_file(&*buf, w.len);
+    )?;
+    show_file(rt, &*buf, w.len)
 }
 
 // The file of the plan of the text that is argument i, with n bytes lent. A limit that is not b makes the plan's record another.
-pub(crate) fn show_plan_file(i: usize, w: u32, b: u32, limit: u32, n: usize) {
-    let answer = plan::plan(soc_in(i), Wires(w), b, CaptureCycles(1));
+pub(crate) fn show_plan_file(
+    rt: &HostRuntime,
+    i: usize,
+    w: u32,
+    b: u32,
+    limit: u32,
+    n: usize,
+) -> io::Result<()> {
+    let answer = plan::plan(soc_in(rt, i)?, Wires(w), b, CaptureCycles(1));
     let mut p = answer.plan;
     p.limit = limit;
-    print_line(PLAN_FILE, w as u64, limit as u64, 0, 0);
+    print_line(rt, PLAN_FILE, w as u64, limit as u64, 0, 0)?;
     let mut buffer = [BEFORE; 300];
-    show_into(p, &mut buffer, n);
+    show_into(rt, p, &mut buffer, n)
 }
 
 // The first n bytes of the file by hand from a place on, as a file.
-pub(crate) fn show_part(from: usize, n: usize) {
+pub(crate) fn show_part(rt: &HostRuntime, from: usize, n: usize) -> io::Result<()> {
     let hand = by_hand();
     let k = at_most(from, &hand);
-    show_file(&hand[k..], n);
+    show_file(rt, &hand[k..], n)
 }
 
 // The same plan's file of 12-byte records.
-pub(crate) fn show_old() {
+pub(crate) fn show_old(rt: &HostRuntime) -> io::Result<()> {
     let old = b"\x01\x01\x01\0\x41\0\0\0\0\0\0\0\
        \x02\x02\x03\0\x09\0\0\0\0\0\0\0\
        \x01\0\0\0\x41\0\0\0\0\0\0\0\
        \x03\0\0\0\x09\0\0\0\0\0\0\0\
        \0\0\x18\0\x04\x02\x02\x02\x41\0\0\0\0\0\0\0";
-    show_file(old, 64);
+    show_file(rt, old, 64)
 }
 
 // The file of one module that takes 37,383,663,779,808 cycles, with another lowest byte of them.
-pub(crate) fn show_longest(low: u8) {
+pub(crate) fn show_longest(rt: &HostRuntime, low: u8) -> io::Result<()> {
     let mut file = *b"\x01\x01\x01\0\xe0\xff\xff\x0f\0\x22\0\0\0\0\0\0\0\0\0\0\
        \x01\0\0\0\xe0\xff\xff\x0f\0\x22\0\0\
        \0\0\x14\0\x01\x01\x01\x01\xe0\xff\xff\x0f\0\x22\0\0";
     file[4] = low;
     file[24] = low;
     file[40] = low;
-    show_file(&file, 48);
+    show_file(rt, &file, 48)
 }
 
 // The number of the refusal of the file by hand with another byte at a place; 1 where it has that byte.
-fn refusal_with(at: usize, b: u8) -> u8 {
+fn refusal_with(rt: &HostRuntime, at: usize, b: u8) -> io::Result<u8> {
     let mut file = by_hand();
     if 80 <= at {
-        return 1;
+        return Ok(1);
     }
     if file[at] == b {
-        return 1;
+        return Ok(1);
     }
     file[at] = b;
-    refusal_of(&file)
+    refusal_of(rt, &file)
 }
 
 // Which other values of which bytes of the file by hand are accepted.
-pub(crate) fn show_changes() {
+pub(crate) fn show_changes(rt: &HostRuntime) -> io::Result<()> {
     let mut k: usize = 0;
     while k < 20480 {
         let b = (k % 256) as u8;
-        if refusal_with(k / 256, b) == 0 {
-            print_line(CHANGED, k as u64 / 256, b as u64, 0, 0);
+        if refusal_with(rt, k / 256, b)? == 0 {
+            print_line(rt, CHANGED, k as u64 / 256, b as u64, 0, 0)?;
         }
         k += 1;
     }
+    Ok(())
 }

@@ -2,52 +2,63 @@
 use super::print::{BUDGET, BUS, PLACED, PLAN, SPENT, START, print_line, soc_in};
 use budget::Ended;
 use plan_record::{BUS_PLACES, BusPlan, MODULE_PLACES};
+use std::io;
 use units::{CaptureCycles, Wires};
 
-fn print_buses(p: BusPlan) {
+fn print_buses(rt: &HostRuntime, p: BusPlan) -> io::Result<()> {
     let n = p.bus_count;
     let mut i: usize = 0;
     while i < BUS_PLACES {
         if i < n {
             let b = p.buses[i];
-            print_line(BUS, i as u64 + 1, b.width.0 as u64, b.busy.0, 0);
+            print_line(rt, BUS, i as u64 + 1, b.width.0 as u64, b.busy.0, 0)?;
         }
         i += 1;
     }
+    Ok(())
 }
 
-fn print_placed(p: BusPlan) {
+fn print_placed(rt: &HostRuntime, p: BusPlan) -> io::Result<()> {
     let n = p.module_count;
     let mut i: usize = 0;
     while i < MODULE_PLACES {
         if i < n {
             let m = p.modules[i];
             print_line(
+                rt,
                 PLACED,
                 m.number as u64,
                 m.bus as u64,
                 m.wires.0 as u64,
                 m.cycles.0,
-            );
-            print_line(START, m.start.0, 0, 0, 0);
+            )?;
+            print_line(rt, START, m.start.0, 0, 0, 0)?;
         }
         i += 1;
     }
+    Ok(())
 }
 
 // The plan of the text that is argument i.
-pub(crate) fn show_plan(i: usize, w: u32, b: u32, capture: u32) {
-    let answer = plan::plan(soc_in(i), Wires(w), b, CaptureCycles(capture));
+pub(crate) fn show_plan(
+    rt: &HostRuntime,
+    i: usize,
+    w: u32,
+    b: u32,
+    capture: u32,
+) -> io::Result<()> {
+    let answer = plan::plan(soc_in(rt, i)?, Wires(w), b, CaptureCycles(capture));
     let p = answer.plan;
     print_line(
+        rt,
         PLAN,
         w as u64,
         b as u64,
         answer.refusal.number as u64,
         p.time.0,
-    );
-    print_buses(p);
-    print_placed(p);
+    )?;
+    print_buses(rt, p)?;
+    print_placed(rt, p)
 }
 
 fn finished_number(e: Ended) -> u64 {
@@ -58,34 +69,44 @@ fn finished_number(e: Ended) -> u64 {
 }
 
 // What is found of the text that is argument i within a number of tries.
-pub(crate) fn show_budget(i: usize, w: u32, b: u32, capture: u32, tries: u64) {
-    let answer = budget::plan_within(soc_in(i), Wires(w), b, CaptureCycles(capture), tries);
+pub(crate) fn show_budget(
+    rt: &HostRuntime,
+    i: usize,
+    w: u32,
+    b: u32,
+    capture: u32,
+    tries: u64,
+) -> io::Result<()> {
+    let answer = budget::plan_within(soc_in(rt, i)?, Wires(w), b, CaptureCycles(capture), tries);
     let p = answer.plan;
     let ended = answer.ended;
     print_line(
+        rt,
         BUDGET,
         tries,
         w as u64,
         b as u64,
         answer.refusal.number as u64,
-    );
+    )?;
     print_line(
+        rt,
         SPENT,
         finished_number(ended),
         answer.tries,
         answer.known as u64,
         p.time.0,
-    );
-    print_buses(p);
-    print_placed(p);
+    )?;
+    print_buses(rt, p)?;
+    print_placed(rt, p)
 }
 
 // Every W of Table 9 of document 000, with limits 2 and 3.
-pub(crate) fn show_table_9(i: usize) {
+pub(crate) fn show_table_9(rt: &HostRuntime, i: usize) -> io::Result<()> {
     let mut w: u32 = 16;
     while w < 65 {
-        show_plan(i, w, 2, 1);
-        show_plan(i, w, 3, 1);
+        show_plan(rt, i, w, 2, 1)?;
+        show_plan(rt, i, w, 3, 1)?;
         w += 4;
     }
+    Ok(())
 }

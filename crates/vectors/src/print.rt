@@ -1,9 +1,11 @@
 // What is printed, and the texts that it is about (document 01, "The SOC text"). Each literal makes its function's proof longer than a row
 // of calls does, so all words stand in one literal, and a text is named by its number among the arguments.
+ghost use Rattle.std.specs.Prelude.{IfOk};
 ghost use Rattle.io.specs.Counts.{IsPrefixLen};
 
-use libc::STDOUT_FILENO;
 use soc::Soc;
+use std::io::Write;
+use std::{env, fs, io};
 
 // The lines of `print_line`, by their numbers there.
 pub const BYTES: usize = 1;
@@ -73,27 +75,27 @@ pub const BOTH_PADDED: usize = 32;
 // Stands for a figure that is not given, and is printed as the text has it: -1. All other figures are smaller.
 pub const NOT_GIVEN: u64 = 18446744073709551615;
 
-pub(crate) fn print(w: &[u8]) {
-    io::write_all(STDOUT_FILENO, w);
+pub(crate) fn print(rt: &HostRuntime, w: &[u8]) -> io::Result<()> {
+    io::writer(rt).write_all(w)
 }
 
 // Prints a byte, or for # the next of four figures. Answers the number of the figure that is due then.
-fn print_byte(w: u8, figures: [u64; 4], next: usize) -> usize {
+fn print_byte(rt: &HostRuntime, w: u8, figures: [u64; 4], next: usize) -> io::Result<usize> {
     if w != b'#' {
-        print(&[w]);
-        return next;
+        print(rt, &[w])?;
+        return Ok(next);
     }
     let n = figures[next % 4];
     if n == NOT_GIVEN {
-        print(b"-1");
+        print(rt, b"-1")?;
     } else {
-        io::print_decimal(STDOUT_FILENO, n);
+        print!(rt; "{n}")?;
     }
-    next % 4 + 1
+    Ok(next % 4 + 1)
 }
 
 // Prints one of some lines, each of which begins with |.
-fn print_part(lines: &[u8], line: usize, figures: [u64; 4]) {
+fn print_part(rt: &HostRuntime, lines: &[u8], line: usize, figures: [u64; 4]) -> io::Result<()> {
     let mut number: usize = 0;
     let mut next: usize = 0;
     let mut i: usize = 0;
@@ -102,14 +104,22 @@ fn print_part(lines: &[u8], line: usize, figures: [u64; 4]) {
         if w == b'|' {
             number = std::num::wrapping_add_usize(number, 1);
         } else if number == line {
-            next = print_byte(w, figures, next);
+            next = print_byte(rt, w, figures, next)?;
         }
         i += 1;
     }
+    Ok(())
 }
 
 // Prints a line, in which each # stands for the next figure.
-pub(crate) fn print_line(line: usize, a: u64, b: u64, c: u64, d: u64) {
+pub(crate) fn print_line(
+    rt: &HostRuntime,
+    line: usize,
+    a: u64,
+    b: u64,
+    c: u64,
+    d: u64,
+) -> io::Result<()> {
     let lines = b"| # bytes: \
         |refused # line #\n\
         | power # xy #\n\
@@ -142,27 +152,33 @@ pub(crate) fn print_line(line: usize, a: u64, b: u64, c: u64, d: u64) {
         | finished # spent #, a plan is known #, time #\n\
         |text #,\
         |padded to # and # bytes: ";
-    print_part(lines, line, [a, b, c, d]);
+    print_part(rt, lines, line, [a, b, c, d])
+}
+
+// Argument i, or none of its bytes where there are fewer.
+fn argument(rt: &HostRuntime, i: usize) -> io::Result<String> {
+    match env::args(rt)?.nth(i) {
+        Some(path) => Ok(path),
+        None => Ok(String::new(rt.alloc())),
+    }
 }
 
 // Reads the text that is argument i to the front of a buffer and prints its name and length, so that one that is not there is seen.
-pub(crate) fn read_text(i: usize, buf: &mut [u8]) -> usize
-    ensures { IsPrefixLen result buf.new }
+pub(crate) fn read_text(rt: &HostRuntime, i: usize, buf: &mut [u8]) -> io::Result<usize>
+    ensures { IfOk result (λ k. IsPrefixLen k buf.new) }
 {
-    let mut path = [0u8; 256];
-    let n = os::arg(i, &mut path);
-    print(&path[..n]);
-    let file = os::open_read(&path[..n]);
-    let k = io::read_full(file, &mut *buf);
-    libc::close(file);
-    print_line(BYTES, k as u64, 0, 0, 0);
-    k
+    let path = argument(rt, i)?;
+    print(rt, path.as_bytes())?;
+    let mut file = fs::open(rt, path.as_str())?;
+    let k = full_input::read_full(&mut file, &mut *buf)?;
+    print_line(rt, BYTES, k as u64, 0, 0, 0)?;
+    Ok(k)
 }
 
 // The record of the text that is argument i; one that says nothing where it is refused.
-pub(crate) fn soc_in(i: usize) -> Soc {
-    let mut buffer = io::large_buffer();
-    let n = read_text(i, &mut buffer);
+pub(crate) fn soc_in(rt: &HostRuntime, i: usize) -> io::Result<Soc> {
+    let mut buffer = [0u8; 65536];
+    let n = read_text(rt, i, &mut buffer)?;
     let read = text::read_soc(&buffer[..n]);
-    read.soc
+    Ok(read.soc)
 }

@@ -7,25 +7,27 @@ use super::lent::{BEFORE, at_most, kept_to};
 use super::print::{FORM, INTO, PADDED, REFUSED, print, print_line, read_text};
 use super::records::print_soc;
 use soc::Soc;
+use std::{env, io};
 
 // Lends the writer the first n bytes of a buffer, and answers how long the written form is.
-fn show_into(s: Soc, buf: &mut [u8], n: usize) -> usize {
+fn show_into(rt: &HostRuntime, s: Soc, buf: &mut [u8], n: usize) -> io::Result<usize> {
     let k = at_most(n, &*buf);
     let w = text::write_soc(s, &mut buf[..k]);
     let end = kept_to(&*buf, w.len);
     print_line(
+        rt,
         INTO,
         k as u64,
         w.refusal.number as u64,
         w.len as u64,
         end as u64,
-    );
-    w.len
+    )?;
+    Ok(w.len)
 }
 
-fn show_lent(s: Soc, n: usize) -> usize {
+fn show_lent(rt: &HostRuntime, s: Soc, n: usize) -> io::Result<usize> {
     let mut buffer = [BEFORE; 65536];
-    show_into(s, &mut buffer, n)
+    show_into(rt, s, &mut buffer, n)
 }
 
 // Puts the written form of a text's record to the front of a buffer and answers how long it is.
@@ -37,57 +39,58 @@ fn put_form(text: &[u8], buf: &mut [u8]) -> usize
     at_most(w.len, &*buf)
 }
 
-fn show_form(text: &[u8]) {
-    let mut form = io::large_buffer();
+fn show_form(rt: &HostRuntime, text: &[u8]) -> io::Result<()> {
+    let mut form = [0u8; 65536];
     let n = put_form(text, &mut form);
-    let mut again = io::large_buffer();
+    let mut again = [0u8; 65536];
     let k = put_form(&form[..n], &mut again);
     let same = fields::same_bytes(text, &form[..n]);
     let own = fields::same_bytes(&form[..n], &again[..k]);
-    print_line(FORM, same as u64, own as u64, 0, 0);
+    print_line(rt, FORM, same as u64, own as u64, 0, 0)?;
     if !same {
-        print(&form[..n]);
+        print(rt, &form[..n])?;
     }
+    Ok(())
 }
 
 // The last difference would wrap only if nothing were written, and then show a buffer that is not shorter.
-fn show_text(text: &[u8]) {
+fn show_text(rt: &HostRuntime, text: &[u8]) -> io::Result<()> {
     let read = text::read_soc(text);
     if read.refusal.number != 0 {
         print_line(
+            rt,
             REFUSED,
             read.refusal.number as u64,
             read.refusal.line as u64,
             0,
             0,
-        );
-        return;
+        )?;
+        return Ok(());
     }
-    print_soc(read.soc);
-    let len = show_lent(read.soc, 65536);
-    show_lent(read.soc, len);
-    show_lent(read.soc, std::num::wrapping_sub_usize(len, 1));
-    show_form(text);
+    print_soc(rt, read.soc)?;
+    let len = show_lent(rt, read.soc, 65536)?;
+    show_lent(rt, read.soc, len)?;
+    show_lent(rt, read.soc, std::num::wrapping_sub_usize(len, 1))?;
+    show_form(rt, text)
 }
 
 // The texts that the arguments name. The buffer has more bytes than a text may have.
-pub(crate) fn show_arguments() {
-    let n = os::arg_count();
-    let mut i: usize = 1;
-    while i < n {
-        let mut buffer = io::large_buffer();
-        let k = read_text(i, &mut buffer);
-        show_text(&buffer[..k]);
-        i += 1;
+pub(crate) fn show_arguments(rt: &HostRuntime) -> io::Result<()> {
+    let n = env::args(rt)?.count();
+    for i in 1..n {
+        let mut buffer = [0u8; 65536];
+        let k = read_text(rt, i, &mut buffer)?;
+        show_text(rt, &buffer[..k])?;
     }
+    Ok(())
 }
 
 // A text with blank lines behind it, n bytes in all, and with a first byte of its own.
-pub(crate) fn show_padded(i: usize, first: u8, n: usize) {
+pub(crate) fn show_padded(rt: &HostRuntime, i: usize, first: u8, n: usize) -> io::Result<()> {
     let mut buffer = [b'\n'; 65536];
-    read_text(i, &mut buffer);
+    read_text(rt, i, &mut buffer)?;
     buffer[0] = first;
-    print_line(PADDED, n as u64, first as u64, 0, 0);
+    print_line(rt, PADDED, n as u64, first as u64, 0, 0)?;
     let k = at_most(n, &buffer);
-    show_text(&buffer[..k]);
+    show_text(rt, &buffer[..k])
 }

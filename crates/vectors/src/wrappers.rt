@@ -1,66 +1,87 @@
 // Prints layouts and times (document 01, "The wrapper rule"; document 02, items 2, 5 and 8).
 use super::print::{CHAINS, INTERNAL, LAYOUT, SCANS, TIME, TIMES, WIRES, print_line, soc_in};
 use soc::Soc;
+use std::io;
 use units::{CaptureCycles, Wires};
 use wrapper::WrapperLayout;
 
 // The first ten places: of wrapper chains, and of internal chains.
-fn print_layout(l: WrapperLayout) {
+fn print_layout(rt: &HostRuntime, l: WrapperLayout) -> io::Result<()> {
     let mut i: usize = 0;
     while i < 10 {
         let f = l.flip_flops[i];
         print_line(
+            rt,
             CHAINS,
             f.0 as u64,
             l.input_cells[i],
             l.output_cells[i],
             l.bidir_cells[i],
-        );
-        print_line(INTERNAL, l.chain_of[i] as u64, 0, 0, 0);
+        )?;
+        print_line(rt, INTERNAL, l.chain_of[i] as u64, 0, 0, 0)?;
         i += 1;
     }
+    Ok(())
 }
 
 // The layout of a module of the text that is argument i.
-pub(crate) fn show_layout(i: usize, module: u32, test: u32, width: u32, capture: u32) {
+pub(crate) fn show_layout(
+    rt: &HostRuntime,
+    i: usize,
+    module: u32,
+    test: u32,
+    width: u32,
+    capture: u32,
+) -> io::Result<()> {
     let c = CaptureCycles(capture);
-    let l = wrapper::layout(soc_in(i), module, test, Wires(width), c);
+    let l = wrapper::layout(soc_in(rt, i)?, module, test, Wires(width), c);
     print_line(
+        rt,
         LAYOUT,
         module as u64,
         test as u64,
         width as u64,
         l.refusal.number as u64,
-    );
+    )?;
     if l.refusal.number == 0 {
-        print_line(SCANS, l.si, l.so, l.cycles.0, 0);
-        print_layout(l);
+        print_line(rt, SCANS, l.si, l.so, l.cycles.0, 0)?;
+        print_layout(rt, l)?;
     }
+    Ok(())
 }
 
-fn show_time(s: Soc, module: u32, width: u32, capture: u32) {
+fn show_time(rt: &HostRuntime, s: Soc, module: u32, width: u32, capture: u32) -> io::Result<()> {
     let t = wrapper::layout(s, module, 1, Wires(width), CaptureCycles(capture));
     let m = wrapper::module_time(s, module, Wires(width), CaptureCycles(capture));
     print_line(
+        rt,
         TIME,
         width as u64,
         m.refusal.number as u64,
         t.cycles.0,
         m.cycles.0,
-    );
-    print_line(WIRES, m.wires.0 as u64, 0, 0, 0);
+    )?;
+    print_line(rt, WIRES, m.wires.0 as u64, 0, 0, 0)
 }
 
 // The times of a module of the text that is argument i, at some widths.
-pub(crate) fn show_times(i: usize, module: u32, from: u32, to: u32, capture: u32) {
-    let s = soc_in(i);
-    print_line(TIMES, module as u64, 0, 0, 0);
+pub(crate) fn show_times(
+    rt: &HostRuntime,
+    i: usize,
+    module: u32,
+    from: u32,
+    to: u32,
+    capture: u32,
+) -> io::Result<()> {
+    let s = soc_in(rt, i)?;
+    print_line(rt, TIMES, module as u64, 0, 0, 0)?;
     let mut w = from;
     while w < 100 {
         if to < w {
-            return;
+            return Ok(());
         }
-        show_time(s, module, w, capture);
+        show_time(rt, s, module, w, capture)?;
         w += 1;
     }
+    Ok(())
 }
