@@ -14,7 +14,7 @@ use Rattle.wrapper_fit.specs.Maxima.{width_max, capture_max}
 use Rattle.plan_rules.specs.Plans.{Plan, IsPlan, time_of}
 use Rattle.plan_search.specs.Search.{table_time, AreTimes, found_as, found_of}
 use Rattle.plan.specs.PlanAnswers.{time_in}
-use Rattle.plan.specs.Records.{IsFound, record_from}
+use Rattle.plan.specs.Records.{IsFound}
 use Rattle.plan.specs.Tables.{TablesAre}
 use Rattle.plan.specs.declared.tables.Tables.{Tables}
 use Rattle.plan.proofs.TableLaws.{time-same}

@@ -42,8 +42,8 @@ module _ (time : ℕ → ℕ → ℕ) (budget : ℕ) where
   abbrev GoesOn : (Sought → Sought) → (Sought → Sought) → Type 0
   GoesOn f g = (q : Sought) → Onward q (g q)
 
-  goes_on_lem : Pairs GoesOn (tried budget) (tried budget)
-  goes_on_lem = record {
+  goes_on : Pairs GoesOn (tried budget) (tried budget)
+  goes_on = record {
     stays = λ q. record { more = omega arith; better = no_slower_same q.best };
     goes = λ f f' g g' a b q. onward_trans (a q) (b (f' q));
     keeps = keep_onward;
@@ -103,7 +103,7 @@ module _ (time : ℕ → ℕ → ℕ) (budget : ℕ) where
     first-known m wss e k =
         let s = placed_by (tried budget) time (W ∷ []) n 0 (replicate 1 0) [] begin in
         rw e
-        (known_onward (counts_pairs GoesOn (tried budget) (tried budget) goes_on_lem time W n m 2 s).better
+        (known_onward (counts_pairs GoesOn (tried budget) (tried budget) goes_on time W n m 2 s).better
         (placed_one W n 0 (replicate 1 0) [] begin refl (omega arith)))
 
     counts-known : (m : ℕ) → 1 ≤ W → n ≤ budget → Known (counts_by (tried budget) time W n (suc m) 1 begin).best

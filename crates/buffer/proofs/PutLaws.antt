@@ -9,7 +9,7 @@ use native.Mathlib.Omega.{arith}
 use borrow.Author.Tests.{le-leb, lt-leb, leb-true}
 use borrow.Rule.Slice.PartMut.{put_mid}
 use lib.ListN.{length, get_or, set, take, drop, length-append, length-take, length-drop, take-append-drop, drop_of_length-le}
-use lib.Seq.{take_all, take_at, take-append_seam, drop-append-add, drop-drop, drop-cons, take-suc, length-take-le, set-append_seam, set_at}
+use lib.Seq.{take_all, take_at, take-append_seam, drop-append-add, drop-drop, drop-cons, take-suc, length-take-le, set_at}
 use lib.Dec.{leb}
 use Rattle.buffer.specs.Puts.{put_front, put_count, put_end, put_in, put_at, Put}
 

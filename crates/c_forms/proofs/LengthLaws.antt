@@ -27,7 +27,7 @@ use Rattle.c_forms.specs.SocForm.{length_bytes, module_bytes, head_bytes, soc_by
 use Rattle.c_forms.specs.PlanForm.{bus_stride, placed_stride, buses_from, plan_length, bus_bytes}
 use Rattle.c_forms.specs.PlanForm.{placed_bytes, count_bytes, plan_bytes}
 use Rattle.c_forms.specs.LayoutForm.{layout_length, time_bytes, layout_bytes}
-use Rattle.c_forms.specs.BudgetForm.{found_from, budget_length, state_words, spent_bytes, budget_bytes}
+use Rattle.c_forms.specs.BudgetForm.{found_from, budget_length, spent_bytes, budget_bytes}
 use Rattle.c_forms.proofs.WordLaws.{words-length}
 
 pub test-length : (t : Test) → length (test_bytes t) ≡ test_length

@@ -1,9 +1,9 @@
 -- Laws of the values that code holds: arrays have the lengths that their types say, in every element of an array too. Assumes nothing.
 use Prim.Native.Nat.{ℕ, zero, suc, ◌<◌}
 use mathlib.Core.Path.{◌≡◌}
-use mathlib.Core.List.{List, [], ◌∷◌, map}
+use mathlib.Core.List.{List, [], ◌∷◌}
 use native.Mathlib.Omega.{arith}
-use lib.ListN.{length, get_or, length-map}
+use lib.ListN.{length, get_or}
 use base.Fml.{Fml}
 use mir.Val.{Val}
 use denote.Array.{each}

@@ -1,7 +1,7 @@
 -- Laws of the answers of a pair taken apart: each says the entry's own refusal, its line and the text that is meant, or its figure, and
 -- none of them is cut. Lent buffers have fewer than 2^56 bytes. Assumes nothing.
 use Prim.Native.Nat.{ℕ, ◌+◌, ◌*◌, ◌/◌, ◌%◌, ◌<◌, ◌≤◌}
-use mathlib.Core.Path.{◌≡◌, refl, sym, ap, ◌∙◌}
+use mathlib.Core.Path.{◌≡◌, refl, sym, ◌∙◌}
 use mathlib.Core.Bool.{Bool, true, false, cond}
 use mathlib.Core.List.{List}
 use native.Mathlib.Omega.{arith}

@@ -1,5 +1,5 @@
 -- What a caller reads from an answer, taken apart as `include/tallowwing.h` says.
-use Rattle.std.specs.Prelude.{ℕ, ◌/◌, ◌%◌, ◌≡◌, Bool, cond, List, length, leb, eqb}
+use Rattle.std.specs.Prelude.{ℕ, ◌/◌, ◌%◌, ◌≡◌, cond, List, length, leb, eqb}
 use Rattle.units.specs.Refusals.{accepted, refused}
 use Rattle.units.specs.declared.Refusal.{Refusal}
 use Rattle.pair.specs.declared.read.Meant.{Meant}

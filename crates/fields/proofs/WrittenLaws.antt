@@ -7,9 +7,9 @@ use mathlib.Core.Option.{some, none}
 use native.Mathlib.Omega.{arith}
 use native.Mathlib.Numerals.{add-one}
 use borrow.Author.Tests.{lt-ltb, le-ltb, ltb-true, ltb-false, leb-true, leb-false, ne_eqb, not-true}
-use lib.ListN.{length, get_or, take, drop, set, length-append}
+use lib.ListN.{length, drop, set, length-append}
 use lib.Dec.{ltb, leb, eqb}
-use lib.Seq.{drop-cons, take-suc, length-take-le, set-append_seam, set_at}
+use lib.Seq.{drop-cons, set-append_seam}
 use Rattle.fields.specs.Bytes.{space, tab}
 use Rattle.fields.specs.Fields.{gap, begins, on_field, fields_of}
 use Rattle.fields.specs.Names.{name_byte, name_bytes, name_max, is_name}

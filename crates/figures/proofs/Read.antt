@@ -11,7 +11,6 @@ use Rattle.text_lines.specs.Kinds.{name_part, name_line, total_line, options_par
 use Rattle.text_reader.specs.Lines.{judged, line, no_more}
 use Rattle.text_reader.specs.Reading.{behind, body, module_tests, module_rest, module_lines, modules, rest, behind_name, soc, answer, unless_bad, read_soc}
 use Rattle.soc.specs.Rules.{good_power, good_position, pins_rule, good_test, spare_test, level_rule, good_terminals, good_chains, good_tests, good_module, good_modules, spare_module, good_name, good_soc}
-use Rattle.soc.specs.Planned.{is_planned, planned_from}
 use Rattle.units.specs.Places.{padded, all_of, any_of}
 use mathlib.Core.List.{[]}
 use Rattle.fields.specs.Lines.{lines_from}

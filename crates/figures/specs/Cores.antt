@@ -1,5 +1,5 @@
 -- The cores of document 01's section "Figures to hold against".
-use Rattle.std.specs.Prelude.{ℕ, true, List, [], ◌∷◌, map, length, pos}
+use Rattle.std.specs.Prelude.{ℕ, true, List, [], ◌∷◌, map, length}
 use Rattle.soc.specs.Limits.{chains_max, tests_max}
 use Rattle.units.specs.Places.{padded}
 use Rattle.soc.specs.Record.{flip_flops, not_given, no_test}

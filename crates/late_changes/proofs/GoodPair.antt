@@ -13,7 +13,6 @@ use Rattle.soc.specs.Rules.{good_name, good_modules, spare_module, good_soc}
 use Rattle.soc.specs.declared.record.Soc.{Soc}
 use Rattle.overlay.specs.declared.read.Overlay.{Overlay}
 use Rattle.pair.specs.Pair.{same_flag, same_head, places_fit, fits, laid, combined}
-use Rattle.pair.specs.declared.read.Meant.TheVariants as meant
 use Rattle.late_changes.specs.Blocks.{GoodPlaces}
 use Rattle.late_changes.proofs.Laid.{laid-good, laid-behind}
 

@@ -1,6 +1,6 @@
 -- Laws of an overlay that is read from lines: they describe it, it keeps the limits and its arrays have their lengths; and lines that
 -- describe such an overlay are read as it. Assumes nothing.
-use Prim.Native.Nat.{ℕ, suc, ◌-◌}
+use Prim.Native.Nat.{ℕ, suc}
 use native.Mathlib.Omega.{arith}
 use mathlib.Core.Path.{◌≡◌, refl, sym, ap, subst, ◌∙◌}
 use mathlib.Core.Bool.{Bool, true, ◌&&◌}

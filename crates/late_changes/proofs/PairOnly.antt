@@ -1,6 +1,6 @@
 -- When a pair is accepted, and what its combined description is then: one that is good, whose arrays have their lengths, and that written and read
 -- again is the same record. Assumes nothing.
-use Prim.Native.Nat.{ℕ, ◌≤◌}
+use Prim.Native.Nat.{ℕ}
 use native.Mathlib.Omega.{arith}
 use mathlib.Core.Path.{◌≡◌, refl, sym, ap, ◌∙◌}
 use mathlib.Core.Bool.{Bool, true, false, cond}

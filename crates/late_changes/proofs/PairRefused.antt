@@ -6,11 +6,10 @@ use mathlib.Core.Path.{◌≡◌, refl}
 use mathlib.Core.Bool.{Bool, true, false, cond}
 use mathlib.Core.List.{List}
 use mathlib.Core.Logic.{◌⊎◌, inl, inr}
-use borrow.Author.Tests.{eqb-false, leb-true, leb-false}
+use borrow.Author.Tests.{eqb-false, leb-true}
 use lib.Dec.{eqb, leb}
 use lib.ListN.{length}
 use Rattle.units.specs.Refusals.{refused}
-use Rattle.units.specs.declared.Refusal.{Refusal}
 use Rattle.fields.specs.Bytes.{bad_byte}
 use Rattle.fields.specs.Lines.{lines_of, lines_from}
 use Rattle.fields.specs.Readers.{no, got}
@@ -22,7 +21,7 @@ use Rattle.text_reader.specs.Reading.{read_soc}
 use Rattle.text_reader.specs.declared.read.SocRead.{SocRead}
 use Rattle.text.specs.LineCount.{line_count}
 use Rattle.text.specs.Numbers.{TextNumber}
-use Rattle.text.proofs.Refused.{Refuses, alike_refuses}
+use Rattle.text.proofs.Refused.{alike_refuses}
 use Rattle.text.proofs.RefusedLine.{Lined, bad_within, lines-within, numbered_within, low-none, refuses-none, refuses-counted, lined_most, refused-line-most}
 use Rattle.overlay.specs.Overlay.{overlay, refused_overlay, answer, unless_bad, read_overlay}
 use Rattle.overlay.specs.declared.read.Overlay.{Overlay}

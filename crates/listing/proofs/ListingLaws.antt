@@ -3,7 +3,6 @@ use Prim.Native.Nat.{ℕ, ◌≤◌, ◌<◌}
 use mathlib.Core.Path.{◌≡◌, refl, sym, ap, ◌∙◌}
 use mathlib.Core.Bool.{Bool, true, false}
 use mathlib.Core.List.{List, [], ◌∷◌}
-use mathlib.Core.Logic.{◌⊎◌, inl, inr}
 use native.Mathlib.Omega.{arith}
 use borrow.Author.Tests.{eq-eqb, ne_eqb, lt-leb, leb-true, leb-false, ltb-true, ltb-false}
 use lib.ListN.{length, take, length-drop}
@@ -11,15 +10,13 @@ use lib.Seq.{take_all, take-take, length-take-le}
 use lib.Dec.{leb, ltb}
 use Rattle.units.proofs.TestLaws.{clash}
 use Rattle.units.specs.Refusals.{refused}
-use Rattle.units.specs.declared.Refusal.{Refusal}
 use Rattle.units.proofs.Unique.{answer_and_bytes_unique}
 use Rattle.fields.specs.Lines.{until_lf, line_at}
 use Rattle.buffer.specs.Puts.{Put}
-use Rattle.soc.specs.Rules.{good_soc}
 use Rattle.soc.specs.declared.record.Soc.{Soc}
 use Rattle.text_lines.specs.Parts.{Whole, refuses, says}
 use Rattle.soc.specs.Limits.{text_max}
-use Rattle.text_reader.specs.Reading.{refused_soc, accepted_soc, read_soc}
+use Rattle.text_reader.specs.Reading.{refused_soc, read_soc}
 use Rattle.text_reader.specs.declared.read.SocRead.{SocRead}
 use Rattle.fields.specs.WrittenLines.{written_lines}
 use Rattle.plan.specs.PlanAnswers.{plan_answer}

@@ -8,13 +8,11 @@ use lib.Dec.{leb, ltb}
 use lib.ListN.{length}
 use Rattle.units.specs.Refusals.{accepted}
 use Rattle.buffer.specs.WriterAnswers.{refused_write}
-use Rattle.buffer.specs.declared.written.Written.{Written}
 use Rattle.soc.specs.Planned.{planned_of}
 use Rattle.soc.specs.Rules.{good_soc}
 use Rattle.soc.specs.declared.record.Soc.{Soc}
 use Rattle.text_writer.specs.WrittenSoc.{written_soc, write_answer}
 use Rattle.wrapper_fit.specs.Maxima.{width_max, capture_max}
-use Rattle.wrapper_fit.specs.Counts.{cycles}
 use Rattle.wrapper_scans.specs.Asked.{module_at, asked_module}
 use Rattle.wrapper_times.specs.Times.{module_best}
 use Rattle.wrapper_times.specs.TimeAnswers.{no_module_time, module_time_of, module_time_answer}

@@ -4,7 +4,6 @@ use Rattle.units.specs.declared.Refusal.{Refusal}
 use Rattle.soc.specs.declared.record.Soc.{Soc}
 use Rattle.plan_record.specs.Record.{no_plan}
 use Rattle.plan.specs.PlanAnswers.{plan_answer}
-use Rattle.plan.specs.declared.answer.PlanAnswer.{PlanAnswer}
 use Rattle.pair.specs.Pair.{read_pair}
 use Rattle.pair.specs.declared.read.Meant.{Meant}
 use Rattle.pair.specs.declared.read.Meant.TheVariants as meant

@@ -4,7 +4,6 @@ use Rattle.units.specs.declared.Refusal.{Refusal}
 use Rattle.soc.specs.declared.record.Soc.{Soc}
 use Rattle.wrapper_fit.specs.Counts.{wires, cycles}
 use Rattle.wrapper_times.specs.TimeAnswers.{module_time_answer}
-use Rattle.wrapper_times.specs.declared.asked.ModuleTime.{ModuleTime}
 use Rattle.pair.specs.Pair.{read_pair}
 use Rattle.pair.specs.declared.read.Meant.{Meant}
 use Rattle.pair.specs.declared.read.Meant.TheVariants as meant

@@ -1,7 +1,6 @@
 -- Writing a pair (document 02, item 3): "Plan, layout and writing work on the pair." What the entry itself refuses is about neither text.
 use Rattle.std.specs.Prelude.{ℕ, List}
 use Rattle.units.specs.declared.Refusal.{Refusal}
-use Rattle.buffer.specs.declared.written.Written.{Written}
 use Rattle.soc.specs.declared.record.Soc.{Soc}
 use Rattle.text_writer.specs.WrittenSoc.{write_answer, write_leaves}
 use Rattle.pair.specs.Pair.{read_pair}

@@ -2,15 +2,11 @@
 -- finds over the tables is that plan's record. Assumes nothing.
 use Prim.Native.Nat.{ℕ, suc, ◌+◌, ◌-◌, ◌≤◌, ◌<◌}
 use mathlib.Core.Path.{◌≡◌, refl, ap, ◌∙◌}
-use mathlib.Core.Bool.{cond}
 use mathlib.Core.List.{List, [], ◌∷◌, ◌++◌}
 use native.Mathlib.Omega.{arith}
-use native.Mathlib.Nat.{add-zero, zero-add}
 use native.Mathlib.Numerals.{add-one}
 use lib.ListN.{length, get_or, take, set, replicate, length-take}
 use lib.Seq.{take-suc, take-append-le, length-take-le}
-use lib.Dec.{eqb}
-use borrow.Author.Tests.{eq-eqb, ne_eqb}
 use Rattle.soc.specs.Limits.{modules_max}
 use Rattle.units.specs.Places.{padded}
 use Rattle.units.specs.declared.Cycles.{Cycles}
@@ -31,7 +27,6 @@ use Rattle.plan.specs.PlanAnswers.{time_in, wires_in, best_for, record_of}
 use Rattle.plan.specs.Records.{IsFound, buses_is, placed_at, placed_from, modules_is, record_from}
 use Rattle.plan.specs.Tables.{TablesAre}
 use Rattle.plan_record.specs.declared.record.Bus.{Bus}
-use Rattle.plan_record.specs.declared.record.BusPlan.{BusPlan}
 use Rattle.plan_record.specs.declared.record.PlacedModule.{PlacedModule}
 use Rattle.plan.specs.declared.tables.Tables.{Tables}
 use Rattle.plan_search.specs.declared.widths.Found.{Found}

@@ -17,7 +17,7 @@ use Rattle.plan_record.specs.Starts.{end_of, RunsAt, module_of, bus_of, IsLast}
 use Rattle.plan_record.specs.Whole.{Whole}
 use Rattle.plan_record.proofs.RecordLaws.{record_plan, record_numbers, record_time, record_busy, record_bus_places, record_module_places}
 use Rattle.plan_record.proofs.StartLaws.{good-number, good_start, good-alone, good-last, good-end}
-use Rattle.plan.specs.PlanAnswers.{time_in, wires_in, best_for, record_of, plan_answer}
+use Rattle.plan.specs.PlanAnswers.{time_in, wires_in, best_for, plan_answer}
 use Rattle.plan.specs.declared.answer.PlanAnswer.{PlanAnswer}
 use Rattle.plan.proofs.PlannerLaws.{Answered, answered, best_for-first, planner_answers_good}
 

@@ -14,12 +14,11 @@ use Rattle.wrapper_fit.specs.Maxima.{width_max, capture_max}
 use Rattle.wrapper_times.proofs.BestLaws.{time-at}
 use Rattle.wrapper_layout.specs.Laid.{layouts_cycles}
 use Rattle.wrapper.proofs.SumLaws.{layouts_figure}
-use Rattle.plan_rules.specs.Plans.{Plan}
 use Rattle.plan_rules.proofs.BoundLaws.{width_in}
 use Rattle.plan_record.specs.Record.{module_places, no_placed, module_records, plan_record}
 use Rattle.plan_record.specs.Starts.{module_of}
 use Rattle.plan_record.specs.declared.record.PlacedModule.{PlacedModule}
-use Rattle.plan.specs.PlanAnswers.{planned_module, time_in, wires_in, best_for, record_of, plan_answer}
+use Rattle.plan.specs.PlanAnswers.{planned_module, time_in, wires_in, best_for, plan_answer}
 use Rattle.plan.proofs.TableLaws.{planned-number}
 use Rattle.plan.proofs.PlannerLaws.{wires-within, answered, best_for-first}
 

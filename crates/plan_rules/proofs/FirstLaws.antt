@@ -1,7 +1,7 @@
 -- The first plan of least cost, found from the least costs: it stands on the first list of widths whose least cost is the least of all,
 -- with the first placement on it that costs no more. For any cost of plans. Assumes nothing.
 use Prim.Native.Nat.{ℕ, zero, suc, ◌-◌, ◌≤◌, ◌<◌, min, max}
-use mathlib.Core.Path.{◌≡◌, refl, sym, ap, ◌∙◌, subst}
+use mathlib.Core.Path.{◌≡◌, refl, sym, ap, ◌∙◌}
 use mathlib.Core.Bool.{Bool, true, false, cond}
 use mathlib.Core.List.{List, [], ◌∷◌, ◌++◌, map, append_assoc, Memᴰ}
 use native.Mathlib.Omega.{arith}
@@ -15,7 +15,7 @@ use Rattle.plan_rules.proofs.ListedLaws.{widths_sound, width_lists-one, placemen
 use Rattle.plan_rules.proofs.LeastLaws.{least-same}
 use Rattle.plan_rules.proofs.SkipLaws.{least-append}
 use Rattle.plan_rules.proofs.AllLaws.{all_le, all-lower}
-use Rattle.plan_rules.specs.Least.{least_all, cost_on, least_by, time_on, least_on, Kept, keep, keep_lists, all_lists, first_within, Stands, Reached}
+use Rattle.plan_rules.specs.Least.{least_all, cost_on, least_by, least_on, Kept, keep, keep_lists, all_lists, first_within, Stands, Reached}
 use Rattle.plan_rules.specs.Reordered.{Narrow, InOrder}
 use Rattle.plan_rules.proofs.ReorderLaws.{order_old, least-order, widths-narrow}
 use Rattle.plan_rules.proofs.FromLaws.{at_sum}

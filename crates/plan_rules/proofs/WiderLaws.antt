@@ -6,7 +6,7 @@ use mathlib.Core.Bool.{Bool, true, false, cond}
 use mathlib.Core.List.{List, [], ◌∷◌, ◌++◌, Memᴰ}
 use native.Mathlib.Omega.{arith}
 use native.Mathlib.Nat.{suc-mul, mul-le-mul_left, mul_comm, le-div_iff_mul-le, div-le_self}
-use lib.ListN.{length, get_or, length-append, length-replicate}
+use lib.ListN.{length, length-append, length-replicate}
 use lib.Dec.{eqb}
 use Rattle.plan_rules.specs.Plans.{Plan, IsPlan, sum, busy_from, busies, largest, time_of}
 use Rattle.plan_rules.specs.Listed.{width_lists, placements, plan, plans_on, plans}

@@ -1,6 +1,6 @@
 -- Laws of a good SOC record: what its figures keep to, part by part. Assumes nothing.
-use Prim.Native.Nat.{ℕ, zero, suc, ◌≤◌, ◌<◌}
-use mathlib.Core.Path.{◌≡◌, refl}
+use Prim.Native.Nat.{ℕ, zero, suc, ◌≤◌}
+use mathlib.Core.Path.{◌≡◌}
 use mathlib.Core.Bool.{Bool, true, ◌&&◌}
 use mathlib.Core.List.{List, [], ◌∷◌}
 use native.Mathlib.Omega.{arith}

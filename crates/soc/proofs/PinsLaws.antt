@@ -4,7 +4,7 @@ use native.Mathlib.Omega.{arith}
 use mathlib.Core.Path.{◌≡◌, refl, sym}
 use mathlib.Core.Bool.{Bool, true, false, cond}
 use mathlib.Core.List.{List, [], ◌∷◌}
-use lib.ListN.{length, get_or, take, drop, length-drop, length-take}
+use lib.ListN.{length, get_or, drop, length-drop, length-take}
 use Rattle.units.specs.Places.{all_of, any_of}
 use Rattle.units.proofs.TestLaws.{and_both}
 use Rattle.soc.specs.Limits.{modules_max}

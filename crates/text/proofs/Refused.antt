@@ -2,7 +2,7 @@
 -- the number is the same, 6 with line 0, or from 3 to 5 or 17 with the number of a line. What it is for two readings to be alike, that
 -- readings made of such readings are so too, and then one law for each part of a text. Assumes nothing.
 use Prim.Native.Nat.{ℕ, zero, suc}
-use mathlib.Core.Path.{◌≡◌, refl, ap}
+use mathlib.Core.Path.{◌≡◌, refl}
 use mathlib.Core.Bool.{Bool}
 use mathlib.Core.List.{List, [], ◌∷◌}
 use mathlib.Core.Logic.{◌⊎◌, inl, inr}

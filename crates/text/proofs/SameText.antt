@@ -2,7 +2,7 @@
 -- of a refusal alone. What it is for two texts to have the same lines wherever they stand; and "Lines end in LF or CRLF; the last may
 -- lack its end." Assumes nothing.
 use Prim.Native.Nat.{ℕ, suc, ◌≤◌}
-use mathlib.Core.Path.{◌≡◌, refl, sym, ap, ◌∙◌}
+use mathlib.Core.Path.{◌≡◌, refl, sym, ◌∙◌}
 use mathlib.Core.Bool.{Bool, true, false, cond, ◌&&◌}
 use mathlib.Core.List.{List, [], ◌∷◌, ◌++◌, map, append-nil}
 use borrow.Author.Tests.{le-leb}
@@ -16,7 +16,7 @@ use Rattle.fields.specs.declared.byte.BadByte.TheVariants.{Nowhere}
 use Rattle.soc.specs.Limits.{text_max}
 use Rattle.soc.specs.declared.record.Soc.{Soc}
 use Rattle.text_reader.specs.Lines.{LinesRead}
-use Rattle.text_reader.specs.Reading.{soc, answer, read_soc}
+use Rattle.text_reader.specs.Reading.{answer, read_soc}
 use Rattle.text_reader.specs.declared.read.SocRead.{SocRead}
 use Rattle.text.specs.Describes.{fields_in, field_lines}
 use Rattle.text.specs.Spacing.{ends_in_cr}

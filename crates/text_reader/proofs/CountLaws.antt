@@ -1,6 +1,5 @@
 -- Laws of the counts of a text: a number of modules and a number of tests that were read are within their limits. Assumes nothing.
 use Prim.Native.Nat.{ℕ, ◌≤◌}
-use native.Mathlib.Omega.{arith}
 use mathlib.Core.Path.{◌≡◌, refl}
 use mathlib.Core.Bool.{Bool}
 use mathlib.Core.List.{List, [], ◌∷◌}

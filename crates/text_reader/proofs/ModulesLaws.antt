@@ -5,7 +5,7 @@ use mathlib.Core.Path.{◌≡◌, ap}
 use mathlib.Core.List.{List, [], ◌∷◌, ◌++◌, append-nil}
 use Rattle.units.specs.declared.Refusal.{Refusal}
 use Rattle.fields.specs.Lines.{Line}
-use Rattle.fields.specs.Readers.{Got, no, got, after}
+use Rattle.fields.specs.Readers.{no, got, after}
 use Rattle.fields.proofs.ReaderLaws.{prepend, prepend_after}
 use Rattle.soc.specs.declared.record.Module.{Module}
 use Rattle.text_lines.specs.Kinds.{Options}

@@ -2,7 +2,6 @@
 use Prim.Native.Nat.{ℕ}
 use mathlib.Core.Path.{◌≡◌, refl, sym, ap, ◌∙◌}
 use mathlib.Core.Bool.{Bool}
-use native.Mathlib.Omega.{arith}
 use lib.IntN.{ℤ}
 use Rattle.units.proofs.TestLaws.{clash}
 use Rattle.soc.specs.declared.record.Test.{Test}

@@ -2,6 +2,7 @@
 // another is wanted. Beside them the capture cycles of a test (document 02, item 5). And a refusal: its number in document 01's table,
 // and its line.
 #![tactic(auto)]
+
 ghost use Rattle.std.specs.Prelude.{◌≡◌};
 ghost use Rattle.units.specs.Refusals.{accepted, refused};
 

@@ -1,5 +1,4 @@
 use native.Mathlib.Omega.{arith}
-use Prim.Native.Nat.{◌-◌}
 use mathlib.Core.Path.{refl, sym, ◌∙◌}
 use Rattle.module_part.proofs.TrimLaws.{until_stop, until_on, until_end}
 use Rattle.module_part.proofs.field_from.Goals as goal

@@ -1,5 +1,4 @@
 use native.Mathlib.Omega.{arith}
-use Prim.Native.Nat.{◌-◌}
 use mathlib.Core.Path.{◌≡◌, ◌∙◌}
 use mathlib.Core.Bool.{true}
 use lib.ListN.{length, length-set}

@@ -1,5 +1,4 @@
 use native.Mathlib.Omega.{arith}
-use Prim.Native.Nat.{◌-◌}
 use mathlib.Core.Path.{◌∙◌}
 use Rattle.little_endian.proofs.RowLaws.{filled_none, filled_step, filled-end}
 use Rattle.plan_record.specs.Record.{bus_places, no_bus}

@@ -1,7 +1,6 @@
 -- `c_forms::soc_form::put_modules` meets its contract. The loop's invariant: the first `i` modules are put. The measure is what is left
 -- of them. Assumes nothing.
 use Prim.Native.Nat.{◌-◌, ◌≤◌}
-use mathlib.Core.List.{[]}
 use Rattle.little_endian.proofs.RowLaws.{Run}
 use Rattle.soc.specs.Limits.{modules_max}
 use Rattle.c_forms.specs.SocForm.{module_length, module_bytes}

@@ -1,5 +1,5 @@
 use native.Mathlib.Omega.{arith}
-use Prim.Native.Nat.{◌+◌, ◌-◌}
+use Prim.Native.Nat.{◌+◌}
 use mathlib.Core.Path.{◌≡◌, sym, ◌∙◌}
 use Rattle.little_endian.proofs.RowLaws.{all-rows_step, all-rows_fails, all-rows-end}
 use Rattle.soc.specs.Limits.{tests_max}

@@ -1,5 +1,4 @@
 use native.Mathlib.Omega.{arith}
-use Prim.Native.Nat.{◌-◌}
 use mathlib.Core.Path.{sym, ◌∙◌}
 use Rattle.units.proofs.TestLaws.{and_stops, and_goes}
 use Rattle.little_endian.proofs.RowLaws.{all-rows_step, all-rows_fails, all-rows-end}

@@ -1,5 +1,5 @@
 use native.Mathlib.Omega.{arith}
-use Prim.Native.Nat.{◌+◌, ◌-◌, ◌*◌}
+use Prim.Native.Nat.{◌+◌, ◌*◌}
 use mathlib.Core.Path.{◌≡◌, ap, ◌∙◌}
 use Rattle.little_endian.specs.Little.{byte}
 use Rattle.little_endian.proofs.RowLaws.{filled_none, filled_step, filled-end, rows-bytes}

@@ -1,7 +1,7 @@
 -- `fields::byte::bad_byte` meets its contract. The loop's invariant: the line of the first bad byte of the text is that of the first one from
 -- `i` on, where `line` is the line at `i`, of which at most one begins behind each byte. The measure is what is left of the length.
 -- Assumes nothing.
-use Prim.Native.Nat.{ℕ, ◌+◌, ◌-◌, ◌≤◌}
+use Prim.Native.Nat.{◌+◌, ◌-◌, ◌≤◌}
 use mathlib.Core.Path.{◌≡◌}
 use lib.ListN.{length, drop}
 use Rattle.fields.specs.Bytes.{bad_byte}

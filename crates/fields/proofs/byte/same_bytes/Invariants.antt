@@ -1,8 +1,7 @@
 -- `fields::byte::same_bytes` meets its contract. The loop's invariant: the two are the same exactly where they are the same from `i` on.
 -- The measure is what is left of the length. Assumes nothing.
-use Prim.Native.Nat.{ℕ, ◌-◌, ◌≤◌}
+use Prim.Native.Nat.{◌-◌, ◌≤◌}
 use mathlib.Core.Path.{◌≡◌}
-use mathlib.Core.List.{[]}
 use lib.ListN.{length, drop}
 use Rattle.fields.specs.Bytes.{same_bytes}
 use Rattle.fields.proofs.byte.same_bytes.Given as goal

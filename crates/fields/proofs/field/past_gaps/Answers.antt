@@ -1,5 +1,4 @@
 use native.Mathlib.Omega.{arith}
-use Prim.Native.Nat.{◌-◌}
 use mathlib.Core.Path.{refl, sym, ◌∙◌}
 use Rattle.fields.specs.Fields.{gap, gaps}
 use Rattle.fields.proofs.CountLaws.{gaps-counts, count_on, count_stop, count-end}

@@ -1,5 +1,5 @@
 use native.Mathlib.Omega.{arith}
-use Prim.Native.Nat.{ℕ, ◌+◌, ◌-◌}
+use Prim.Native.Nat.{◌+◌}
 use mathlib.Core.Path.{◌≡◌, refl, sym, ap, ◌∙◌}
 use Rattle.fields.specs.Lines.{lines_from, line_start}
 use Rattle.fields.proofs.LineLaws.{LineIs, line-is, lines-blank, lines-some, lines_none, start-more}

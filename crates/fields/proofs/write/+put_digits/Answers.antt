@@ -5,7 +5,7 @@ use Prim.Native.Nat.{◌+◌, ◌/◌, ◌%◌, ◌≤◌, ◌<◌}
 use mathlib.Core.Path.{◌≡◌, refl, sym, ap, ◌∙◌}
 use lib.ListN.{length}
 use Rattle.fields.specs.WrittenLines.{decimal}
-use Rattle.fields.proofs.WrittenLaws.{decimal-small, decimal_large, length_large, decimal-length, put_first, put_last}
+use Rattle.fields.proofs.WrittenLaws.{decimal-small, decimal_large, length_large, put_first, put_last}
 use Rattle.fields.proofs.write.+put_digits.Goals as goal
 
 pub bounds-buf-0 : goal.bounds-buf-0

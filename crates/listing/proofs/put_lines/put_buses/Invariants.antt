@@ -2,7 +2,6 @@
 -- measure is what is left of `n`. Assumes nothing.
 use Prim.Native.Nat.{◌-◌, ◌*◌, ◌≤◌}
 use mathlib.Core.Path.{◌≡◌}
-use mathlib.Core.List.{[]}
 use lib.ListN.{length, take}
 use Rattle.buffer.specs.Puts.{Put}
 use Rattle.listing.specs.Room.{bus_room}

@@ -1,5 +1,5 @@
 use native.Mathlib.Omega.{arith}
-use Prim.Native.Nat.{◌-◌, ◌<◌}
+use Prim.Native.Nat.{◌<◌}
 use lib.ListN.{length}
 use Rattle.listing.proofs.FormLaws.{formed-start, formed-end, figure_there, formed-figure, byte-room, formed-next}
 use Rattle.listing.proofs.put_lines.put_form.Goals as goal

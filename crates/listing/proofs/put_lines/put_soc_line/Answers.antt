@@ -2,10 +2,9 @@
 -- line's length. Assumes nothing.
 use native.Mathlib.Omega.{arith}
 use Prim.Native.Nat.{◌+◌, ◌≤◌}
-use mathlib.Core.Path.{◌≡◌, sym, ◌∙◌}
+use mathlib.Core.Path.{◌≡◌, ◌∙◌}
 use mathlib.Core.List.{[], ◌∷◌}
 use lib.ListN.{length}
-use lib.Seq.{length-take-le}
 use Rattle.fields.specs.Names.{name_max}
 use Rattle.fields.specs.WrittenLines.{written_lines}
 use Rattle.listing.specs.Listing.{soc_fields}

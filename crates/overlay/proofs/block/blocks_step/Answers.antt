@@ -2,7 +2,6 @@ use native.Mathlib.Omega.{arith}
 use Prim.Native.Nat.{◌-◌, ◌≤◌}
 use mathlib.Core.Path.{◌≡◌, refl, sym, ◌∙◌}
 use mathlib.Core.Bool.{true, false, true≢false}
-use mathlib.Core.List.{[]}
 use lib.ListN.{length-set}
 use lib.Seq.{get_or-set_other}
 use Rattle.fields.specs.Readers.{got, after}

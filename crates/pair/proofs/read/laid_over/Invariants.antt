@@ -1,6 +1,6 @@
 -- `pair::read::laid_over` meets its contract. The loop's invariant: what is laid stands in the first m places, and behind them comes what is
 -- laid from m on. The measure is what is left of the arrays. Assumes nothing.
-use Prim.Native.Nat.{◌+◌, ◌-◌, ◌≤◌}
+use Prim.Native.Nat.{◌-◌, ◌≤◌}
 use mathlib.Core.Path.{◌≡◌}
 use mathlib.Core.List.{◌++◌}
 use lib.ListN.{length, take, drop}

@@ -1,6 +1,6 @@
 -- `plan::entry::modules_of` meets its contract. The loop's invariant: the list holds the first i placed modules, and behind them no
 -- module. The measure is what is left of the modules. Assumes nothing.
-use Prim.Native.Nat.{ℕ, ◌-◌, ◌≤◌}
+use Prim.Native.Nat.{◌-◌, ◌≤◌}
 use mathlib.Core.Path.{◌≡◌}
 use lib.ListN.{take}
 use Rattle.units.specs.Places.{padded}

@@ -3,9 +3,8 @@ use borrow.Author.Tests.{le-leb, lt-leb}
 use mathlib.Core.Path.{◌≡◌, sym, ◌∙◌}
 use mathlib.Core.Bool.{true, ◌&&◌}
 use lib.Dec.{leb}
-use borrow.Author.Tests.{not-true, not-false}
 use Rattle.wrapper_fit.specs.Maxima.{width_max, capture_max}
-use Rattle.plan.specs.PlanAnswers.{limit_max, planned_max}
+use Rattle.plan.specs.PlanAnswers.{limit_max}
 use Rattle.plan.specs.Refused.{number_refused}
 use Rattle.plan.proofs.entry.refused_number.Goals as goal
 use Rattle.plan.proofs.entry.refused_number.Goals.{Else-not-captured, Else-not-limited, Else-not-some, Else-not-wide}

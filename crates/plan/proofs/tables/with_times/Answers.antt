@@ -1,11 +1,10 @@
 use borrow.Author.Count.{below_more}
-use Prim.Native.Nat.{ℕ, ◌+◌, ◌-◌, ◌*◌, ◌<◌}
+use Prim.Native.Nat.{ℕ, ◌+◌, ◌*◌, ◌<◌}
 use mathlib.Core.Path.{◌≡◌, refl, ◌∙◌}
 use mathlib.Core.List.{List}
 use native.Mathlib.Omega.{arith}
 use lib.Seq.{get_or-set_same, get_or-set_other}
 use lib.ListN.{length, length-set, get_or, set}
-use Rattle.wrapper_fit.specs.Counts as counts
 use Rattle.plan_search.specs.Search.{row_places}
 use Rattle.plan.specs.Tables.{table_places}
 use Rattle.plan.proofs.tables.with_times.Invariants.{Stands}

@@ -1,6 +1,5 @@
 use borrow.Author.Rules.{rules}
 use borrow.Author.Tests.{lt-leb, le-leb}
-use Prim.Native.Nat.{◌-◌}
 use mathlib.Core.Path.{◌≡◌, refl, sym, ◌∙◌}
 use mathlib.Core.Logic.{inl}
 use native.Mathlib.Omega.{arith}

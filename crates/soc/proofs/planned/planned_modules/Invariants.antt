@@ -2,7 +2,7 @@
 -- first i. The measure is what is left of the array. Assumes nothing.
 use Prim.Native.Nat.{ℕ, ◌-◌, ◌≤◌}
 use mathlib.Core.Path.{◌≡◌}
-use mathlib.Core.List.{List, []}
+use mathlib.Core.List.{List}
 use lib.ListN.{length, take}
 use Rattle.soc.specs.Limits.{modules_max}
 use Rattle.units.specs.Places.{padded}

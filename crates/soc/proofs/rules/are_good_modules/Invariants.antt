@@ -1,6 +1,6 @@
 -- `soc::rules::are_good_modules` meets its contract. The loop's invariant: the modules in use are good where those of them from i on are,
 -- with the level of the one before them. The measure is what is left of their number. Assumes nothing.
-use Prim.Native.Nat.{ℕ, ◌-◌, ◌≤◌}
+use Prim.Native.Nat.{◌-◌, ◌≤◌}
 use mathlib.Core.Path.{◌≡◌}
 use lib.ListN.{take, drop}
 use Rattle.soc.specs.Rules.{good_modules}

@@ -1,6 +1,8 @@
 -- `text_reader::read::read_soc_marked` meets its contract: the text is too long, or has a byte that is not allowed, or is read line by line.
 -- Assumes nothing.
 use borrow.Author.Tests.{le-leb, lt-leb}
+use native.Mathlib.Omega.{arith}
+use Prim.Native.Nat.{◌≤◌}
 use mathlib.Core.Path.{sym, ap, ◌∙◌}
 use lib.ListN.{length}
 use Rattle.soc.specs.Limits.{text_max}
@@ -17,10 +19,12 @@ returns-then-text-gt-TEXT_MAX c = let t = c.args.text.now in
 pub returns-in-OnLine : goal.returns-in-OnLine
 unfolding read_soc unless_bad
 returns-in-OnLine c = let t = c.args.text.now in
-    rw (le-leb (length t) text_max c.if-text-gt-TEXT_MAX.false, sym c.bad_byte.ensures ∙ c.in-OnLine.is)
+    let short : length t ≤ text_max = omega arith in
+    rw (le-leb (length t) text_max short, sym c.bad_byte.ensures ∙ c.in-OnLine.is)
     (refused_marked_lem _ _ _ _ _ _ c.refused_soc-in-OnLine.ensures (ap refused_soc c.at-in-OnLine.ensures))
 
 pub returns-in-Nowhere : goal.returns-in-Nowhere
 unfolding read_soc unless_bad
 returns-in-Nowhere c = let t = c.args.text.now in
-    rw (le-leb (length t) text_max c.if-text-gt-TEXT_MAX.false, sym c.bad_byte.ensures ∙ c.in-Nowhere.is) c.read_lines.ensures
+    let short : length t ≤ text_max = omega arith in
+    rw (le-leb (length t) text_max short, sym c.bad_byte.ensures ∙ c.in-Nowhere.is) c.read_lines.ensures

@@ -1,8 +1,7 @@
 -- `wrapper_fit::fit::goes_to` meets its contract. The loop's invariant: the best of all is the best of `i`, whose length is `x`, and those
 -- from `j` on. The measure is what is left of the length. Assumes nothing.
-use Prim.Native.Nat.{ℕ, ◌-◌, ◌≤◌}
+use Prim.Native.Nat.{◌-◌, ◌≤◌}
 use mathlib.Core.Path.{◌≡◌}
-use mathlib.Core.List.{[]}
 use lib.ListN.{length, drop}
 use Rattle.wrapper_fit.specs.Fit.{longest, better, best_from, goes}
 use Rattle.wrapper_fit.proofs.fit.goes_to.Given as goal

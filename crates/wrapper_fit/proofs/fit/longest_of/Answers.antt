@@ -1,5 +1,4 @@
 use native.Mathlib.Omega.{arith}
-use Prim.Native.Nat.{◌-◌}
 use mathlib.Core.Path.{sym, ◌∙◌}
 use Rattle.wrapper_fit.proofs.FitLaws.{longest_step, longest-end}
 use Rattle.wrapper_fit.proofs.fit.longest_of.Goals as goal

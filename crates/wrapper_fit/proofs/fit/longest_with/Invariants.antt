@@ -1,7 +1,7 @@
 -- `wrapper_fit::fit::longest_with` meets its contract. The loop's invariant: what all the elements give is what those from `i` on give in
 -- the present lengths, the longest of which is `m`, and the lengths and what is to come have the same total throughout. The measure is what
 -- is left of the elements. Assumes nothing.
-use Prim.Native.Nat.{ℕ, ◌+◌, ◌-◌}
+use Prim.Native.Nat.{◌+◌, ◌-◌}
 use mathlib.Core.Path.{◌≡◌}
 use lib.ListN.{length, take, drop, replicate}
 use Rattle.wrapper_fit.specs.Fit.{longest, total}
