@@ -1,5 +1,5 @@
-// Every entry of the library for callers in other languages, on numbers and bytes (include/tallowwing.h). An answer is one number: its lowest byte
-// is the refusal's number or 0, above it stands the refusal's line, or the figure that the function gives.
+// Every entry of the library for callers in other languages, on numbers and bytes; `c_interface_c` exports them (include/tallowwing.h). An answer is
+// one number: its lowest byte is the refusal's number or 0, above it stands the refusal's line, or the figure that the function gives.
 #![tactic(auto)]
 
 ghost use Rattle.std.specs.Prelude.{◌≡◌};
@@ -39,8 +39,7 @@ fn code_of_bytes(k: usize) -> u64
     above_byte(0, k as u64)
 }
 
-#[unsafe(no_mangle)]
-pub extern "C" fn tallowwing_read_soc(text: &[u8], into: &mut [u8]) -> u64
+pub fn tallowwing_read_soc(text: &[u8], into: &mut [u8]) -> u64
     ensures { (result ≡ read_code text.now into.old) × (into.new ≡ read_held text.now into.old) }
 {
     let read = text::read_soc(text);
@@ -50,8 +49,7 @@ pub extern "C" fn tallowwing_read_soc(text: &[u8], into: &mut [u8]) -> u64
     code_of_bytes(c_forms::soc_bytes(read.soc, &mut *into))
 }
 
-#[unsafe(no_mangle)]
-pub extern "C" fn tallowwing_write_soc(soc: &[u8], into: &mut [u8]) -> u64
+pub fn tallowwing_write_soc(soc: &[u8], into: &mut [u8]) -> u64
     ensures { (result ≡ write_code soc.now into.old) × (into.new ≡ write_held soc.now into.old) }
 {
     let s = c_forms::soc_in(soc);
@@ -59,8 +57,7 @@ pub extern "C" fn tallowwing_write_soc(soc: &[u8], into: &mut [u8]) -> u64
     code_of(written.refusal, written.len as u64)
 }
 
-#[unsafe(no_mangle)]
-pub extern "C" fn tallowwing_layout(
+pub fn tallowwing_layout(
     soc: &[u8],
     module: u32,
     test: u32,
@@ -78,8 +75,7 @@ pub extern "C" fn tallowwing_layout(
     code_of_bytes(c_forms::layout_bytes(laid, &mut *into))
 }
 
-#[unsafe(no_mangle)]
-pub extern "C" fn tallowwing_module_time(soc: &[u8], module: u32, width: u32, capture: u32) -> u64
+pub fn tallowwing_module_time(soc: &[u8], module: u32, width: u32, capture: u32) -> u64
     ensures { result ≡ module_time_code soc.now «module» width capture }
 {
     let s = c_forms::soc_in(soc);
@@ -87,8 +83,7 @@ pub extern "C" fn tallowwing_module_time(soc: &[u8], module: u32, width: u32, ca
     code_of(time.refusal, time.cycles.0)
 }
 
-#[unsafe(no_mangle)]
-pub extern "C" fn tallowwing_module_wires(soc: &[u8], module: u32, width: u32, capture: u32) -> u64
+pub fn tallowwing_module_wires(soc: &[u8], module: u32, width: u32, capture: u32) -> u64
     ensures { result ≡ module_wires_code soc.now «module» width capture }
 {
     let s = c_forms::soc_in(soc);
@@ -96,14 +91,7 @@ pub extern "C" fn tallowwing_module_wires(soc: &[u8], module: u32, width: u32, c
     code_of(best.refusal, best.wires.0 as u64)
 }
 
-#[unsafe(no_mangle)]
-pub extern "C" fn tallowwing_plan(
-    soc: &[u8],
-    wires: u32,
-    limit: u32,
-    capture: u32,
-    into: &mut [u8],
-) -> u64
+pub fn tallowwing_plan(soc: &[u8], wires: u32, limit: u32, capture: u32, into: &mut [u8]) -> u64
     ensures { (result ≡ plan_code soc.now wires limit capture into.old) × (into.new ≡ plan_held soc.now wires limit capture into.old) }
 {
     let s = c_forms::soc_in(soc);
@@ -123,8 +111,7 @@ fn is_finished(e: Ended) -> bool
     }
 }
 
-#[unsafe(no_mangle)]
-pub extern "C" fn tallowwing_budget(
+pub fn tallowwing_budget(
     soc: &[u8],
     wires: u32,
     limit: u32,
@@ -151,8 +138,7 @@ pub extern "C" fn tallowwing_budget(
     ))
 }
 
-#[unsafe(no_mangle)]
-pub extern "C" fn tallowwing_write_plan(from: &[u8], into: &mut [u8]) -> u64
+pub fn tallowwing_write_plan(from: &[u8], into: &mut [u8]) -> u64
     ensures { (result ≡ write_plan_code from.now into.old) × (into.new ≡ write_plan_held from.now into.old) }
 {
     let p = c_forms::plan_in(from);
@@ -160,8 +146,7 @@ pub extern "C" fn tallowwing_write_plan(from: &[u8], into: &mut [u8]) -> u64
     code_of(filed.refusal, filed.len as u64)
 }
 
-#[unsafe(no_mangle)]
-pub extern "C" fn tallowwing_read_plan(file: &[u8], into: &mut [u8]) -> u64
+pub fn tallowwing_read_plan(file: &[u8], into: &mut [u8]) -> u64
     ensures { (result ≡ read_plan_code file.now into.old) × (into.new ≡ read_plan_held file.now into.old) }
 {
     let held = plan_file::read_plan(file);
@@ -171,16 +156,14 @@ pub extern "C" fn tallowwing_read_plan(file: &[u8], into: &mut [u8]) -> u64
     code_of_bytes(c_forms::plan_bytes(held.plan, &mut *into))
 }
 
-#[unsafe(no_mangle)]
-pub extern "C" fn tallowwing_listing(input: &[u8], into: &mut [u8]) -> u64
+pub fn tallowwing_listing(input: &[u8], into: &mut [u8]) -> u64
     ensures { (result ≡ listing_code input.now into.old) × (into.new ≡ listing_held input.now into.old) }
 {
     let listed = listing::listing(input, &mut *into);
     code_of(listed.refusal, listed.len as u64)
 }
 
-#[unsafe(no_mangle)]
-pub extern "C" fn tallowwing_show(from: &[u8], into: &mut [u8]) -> u64
+pub fn tallowwing_show(from: &[u8], into: &mut [u8]) -> u64
     ensures { (result ≡ show_code from.now into.old) × (into.new ≡ show_held from.now into.old) }
 {
     let p = c_forms::plan_in(from);
@@ -217,8 +200,7 @@ fn pair_code_of(r: Refusal, m: Meant, v: u64) -> u64
     pair_refused(r, m)
 }
 
-#[unsafe(no_mangle)]
-pub extern "C" fn tallowwing_read_pair(base: &[u8], overlay: &[u8], into: &mut [u8]) -> u64
+pub fn tallowwing_read_pair(base: &[u8], overlay: &[u8], into: &mut [u8]) -> u64
     ensures { (result ≡ read_pair_code base.now overlay.now into.old) × (into.new ≡ read_pair_held base.now overlay.now into.old) }
 {
     let both = pair::read_pair(base, overlay);
@@ -239,8 +221,7 @@ fn part_figure(over: bool, from: usize, to: usize) -> u64
     places + 0
 }
 
-#[unsafe(no_mangle)]
-pub extern "C" fn tallowwing_module_lines(base: &[u8], overlay: &[u8], module: u32) -> u64
+pub fn tallowwing_module_lines(base: &[u8], overlay: &[u8], module: u32) -> u64
     ensures { result ≡ module_lines_code base.now overlay.now «module» }
 {
     let shown = pair::lines_shown(base, overlay, module);
@@ -251,8 +232,7 @@ pub extern "C" fn tallowwing_module_lines(base: &[u8], overlay: &[u8], module: u
     above_byte(0, part_figure(shown.over, shown.part.from, shown.part.to))
 }
 
-#[unsafe(no_mangle)]
-pub extern "C" fn tallowwing_write_pair(base: &[u8], overlay: &[u8], into: &mut [u8]) -> u64
+pub fn tallowwing_write_pair(base: &[u8], overlay: &[u8], into: &mut [u8]) -> u64
     ensures { (result ≡ write_pair_code base.now overlay.now into.old)
         × (into.new ≡ write_pair_leaves base.now overlay.now into.old) }
 {
@@ -261,8 +241,7 @@ pub extern "C" fn tallowwing_write_pair(base: &[u8], overlay: &[u8], into: &mut 
     pair_code_of(written.answer.refusal, meant, written.answer.len as u64)
 }
 
-#[unsafe(no_mangle)]
-pub extern "C" fn tallowwing_layout_pair(
+pub fn tallowwing_layout_pair(
     base: &[u8],
     overlay: &[u8],
     module: u32,
@@ -289,8 +268,7 @@ pub extern "C" fn tallowwing_layout_pair(
     code_of_bytes(c_forms::layout_bytes(laid.answer, &mut *into))
 }
 
-#[unsafe(no_mangle)]
-pub extern "C" fn tallowwing_module_time_pair(
+pub fn tallowwing_module_time_pair(
     base: &[u8],
     overlay: &[u8],
     module: u32,
@@ -310,8 +288,7 @@ pub extern "C" fn tallowwing_module_time_pair(
     pair_code_of(time.answer.refusal, meant, time.answer.cycles.0)
 }
 
-#[unsafe(no_mangle)]
-pub extern "C" fn tallowwing_module_wires_pair(
+pub fn tallowwing_module_wires_pair(
     base: &[u8],
     overlay: &[u8],
     module: u32,
@@ -331,8 +308,7 @@ pub extern "C" fn tallowwing_module_wires_pair(
     pair_code_of(best.answer.refusal, meant, best.answer.wires.0 as u64)
 }
 
-#[unsafe(no_mangle)]
-pub extern "C" fn tallowwing_plan_pair(
+pub fn tallowwing_plan_pair(
     base: &[u8],
     overlay: &[u8],
     wires: u32,
