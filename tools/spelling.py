@@ -58,7 +58,7 @@ def declared():
 
 
 def new_name(x, words):
-    parts = x.split("-")
+    parts = ["get_or" if q == "getD" else q for q in x.split("-")]
     parts = [snake(q) if not q[:1].isupper() else q for q in parts]
     out = parts[0]
     for q in parts[1:]:

@@ -253,16 +253,16 @@ module _ (o : Options) where
       })
 
 -- with what spare places hold as the default, a place of an array is the one of its front
-spare_get_d : {A : Type 0} (z : A) (xs : List A) (n i : ℕ) → get_or (xs ++ replicate n z) i z ≡ get_or xs i z
-spare_get_d z [] zero i = refl
-spare_get_d z [] (suc n) zero = refl
-spare_get_d z [] (suc n) (suc i) = spare_get_d z [] n i
-spare_get_d z (x ∷ xs) n zero = refl
-spare_get_d z (x ∷ xs) n (suc i) = spare_get_d z xs n i
+spare-get_or : {A : Type 0} (z : A) (xs : List A) (n i : ℕ) → get_or (xs ++ replicate n z) i z ≡ get_or xs i z
+spare-get_or z [] zero i = refl
+spare-get_or z [] (suc n) zero = refl
+spare-get_or z [] (suc n) (suc i) = spare-get_or z [] n i
+spare-get_or z (x ∷ xs) n zero = refl
+spare-get_or z (x ∷ xs) n (suc i) = spare-get_or z xs n i
 
-padded_get_d : {A : Type 0} (z : A) (xs : List A) (n i : ℕ) → get_or (padded n z xs) i z ≡ get_or xs i z
+padded-get_or : {A : Type 0} (z : A) (xs : List A) (n i : ℕ) → get_or (padded n z xs) i z ≡ get_or xs i z
 unfolding padded
-padded_get_d z xs n i = spare_get_d z xs (n - length xs) i
+padded-get_or z xs n i = spare-get_or z xs (n - length xs) i
 
 no_module-spare : spare_module no_module ≡ true
 unfolding spare_module spare_test all_of
@@ -311,7 +311,7 @@ module _ (name : Name) (n : ℕ) (o : Options) (ds : List Module) where
             record {
               name = m.2;
               modules = padded-length modules_max no_module ds (omega (arith, r.count, t.most));
-              each = λ i l. rw (padded_get_d no_module ds modules_max i) (r.sized i);
+              each = λ i l. rw (padded-get_or no_module ds modules_max i) (r.sized i);
             };
       }
 
