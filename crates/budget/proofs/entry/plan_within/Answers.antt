@@ -1,4 +1,5 @@
 -- `budget::entry::plan_within` meets its contract: its tests are those of `budget_answer`, in order. Assumes nothing.
+use native.Mathlib.Omega.{arith}
 use mathlib.Core.Path.{◌≡◌, sym, ap, ◌∙◌}
 use mathlib.Core.Bool.{true}
 use lib.ListN.{length}
@@ -100,5 +101,5 @@ returns c = let w = within (goal.at.returns c).Else-n-ne0 in
       w.buses,
       w.captures,
       le-leb 1 n (rw (count-is (goal.at.returns c).After-planned_modules-p) at c.if-p-lt1.false),
-      within_true 1 a.budget budget_max c.if-budget-lt1.false c.if-budget-gt-BUDGET_MAX.false,
+      within_true 1 a.budget budget_max (omega arith) (omega arith),
     ) c.found_within.ensures

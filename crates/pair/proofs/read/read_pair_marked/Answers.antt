@@ -1,5 +1,6 @@
 -- `pair::read::read_pair_marked` meets its contract: the base is read first, then the overlay, and then the two are joined. Assumes
 -- nothing.
+use native.Mathlib.Omega.{arith}
 use mathlib.Core.Path.{sym, ap, ◌∙◌}
 use Rattle.text_reader.specs.Reading.{read_soc}
 use Rattle.overlay.specs.Overlay.{read_overlay}
@@ -31,7 +32,7 @@ returns c = let o = c.read_overlay_marked-o in
     let b = c.read_soc_marked-b in
     let t = c.args.base.now in
     joined_marked _ _ _ _ _ _ c.joined_pair.ensures
-    (sym (pair-joined b.result.read o.result.read c.if-b-ne0.false c.if-o-ne0.false)
+    (sym (pair-joined b.result.read o.result.read (omega arith) (omega arith))
     ∙ ap (λ r. pair_of r o.result.read) b.ensures.read
     ∙ ap (pair_of (read_soc t)) o.ensures.read)
     b.ensures.marks o.ensures.marks

@@ -1,7 +1,9 @@
 -- `plan::entry::refused_number` meets its contract: its tests are those of `number_refused`, in order. Assumes nothing.
+use borrow.Author.Rules.{rules}
 use borrow.Author.Tests.{le-leb, lt-leb}
 use mathlib.Core.Path.{◌≡◌, sym, ◌∙◌}
-use mathlib.Core.Bool.{true, ◌&&◌}
+use mathlib.Core.Bool.{Bool, true, ◌&&◌}
+use Prim.Native.Nat.{ℕ}
 use lib.Dec.{leb}
 use Rattle.wrapper_fit.specs.Maxima.{width_max, capture_max}
 use Rattle.plan.specs.PlanAnswers.{limit_max}
@@ -23,6 +25,10 @@ captured c = let w = c.is_within-captured in sym w.ensures ∙ c.if-not-captured
 some : (c : Else-not-some) → leb 1 c.args.n ≡ true
 some c = le-leb _ _ c.if-not-some.false
 
+-- a test that was passed, wherever it stood
+passed : {r : Bool} (v most : ℕ) → r ≡ (leb 1 v && leb v most) → r ≡ true → (leb 1 v && leb v most) ≡ true
+passed v most e t = sym e ∙ t
+
 pub returns-then-not-wide : goal.returns-then-not-wide
 unfolding number_refused
 returns-then-not-wide c = let w = c.is_within-wide in rw (sym w.ensures ∙ c.if-not-wide.true)
@@ -40,7 +46,7 @@ returns-then-not-captured c = let w = c.is_within-captured in
 pub returns-then-not-some : goal.returns-then-not-some
 unfolding number_refused
 returns-then-not-some c = let n = c.args.n in
-    rw (wide (goal.at.returns-then-not-some c).Else-not-wide, limited (goal.at.returns-then-not-some c).Else-not-limited, captured (goal.at.returns-then-not-some c).Else-not-captured, lt-leb _ _ c.if-not-some.true)
+    rw (wide (goal.at.returns-then-not-some c).Else-not-wide, limited (goal.at.returns-then-not-some c).Else-not-limited, passed c.args.capture.0 capture_max c.is_within-captured.ensures (search rules), lt-leb _ _ c.if-not-some.true)
 
 pub returns-then-not-few : goal.returns-then-not-few
 unfolding number_refused
