@@ -2,7 +2,8 @@
 """Brings the repository's own definitions and laws to today's spelling, once, behind the toolchain's port script.
 
 Types and modules stay in camel case. Every other name of specs/ and proofs/ is in snake case: `planAnswer` becomes `plan_answer`, and a law's words
-are joined by `_`. A dash stays where it joins two names, of a definition, a type or the library (`padded-take`). A law that would then have its
+are joined by `_`. In a law's name a dash
+stays where it joins two names, of a definition, a type or the library (`padded-take`). A law that would then have its
 definition's name gets `_lem`. Functions of src/, strings, inputs and outputs keep their names; the clauses and `ghost use` lines of src/, and the
 pages, follow the definitions. With --say nothing is written, and what falls together is listed.
 """
@@ -41,20 +42,28 @@ def plain(t):
 
 
 def declared():
-    """The definitions (of specs/, and what proofs/ abbreviates), and all declared names with where they stand."""
-    words, names = set(), {}
+    """The definitions (of specs/, and what proofs/ abbreviates), all declared names with where they stand, and the fields of records."""
+    words, names, fields = set(), {}, set()
     for p in files():
         if is_walk(p):
             continue
+        inside = None
         for l in plain(open(p, encoding="utf8").read()).split("\n"):
+            block = re.match(r"(\s*)(?:pub |abbrev )*(?:record|data) .*where$", l.rstrip())
             m = DECL.match(l)
+            if block:
+                inside = len(block[1])
+            elif inside is not None and l.strip():
+                inside = None if len(l) - len(l.lstrip()) <= inside else inside
+                if inside is not None and m:
+                    fields.add(m[3])
             if not m or m[3] in ("use", "mod", "module", "let", "where"):
                 continue
             if m[3] not in names or os.sep + "specs" + os.sep in p:
                 names[m[3]] = p
             if os.sep + "specs" + os.sep in p or "abbrev" in m[2] or "record" in m[2] or "data" in m[2]:
                 words.add(snake(m[3]))
-    return words, names
+    return words, names, fields
 
 
 def new_name(x, words):
@@ -69,10 +78,10 @@ def new_name(x, words):
 
 
 def mapping():
-    words, names = declared()
+    words, names, fields = declared()
     turn = {}
     for x in names:
-        y = new_name(x, words)
+        y = snake(x).replace("-", "_") if x in fields else new_name(x, words)
         if x != y and ("-" in x or CAMEL.match(x)):
             turn[x] = y
     # a law with its definition's name

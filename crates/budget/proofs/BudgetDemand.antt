@@ -80,30 +80,30 @@ module _ (s : Soc) (W B c budget : ℕ) (h : (budget_answer s W B c budget).refu
   known_is : (budget_answer s W B c budget).known ≡ is_known (sought_for c s W B budget).best
   known_is = ap (λ a. a.known) told.is
 
-  plan-is : (budget_answer s W B c budget).plan ≡ record_met c s W B (sought_for c s W B budget).best
-  plan-is = ap (λ a. a.plan) told.is
+  plan_is : (budget_answer s W B c budget).plan ≡ record_met c s W B (sought_for c s W B budget).best
+  plan_is = ap (λ a. a.plan) told.is
 
   -- ---- "with demand 3 in full for these limits"
   module _ (e : (budget_answer s W B c budget).ended ≡ ended.Finished) where
-    best-is : (sought_for c s W B budget).best ≡ Best.known (time_of (time_in c s) (best_for c s W B)) (best_for c s W B)
+    best_is : (sought_for c s W B budget).best ≡ Best.known (time_of (time_in c s) (best_for c s W B)) (best_for c s W B)
     unfolding sought_for best_for
-    best-is =
+    best_is =
         finished_best (time_in c s) W B (length (planned_of s)) budget told.low told.limit (as_finished _ (sym ended_is ∙ e))
 
     pub finished_known : (budget_answer s W B c budget).known ≡ true
     unfolding is_known
-    finished_known = known_is ∙ ap is_known best-is
+    finished_known = known_is ∙ ap is_known best_is
 
     -- the record is that of the first plan of least time
     pub finished_plan : (budget_answer s W B c budget).plan ≡ record_of c s W B (best_for c s W B)
     unfolding record_met
-    finished_plan = plan-is ∙ ap (record_met c s W B) best-is
+    finished_plan = plan_is ∙ ap (record_met c s W B) best_is
 
     plan-first : plan_of (budget_answer s W B c budget).plan ≡ best_for c s W B
     plan-first =
         ap plan_of finished_plan
         ∙ record_plan (planned_of s) (time_in c s) (wires_in c s) W B (best_for c s W B)
-        (best_for-first c s W B told.low told.limit).is-plan
+        (best_for-first c s W B told.low told.limit).is_plan
 
     -- "The answer is the first plan of least time."
     pub finished_first : IsFirst (time_of (time_in c s)) W B (length (planned_of s)) (plan_of (budget_answer s W B c budget).plan)
@@ -141,9 +141,9 @@ module _ (s : Soc) (W B c budget : ℕ) (h : (budget_answer s W B c budget).refu
         let q = known-plan (time_in c s) W B (length (planned_of s)) budget p.0 p.1 p.2 in
         record {
           met = p.1;
-          is-plan = q.0;
+          is_plan = q.0;
           best = p.2 ∙ ap (λ t. Best.known t p.1) q.1;
-          is = plan-is ∙ ap (record_met c s W B) p.2;
+          is = plan_is ∙ ap (record_met c s W B) p.2;
         }
 
     -- "A plan of the planner is always a good record": it can be written to a file
@@ -151,14 +151,14 @@ module _ (s : Soc) (W B c budget : ℕ) (h : (budget_answer s W B c budget).refu
     known-good =
         rw holds.is
         (plan-good c told.first told.last s W B told.good told.low told.narrow told.limit told.some told.few
-        told.most holds.met holds.is-plan)
+        told.most holds.met holds.is_plan)
 
     plan_met : plan_of (budget_answer s W B c budget).plan ≡ holds.met
-    plan_met = ap plan_of holds.is ∙ record_plan (planned_of s) (time_in c s) (wires_in c s) W B holds.met holds.is-plan
+    plan_met = ap plan_of holds.is ∙ record_plan (planned_of s) (time_in c s) (wires_in c s) W B holds.met holds.is_plan
 
     -- it is a plan of the planned modules
     pub known-plans : IsPlan W B (length (planned_of s)) (plan_of (budget_answer s W B c budget).plan)
-    known-plans = rw plan_met holds.is-plan
+    known-plans = rw plan_met holds.is_plan
 
     -- "the plan's time is the largest busy figure", and it is the time of the plan that the record holds
     pub known-time : (budget_answer s W B c budget).plan.time.0 ≡ largest (busies_of (buses_of (budget_answer s W B c budget).plan))
@@ -173,14 +173,14 @@ module _ (s : Soc) (W B c budget : ℕ) (h : (budget_answer s W B c budget).refu
 
     -- "a bus for every planned module": the modules are the planned ones, ascending
     pub known-modules : numbers_of (modules_of (budget_answer s W B c budget).plan) ≡ planned_of s
-    known-modules = rw holds.is (record_numbers (planned_of s) (time_in c s) (wires_in c s) W B holds.met holds.is-plan)
+    known-modules = rw holds.is (record_numbers (planned_of s) (time_in c s) (wires_in c s) W B holds.met holds.is_plan)
 
     whole : Whole (budget_answer s W B c budget).plan
     whole =
         let p = holds.met in
         rw holds.is (record {
-          buses = record_bus_places (planned_of s) (time_in c s) (wires_in c s) W B p holds.is-plan told.few;
-          modules = record_module_places (planned_of s) (time_in c s) (wires_in c s) W B p holds.is-plan told.most;
+          buses = record_bus_places (planned_of s) (time_in c s) (wires_in c s) W B p holds.is_plan told.few;
+          modules = record_module_places (planned_of s) (time_in c s) (wires_in c s) W B p holds.is_plan told.most;
         })
 
     -- none is module 0

@@ -97,16 +97,16 @@ module _ (c : ℕ) (s : Soc) (W B budget : ℕ) {t : Tables} {p : Planned} {r : 
 
   spent_is : r ≡ spent_of sought
   unfolding sought_for
-  spent_is = is ∙ ap spent_of (rw count-is (searched-same a.cycles-are budget B))
+  spent_is = is ∙ ap spent_of (rw count-is (searched-same a.cycles_are budget B))
 
   -- a plan that is known has its time over the tables too
   module _ (u : ℕ) (q : Plan) (e : sought.best ≡ Best.known u q) where
-    plan-is : IsPlan W B (length (planned_of s)) q × (u ≡ time_of (time_in c s) q)
+    plan_is : IsPlan W B (length (planned_of s)) q × (u ≡ time_of (time_in c s) q)
     unfolding sought_for
-    plan-is = known-plan (time_in c s) W B (length (planned_of s)) budget u q e
+    plan_is = known-plan (time_in c s) W B (length (planned_of s)) budget u q e
 
     found_as_lem : found_as u q ≡ found_of (table_time t.cycles) q
-    found_as_lem = ap (λ v. found_as v q) (plan-is.1 ∙ sym (time-same a.cycles-are plan-is.0))
+    found_as_lem = ap (λ v. found_as v q) (plan_is.1 ∙ sym (time-same a.cycles_are plan_is.0))
 
   pub found-kept : AreTimes t.cycles p.count → Kept p t r
   unfolding spent_by
@@ -114,7 +114,7 @@ module _ (c : ℕ) (s : Soc) (W B budget : ℕ) {t : Tables} {p : Planned} {r : 
     where
       go : (b : Best) → sought.best ≡ b → let x = spent_by b sought.stopped sought.tries in x.known ≡ true → IsFound x.found p.count
       go Best.unknown e h = absurd (false≢true h)
-      go (Best.known u q) e h = found-fits a numbers (plan-is u q e).0 (found_as_lem u q e) narrow few
+      go (Best.known u q) e h = found-fits a numbers (plan_is u q e).0 (found_as_lem u q e) narrow few
 
   pub known_is : r.known ≡ is_known sought.best
   unfolding is_known spent_by
@@ -130,7 +130,7 @@ module _ (c : ℕ) (s : Soc) (W B budget : ℕ) {t : Tables} {p : Planned} {r : 
     where
       go : (b : Best) → sought.best ≡ b → met_in p t W B (spent_by b sought.stopped sought.tries) ≡ record_met c s W B b
       go Best.unknown e = refl
-      go (Best.known u q) e = record_is a numbers (plan-is u q e).0 (found_as_lem u q e) narrow few
+      go (Best.known u q) e = record_is a numbers (plan_is u q e).0 (found_as_lem u q e) narrow few
 
   pub stopped-is : r.stopped ≡ sought.stopped
   unfolding spent_by

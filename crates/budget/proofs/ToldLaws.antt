@@ -99,7 +99,7 @@ known_as Best.unknown e = absurd (false≢true e)
 known_as (Best.known t p) e = (t, p, refl)
 
 pub slower_time : {a b : Best} {t u : ℕ} {p q : Plan} → NoSlower a b → a ≡ Best.known t p → b ≡ Best.known u q → t ≤ u
-slower_time NoSlower.to-unknown e f = absurd (unknown_not f)
+slower_time NoSlower.to_unknown e f = absurd (unknown_not f)
 slower_time (NoSlower.times h) e f = omega (arith, h, ap time_of_best e, ap time_of_best f)
   where
     time_of_best : Best → ℕ
@@ -108,12 +108,12 @@ slower_time (NoSlower.times h) e f = omega (arith, h, ap time_of_best e, ap time
 
 pub slower_known : {a b : Best} → NoSlower a b → is_known b ≡ true → is_known a ≡ true
 unfolding is_known
-slower_known NoSlower.to-unknown e = absurd (false≢true e)
+slower_known NoSlower.to_unknown e = absurd (false≢true e)
 slower_known (NoSlower.times h) e = refl
 
 -- the plan that is known, and that the answer holds its record
 pub record Holds (s : Soc) (W B c budget : ℕ) (a : BudgetAnswer) : Type 0 where
   pub met : Plan
-  pub is-plan : IsPlan W B (length (planned_of s)) met
+  pub is_plan : IsPlan W B (length (planned_of s)) met
   pub best : (sought_for c s W B budget).best ≡ Best.known (time_of (time_in c s) met) met
   pub is : a.plan ≡ record_of c s W B met

@@ -24,7 +24,7 @@ Known b = (t : ℕ) × (p : Plan) × (b ≡ Best.known t p)
 
 known_onward : {a b : Best} → NoSlower a b → Known b → Known a
 unfolding Known
-known_onward NoSlower.to-unknown k = absurd (unknown_not k.2)
+known_onward NoSlower.to_unknown k = absurd (unknown_not k.2)
 known_onward (NoSlower.times {t} {p = p} h) k = (t, p, refl)
 
 module _ (time : ℕ → ℕ → ℕ) (budget : ℕ) where

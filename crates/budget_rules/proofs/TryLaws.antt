@@ -44,11 +44,11 @@ unknown_not e = false≢true (ap is_known e)
     is_known (Best.known t p) = true
 
 pub no_slower_same : (b : Best) → NoSlower b b
-no_slower_same Best.unknown = NoSlower.to-unknown
+no_slower_same Best.unknown = NoSlower.to_unknown
 no_slower_same (Best.known t p) = let h : t ≤ t = omega arith in NoSlower.times h
 
 pub no_slower_trans : {a b c : Best} → NoSlower a b → NoSlower b c → NoSlower a c
-no_slower_trans p NoSlower.to-unknown = NoSlower.to-unknown
+no_slower_trans p NoSlower.to_unknown = NoSlower.to_unknown
 no_slower_trans (NoSlower.times h) (NoSlower.times k) = NoSlower.times (le_trans h k)
 
 -- ---- a completed placement
@@ -84,7 +84,7 @@ module _ (t : ℕ) (p : Plan) where
   unfolding reached
   kept_both Best.unknown true e = absurd (false≢true e)
   kept_both (Best.known u q) true e = (no_slower_same (Best.known u q), NoSlower.times (leb-true u t e))
-  kept_both Best.unknown false e = (NoSlower.to-unknown, no_slower_same (Best.known t p))
+  kept_both Best.unknown false e = (NoSlower.to_unknown, no_slower_same (Best.known t p))
   kept_both (Best.known u q) false e =
       let g = leb-false u t e in
       let h : t ≤ u = omega arith in

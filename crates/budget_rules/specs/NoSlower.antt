@@ -6,5 +6,5 @@ use Rattle.budget_rules.specs.Tries.{Best}
 
 -- the first is known where the second is, and its time is no higher
 pub data NoSlower : Best → Best → Type 0 where
-  to-unknown : {b : Best} → NoSlower b Best.unknown
+  to_unknown : {b : Best} → NoSlower b Best.unknown
   times : {t u : ℕ} {p q : Plan} → t ≤ u → NoSlower (Best.known t p) (Best.known u q)

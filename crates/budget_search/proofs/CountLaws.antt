@@ -21,8 +21,8 @@ module _ (t : List ℕ) (W B n budget : ℕ) where
   pub record Counted (widths best : List ℕ) (r : Progress) (most c : ℕ) : Type 0 where
     pub from : 1 ≤ c
     pub upto : c ≤ most + 1
-    pub most-is : most ≡ min B W
-    pub widths-room : length widths ≡ buses_max
+    pub most_is : most ≡ min B W
+    pub widths_room : length widths ≡ buses_max
     pub rooms : Rooms best
     pub is : searched (table_time t) W B n budget ≡ on_counts (table_time t) W budget n (most + 1 - c) c (held_in n budget r best)
 
@@ -32,8 +32,8 @@ module _ (t : List ℕ) (W B n budget : ℕ) where
   counted-first {most = most} m w r = record {
     from = omega arith;
     upto = omega arith;
-    most-is = m;
-    widths-room = w;
+    most_is = m;
+    widths_room = w;
     rooms = r;
     is =
         let z : most + 1 - 1 ≡ min B W = omega arith in
@@ -49,10 +49,10 @@ module _ (t : List ℕ) (W B n budget : ℕ) where
 
     module _ (l : Limits t W B n budget) (h : c ≤ most) where
       pub few : c ≤ buses_max
-      few = omega (arith, s.most-is, l.limit)
+      few = omega (arith, s.most_is, l.limit)
 
       lent : length (take c widths) ≡ c
-      lent = length-take-le c widths (omega (arith, s.widths-room, few))
+      lent = length-take-le c widths (omega (arith, s.widths_room, few))
 
       pub begun_all : Begun 0 1 W (take c widths)
       begun_all = record {
@@ -60,7 +60,7 @@ module _ (t : List ℕ) (W B n budget : ℕ) where
         few = omega (arith, lent, few);
         front = record { few = omega arith; wide = λ b k. absurd (omega arith) };
         some = omega arith;
-        low-most = omega arith;
+        low_most = omega arith;
         narrow = l.narrow;
       }
 
@@ -82,8 +82,8 @@ module _ (t : List ℕ) (W B n budget : ℕ) where
           record {
             from = omega arith;
             upto = omega arith;
-            most-is = s.most-is;
-            widths-room = length_front widths widths' c e ∙ s.widths-room;
+            most_is = s.most_is;
+            widths_room = length_front widths widths' c e ∙ s.widths_room;
             rooms = m;
             is = s.is ∙ counts_step (held_in n budget r best)
                 ∙ ap (on_counts (table_time t) W budget n (most + 1 - (c + 1)) (c + 1)) (sym is');

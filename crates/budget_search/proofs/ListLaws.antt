@@ -63,7 +63,7 @@ module _ {at low left : ℕ} {ws : List ℕ} (g : Begun at low left ws) where
     few = simp length-set g.few;
     front = rw (set_front low) (front-more low g.some (omega (arith, g.narrow)));
     some = g.some;
-    low-most = g.low-most;
+    low_most = g.low_most;
     narrow = omega (arith, g.narrow);
   }
 
@@ -74,7 +74,7 @@ module _ {at low left : ℕ} {ws : List ℕ} (g : Begun at low left ws) where
     few = rw n g.few;
     front = rw e g.front;
     some = h;
-    low-most = k;
+    low_most = k;
     narrow = g.narrow;
   }
 

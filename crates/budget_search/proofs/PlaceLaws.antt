@@ -79,8 +79,8 @@ pub record Left (t ws : List ℕ) (budget i : ℕ) (l₀ buses₀ best₀ : List
     : Type 0 where
   pub upto : b ≤ length ws
   pub loads_same : l ≡ l₀
-  pub buses-length : length buses ≡ length buses₀
-  pub buses-same : take i buses ≡ take i buses₀
+  pub buses_length : length buses ≡ length buses₀
+  pub buses_same : take i buses ≡ take i buses₀
   pub rooms : Rooms best
   pub is : placed (table_time t) ws budget (length buses₀ - i) i l₀ (take i buses₀) (held_in (length buses₀) budget s₀ best₀)
       ≡ each (length ws - b) b (attempted (table_time t) ws budget (length buses₀ - (i + 1)) i l₀ (take i buses₀))
@@ -111,7 +111,7 @@ module _ {t ws : List ℕ} {budget i top : ℕ} {l buses best : List ℕ} (r : R
     pub placed-reached : true ≡ reaches s top → Placed budget i l l buses buses best s (to_place s)
     placed-reached h = record {
       loads_same = refl;
-      buses-same = refl;
+      buses_same = refl;
       rooms = r.rooms;
       is =
           sym (placed-all ∙ rw (reached-held (length buses) budget s best top top_below ∙ sym h));
@@ -125,7 +125,7 @@ module _ {t ws : List ℕ} {budget i top : ℕ} {l buses best : List ℕ} (r : R
         let known : Best → Sought = λ x. record { best = x; stopped = stops budget s; tries = min budget s.tries } in
         record {
           loads_same = refl;
-          buses-same = refl;
+          buses_same = refl;
           rooms = m;
           is =
               ap (λ x. held_in (length buses) budget x best') q-is
@@ -149,8 +149,8 @@ module _ {t ws : List ℕ} {budget i top : ℕ} {l buses best : List ℕ} (r : R
         record {
           upto = omega arith;
           loads_same = refl;
-          buses-length = refl;
-          buses-same = refl;
+          buses_length = refl;
+          buses_same = refl;
           rooms = r.rooms;
           is = rw (e, z);
         }
@@ -179,7 +179,7 @@ module _ {t ws : List ℕ} {budget i top : ℕ} {l buses best : List ℕ} (r : R
         pub attempt_halted : {q : Progress} → budget ≤ s.tries → q ≡ halts budget s → Placed budget i l l buses buses best q (to_try b s)
         attempt_halted h k = record {
           loads_same = refl;
-          buses-same = refl;
+          buses_same = refl;
           rooms = r.rooms;
           is = rw (le-ltb (min budget s.tries) budget (omega arith))
               (ap (λ x. held_in (length buses) budget x best) k ∙ halted-held (length buses) budget s best h);
@@ -200,7 +200,7 @@ module _ {t ws : List ℕ} {budget i top : ℕ} {l buses best : List ℕ} (r : R
           pub attempt_dropped : true ≡ reaches q busy → Placed budget i l l buses buses best q (to_try b s)
           attempt_dropped d = record {
             loads_same = refl;
-            buses-same = refl;
+            buses_same = refl;
             rooms = r.rooms;
             is = rw (goes, test d) spent_is;
           }
@@ -218,8 +218,8 @@ module _ {t ws : List ℕ} {budget i top : ℕ} {l buses best : List ℕ} (r : R
               let m = length buses - (i + 1) in
               record {
                 loads_same = ap (λ x. set x b (get_or l b 0)) k.loads_same ∙ set_back l b busy;
-                buses-same =
-                    sym (take-take i (i + 1) buses' (omega arith)) ∙ ap (take i) k.buses-same
+                buses_same =
+                    sym (take-take i (i + 1) buses' (omega arith)) ∙ ap (take i) k.buses_same
                     ∙ take-take i (i + 1) (set buses i (b + 1)) (omega arith) ∙ take-set-le i buses i (b + 1) (omega arith);
                 rooms = k.rooms;
                 is = rw (goes, test d)
@@ -237,10 +237,10 @@ module _ {t ws : List ℕ} {budget i : ℕ} {l₀ buses₀ best₀ : List ℕ} {
     (f : Left t ws budget i l₀ buses₀ best₀ s₀ l buses best s b) where
   pub left_ready : {top : ℕ} → Ready t ws budget i top l₀ buses₀ best₀ → Ready t ws budget i top l buses best
   left_ready r = record {
-    table = rw f.buses-length r.table;
+    table = rw f.buses_length r.table;
     widths = r.widths;
     limit = r.limit;
-    upto = rw f.buses-length r.upto;
+    upto = rw f.buses_length r.upto;
     room = ap length f.loads_same ∙ r.room;
     rooms = f.rooms;
     loads_most = λ j. rw f.loads_same (r.loads_most j);
@@ -259,12 +259,12 @@ module _ {t ws : List ℕ} {budget i : ℕ} {l₀ buses₀ best₀ : List ℕ} {
   left-tried h p n = record {
     upto = omega arith;
     loads_same = p.loads_same ∙ f.loads_same;
-    buses-length = n ∙ f.buses-length;
-    buses-same = p.buses-same ∙ f.buses-same;
+    buses_length = n ∙ f.buses_length;
+    buses_same = p.buses_same ∙ f.buses_same;
     rooms = p.rooms;
     is =
         f.is ∙ each_step (length ws) b next (held_in (length buses₀) budget s best) h
-        ∙ ap (each (length ws - (b + 1)) (b + 1) next) (sym (rw (f.loads_same, f.buses-same, f.buses-length) at p.is));
+        ∙ ap (each (length ws - (b + 1)) (b + 1) next) (sym (rw (f.loads_same, f.buses_same, f.buses_length) at p.is));
   }
 
   pub left_end : length ws ≤ b
@@ -272,7 +272,7 @@ module _ {t ws : List ℕ} {budget i : ℕ} {l₀ buses₀ best₀ : List ℕ} {
       (placed (table_time t) ws budget (length buses₀ - i) i l₀ (take i buses₀) (held_in (length buses₀) budget s₀ best₀))
   left_end h = record {
     loads_same = f.loads_same;
-    buses-same = f.buses-same;
+    buses_same = f.buses_same;
     rooms = f.rooms;
     is = sym (f.is ∙ each_none (length ws) b next (held_in (length buses₀) budget s best) h);
   }

@@ -10,5 +10,5 @@ pub record Begun (at low left : ℕ) (ws : List ℕ) : Type 0 where
   pub few : length ws ≤ buses_max
   pub front : AreWidths (take at ws)
   pub some : 1 ≤ low
-  pub low-most : low ≤ 2 * row_places
+  pub low_most : low ≤ 2 * row_places
   pub narrow : left ≤ row_places

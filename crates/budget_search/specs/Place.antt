@@ -37,6 +37,6 @@ attempted time ws budget k i l bs b =
 -- buffer hold what is sought
 pub record Placed (budget i : ℕ) (loads loads' buses buses' best' : List ℕ) (r : Progress) (sought : Sought) : Type 0 where
   pub loads_same : loads' ≡ loads
-  pub buses-same : take i buses' ≡ take i buses
+  pub buses_same : take i buses' ≡ take i buses
   pub rooms : Rooms best'
   pub is : held_in (length buses) budget r best' ≡ sought

@@ -72,15 +72,15 @@ pub count-length : (p : BusPlan) → length (count_bytes p) ≡ buses_from
 unfolding count_bytes
 count-length p = simp (length-append, little-length, words-length)
 
-pub buses-length : (p : BusPlan) → Whole p → length (each bus_bytes p.buses) ≡ bus_stride * bus_places
-buses-length p w = each-length bus_bytes bus_stride p.buses bus_places no_bus w.buses (λ i h. bus-length _)
+pub buses_length : (p : BusPlan) → Whole p → length (each bus_bytes p.buses) ≡ bus_stride * bus_places
+buses_length p w = each-length bus_bytes bus_stride p.buses bus_places no_bus w.buses (λ i h. bus-length _)
 
 pub plan-length : (p : BusPlan) → Whole p → length (plan_bytes p) ≡ plan_length
 unfolding plan_bytes
 plan-length p w =
     let m : length (each placed_bytes p.modules) ≡ placed_stride * module_places = each-length placed_bytes placed_stride
     p.modules module_places no_placed w.modules (λ i h. placed-length _) in
-    simp (length-append, count-length, buses-length p w, m)
+    simp (length-append, count-length, buses_length p w, m)
 
 spent_length : (f k : Bool) (t : ℕ) → length (spent_bytes f k t) ≡ found_from
 unfolding spent_bytes

@@ -103,7 +103,7 @@ module _ {b : List ℕ} (d : Module) (at : ℕ) (z : SizedModule d) (f : FitModu
         words_stand u 1 (omega arith) (word_below d.y f.y) m.position,
         signed_back d.x f.x,
         signed_back d.y f.y,
-        words_stand u 2 (omega arith) f.test-count m.position,
+        words_stand u 2 (omega arith) f.test_count m.position,
         tests_back m.tests,
       )
 

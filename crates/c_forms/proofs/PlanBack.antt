@@ -22,7 +22,7 @@ use Rattle.c_forms.specs.PlanForm.{bus_stride, cycles_from, start_from, placed_s
 use Rattle.c_forms.specs.PlanForm.{bus_at, placed_words, placed_bytes, placed_at, count_words, count_bytes, plan_bytes, plan_at, plan_in}
 use Rattle.c_forms.specs.Fit.{FitBus, FitPlaced, FitPlan}
 use Rattle.c_forms.proofs.WordLaws.{words-length, words_stand, words-behind}
-use Rattle.c_forms.proofs.LengthLaws.{bus-length, placed-length, buses-length, plan-length}
+use Rattle.c_forms.proofs.LengthLaws.{bus-length, placed-length, buses_length, plan-length}
 use Rattle.c_forms.proofs.PlanFits.{good-plan-fits}
 
 bus_back : {b : List ℕ} (x : Bus) (at : ℕ) → FitBus x → Stands (bus_bytes x) b at → bus_at b at ≡ x
@@ -77,11 +77,11 @@ module _ {b : List ℕ} (p : BusPlan) (w : Whole p) (f : FitPlan p) where
       rw (
         words_stand v 0 (omega arith) f.wires c,
         words_stand v 1 (omega arith) f.limit c,
-        words_stand v 2 (omega arith) f.bus-count c,
+        words_stand v 2 (omega arith) f.bus_count c,
         words_stand v 3 (omega arith) f.module_count c,
         number-first long_length p.time.0 (u ++ m) f.time q,
         buses_back (stands_first u m r),
-        modules_back (stands_behind u m (bus_stride * bus_places) placed_from (buses-length p w) refl r),
+        modules_back (stands_behind u m (bus_stride * bus_places) placed_from (buses_length p w) refl r),
       )
 
 -- bytes of the due length say a plan

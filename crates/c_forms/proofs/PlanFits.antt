@@ -67,7 +67,7 @@ module _ (p : BusPlan) (w : Whole p) (e : good_plan p ≡ true) where
       record {
         wires = omega arith;
         limit = omega arith;
-        bus-count = omega arith;
+        bus_count = omega arith;
         module_count = omega arith;
         time = omega (arith, good-time p w e);
         buses = front-each spare_bus FitBus spare-bus no_bus p.bus_count p.buses (λ i h l. bus-fits i h) s.0;

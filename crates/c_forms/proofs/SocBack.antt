@@ -63,7 +63,7 @@ module _ {b : List ℕ} (s : Soc) (z : Sized s) (f : FitSoc s) where
       let p = words_stand v 0 (omega arith) (flag-fits s.power) o in
       let x = words_stand v 1 (omega arith) (flag-fits s.xy) o in (
         rw (
-          number-first word_length s.name_len (s.name ++ (words v ++ m)) f.name-len r,
+          number-first word_length s.name_len (s.name ++ (words v ++ m)) f.name_len r,
           part_stands s.name name_max z.name (stands_first s.name (words v ++ m) n),
           p,
           x,

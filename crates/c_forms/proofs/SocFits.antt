@@ -90,7 +90,7 @@ position-fits option x y e =
 good-test : (m : ℕ) (power : Bool) (t : Test) → good_test m power t ≡ true → FitTest t
 good-test m power t e =
     let f = test-figures m power t e in
-    record { patterns = omega (arith, f.patterns); power = power-fits power t.power f.power-kept }
+    record { patterns = omega (arith, f.patterns); power = power-fits power t.power f.power_kept }
 
 spare-test : (t : Test) → spare_test t ≡ true → FitTest t
 unfolding spare_test
@@ -135,7 +135,7 @@ good_module_lem power xy m last d e =
       chains = filled-each good_length spare_length FitLength good_length_lem spare-length (flip_flops 0) d.chain_count d.chains k.0;
       x = p.0;
       y = p.1;
-      test-count = omega (arith, f.test-count);
+      test_count = omega (arith, f.test_count);
       tests = filled-each (good_test m power) spare_test FitTest (good-test m power) spare-test no_test d.test_count d.tests k.1;
     }
 
@@ -160,7 +160,7 @@ spare_module_lem d e =
       chains = all-each spare_length FitLength spare-length (flip_flops 0) d.chains h.0;
       x = none-fits d.x k.0;
       y = none-fits d.y l.0;
-      test-count = none-small d.test_count m.0;
+      test_count = none-small d.test_count m.0;
       tests = all-each spare_test FitTest spare-test no_test d.tests m.1;
     }
 
@@ -186,7 +186,7 @@ pub good-fits : (s : Soc) → good_soc s ≡ true → FitSoc s
 good-fits s e =
     let f = soc-figures s e in
     record {
-      name-len = omega (arith, f.name-len);
+      name_len = omega (arith, f.name_len);
       module_count = omega (arith, f.module_count);
       modules = good-modules s.power s.xy 0 0 s.module_count s.modules f.modules (spare-modules s e);
     }

@@ -34,7 +34,7 @@ pub record FitPlaced (m : PlacedModule) : Type 0 where
 pub record FitPlan (p : BusPlan) : Type 0 where
   pub wires : Fits4 p.wires.0
   pub limit : Fits4 p.limit
-  pub bus-count : Fits4 p.bus_count
+  pub bus_count : Fits4 p.bus_count
   pub module_count : Fits4 p.module_count
   pub time : Fits8 p.time.0
   pub buses : (i : ℕ) → i < length p.buses → FitBus (get_or p.buses i no_bus)
@@ -56,10 +56,10 @@ pub record FitModule (d : Module) : Type 0 where
   pub chains : (i : ℕ) → i < length d.chains → FitLength (get_or d.chains i (flip_flops 0))
   pub x : SFits w32 d.x
   pub y : SFits w32 d.y
-  pub test-count : Fits4 d.test_count
+  pub test_count : Fits4 d.test_count
   pub tests : (i : ℕ) → i < length d.tests → FitTest (get_or d.tests i no_test)
 
 pub record FitSoc (s : Soc) : Type 0 where
-  pub name-len : Fits4 s.name_len
+  pub name_len : Fits4 s.name_len
   pub module_count : Fits4 s.module_count
   pub modules : (i : ℕ) → i < length s.modules → FitModule (get_or s.modules i no_module)

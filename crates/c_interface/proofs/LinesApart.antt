@@ -121,7 +121,7 @@ module _ (base overlay : List ℕ) (m : ℕ) where
           small : (t : Bool) → s.over ≡ t → (s.part.from ≤ s.part.to) × (s.part.to ≤ text_max)
           small true k =
               let b = (lines_lie base overlay m s e).over k in
-              let l = overlay-short overlay (pair_only base overlay (shown_read h)).overlay-is in
+              let l = overlay-short overlay (pair_only base overlay (shown_read h)).overlay_is in
               (b.order, omega (arith, b.end, l))
           small false k =
               let b = (lines_lie base overlay m s e).under k in

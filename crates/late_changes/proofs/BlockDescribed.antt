@@ -84,8 +84,8 @@ module _
     lines-ruled ls r = record {
       position = r.position;
       tests = r.tests;
-      position-is = r.position-is;
-      tests-are = r.tests-are;
+      position_is = r.position_is;
+      tests_are = r.tests_are;
       lines_are = refl;
     }
 

@@ -114,8 +114,8 @@ pub record Filled (power xy : Bool) (low : ℕ) (bs : List Block) (ls : List (Li
   pub lines : BlocksLines power xy low has modules ls
   pub fills : Fills low bs has modules
   pub good : good_blocks power xy low has modules ≡ true
-  pub has-length : length has ≡ modules_max - low
-  pub modules-length : length modules ≡ modules_max - low
+  pub has_length : length has ≡ modules_max - low
+  pub modules_length : length modules ≡ modules_max - low
   pub sized : (i : ℕ) → SizedModule (get_or modules i no_module)
 
 spare-lines : {power xy : Bool} (k m : ℕ) → BlocksLines power xy m (replicate k false) (replicate k no_module) []
@@ -143,8 +143,8 @@ ascending_fills {power = power} {xy = xy} (Ascending.none {low}) =
       lines = spare-lines k low;
       fills = λ hs ds e g. refl;
       good = spare-good power xy k low;
-      has-length = length-replicate k false;
-      modules-length = length-replicate k no_module;
+      has_length = length-replicate k false;
+      modules_length = length-replicate k no_module;
       sized = spare-sized k;
     }
 ascending_fills {power = power} {xy = xy} (Ascending.more {low} {m} {d} {bs} {ls} {ms} p q g r) =
@@ -159,8 +159,8 @@ ascending_fills {power = power} {xy = xy} (Ascending.more {low} {m} {d} {bs} {ls
       lines = skip_lines power xy k low m (true ∷ f.has) (d ∷ f.modules) (ls ++ ms) e b;
       fills = block_fills low m d bs f.has f.modules p q f.fills;
       good = skip_good power xy k low m (true ∷ f.has) (d ∷ f.modules) e w;
-      has-length = simp (length-append, length-replicate, f.has-length) (omega arith);
-      modules-length = simp (length-append, length-replicate, f.modules-length) (omega arith);
+      has_length = simp (length-append, length-replicate, f.has_length) (omega arith);
+      modules_length = simp (length-append, length-replicate, f.modules_length) (omega arith);
       sized = skip_sized k (d ∷ f.modules) (elim [ zero ↦ g.sized | suc i ↦ f.sized i ]);
     }
 

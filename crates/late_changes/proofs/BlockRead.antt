@@ -112,7 +112,7 @@ module _ (o : Options) where
       record {
         fields = level_fields m d ∷ a.position ++ tests_fields m d ∷ a.tests;
         lines = ap₂ (λ y ys. y ∷ ys) b j;
-        are = record { position = a.position; tests = a.tests; position-is = a.position-is; tests-are = a.tests-are; lines_are = refl };
+        are = record { position = a.position; tests = a.tests; position_is = a.position_is; tests_are = a.tests_are; lines_are = refl };
         good = good_only o.power o.xy m d (ap (λ y. leb y level_max) (sym v) ∙ h) x.good;
         sized = sized_only w d x.sized;
       }

@@ -79,7 +79,7 @@ rest_of o m s ls d rest h =
           ∙ ap (λ r. p.position ++ count ∷ r) (t.lines ∙ ap (λ q. t.fields ++ map fields_in q) g.1)
           ∙ sym (append_assoc p.position (count ∷ t.fields) (map fields_in rest)),
       all_append (of_module m) p.position (count ∷ t.fields)
-          (position_of o.xy m (module_of s a.value b.value) p.position p.position-is)
+          (position_of o.xy m (module_of s a.value b.value) p.position p.position_is)
           (and_holds (of_back m _) (tests_of_lem t.are)),
     )
 

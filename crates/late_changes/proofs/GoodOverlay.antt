@@ -39,15 +39,15 @@ put-good : (power xy : Bool) (p : Places) (b : Block) → GoodPlaces power xy p.
     → GoodPlaces power xy (put p b).has (put p b).modules
 put-good power xy p b g h k =
     record {
-      has-length = simp length-set g.has-length;
-      modules-length = simp length-set g.modules-length;
+      has_length = simp length-set g.has_length;
+      modules_length = simp length-set g.modules_length;
       each = λ m e. go m e (eqb m b.number) refl;
     }
   where
     go : (m : ℕ) → get_or (set p.has b.number true) m false ≡ true → (t : Bool) → eqb m b.number ≡ t → GoodBut power xy m (get_or (set p.modules b.number b.says) m no_module)
     go m e true i =
         let n : m ≡ b.number = eqb-true m b.number i in
-        let s : get_or (set p.modules b.number b.says) b.number no_module ≡ b.says = get_or-set_same p.modules b.number b.says no_module (omega (arith, g.modules-length)) in
+        let s : get_or (set p.modules b.number b.says) b.number no_module ≡ b.says = get_or-set_same p.modules b.number b.says no_module (omega (arith, g.modules_length)) in
         rw (n, s) k
     go m e false i =
         let n : m ≡ b.number → ⊥ = eqb-false m b.number i in
@@ -82,7 +82,7 @@ none-at (suc n) zero e = false≢true e
 none-at (suc n) (suc m) e = none-at n m e
 
 none-good : (power xy : Bool) → GoodPlaces power xy (replicate modules_max false) (replicate modules_max no_module)
-none-good power xy = record { has-length = refl; modules-length = refl; each = λ m e. absurd (none-at modules_max m e) }
+none-good power xy = record { has_length = refl; modules_length = refl; each = λ m e. absurd (none-at modules_max m e) }
 
 overlay-good : (ls : List Line) (v : Overlay) (rest : List Line) → overlay ls ≡ got v rest → GoodPlaces v.power v.xy v.has v.modules
 unfolding overlay behind_name with_blocks places

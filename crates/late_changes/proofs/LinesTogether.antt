@@ -92,8 +92,8 @@ module _ {power xy : Bool} {m : ℕ} {d : Module} {ls : Lines} (r : ModuleLines 
   module_of =
       ap (all_of (of_module m)) r.lines_are
       ∙ and_holds (of_back m _)
-      (all_append (of_module m) r.position (tests_fields m d ∷ r.tests) (position_of xy m d r.position r.position-is)
-      (and_holds (of_back m _) (tests_of_lem r.tests-are)))
+      (all_append (of_module m) r.position (tests_fields m d ∷ r.tests) (position_of xy m d r.position r.position_is)
+      (and_holds (of_back m _) (tests_of_lem r.tests_are)))
 
   module_some : ls ≡ [] → ⊥
   module_some e =
@@ -105,7 +105,7 @@ module _ {power xy : Bool} {m : ℕ} {d : Module} {ls : Lines} (r : ModuleLines 
 pub first-together : (m : ℕ) (ls ms : Lines) → (ls ≡ [] → ⊥) → all_of (of_module m) ls ≡ true → any_of (of_module m) ms ≡ false
     → Together m (ls ++ ms) ls
 unfolding any_of
-first-together m ls ms h k l = record { before = []; behind = ms; lines_are = refl; some = h; none_before = refl; all = k; none-behind = l }
+first-together m ls ms h k l = record { before = []; behind = ms; lines_are = refl; some = h; none_before = refl; all = k; none_behind = l }
 
 pub behind_others : (m : ℕ) (fs ls middle : Lines) → any_of (of_module m) fs ≡ false → Together m ls middle → Together m (fs ++ ls) middle
 behind_others m fs ls middle h t =
@@ -116,7 +116,7 @@ behind_others m fs ls middle h t =
       some = t.some;
       none_before = any_append (of_module m) fs t.before h t.none_before;
       all = t.all;
-      none-behind = t.none-behind;
+      none_behind = t.none_behind;
     }
 
 -- a SOC text
@@ -149,7 +149,7 @@ head_other s m = refl
 soc_stands : (s : Soc) (ls : Lines) (m : ℕ) → Describes s ls → m < length (modules_of s)
     → Stands s.power s.xy m (get_or (modules_of s) m no_module) ls
 soc_stands s ls m r h =
-    let t = modules_stand r.modules-are m m (omega arith) h in
+    let t = modules_stand r.modules_are m m (omega arith) h in
     let head = name_fields s ∷ total_fields s ∷ options_fields s ∷ [] in
     let u = behind_others m head r.modules t.middle (head_other s m) t.together in
     rw r.lines_are (record { middle = t.middle; together = u; are = t.are })

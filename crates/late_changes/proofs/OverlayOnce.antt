@@ -80,7 +80,7 @@ head_sized v z = record { name = z.name; modules = refl; each = λ i h. spare-si
 
 head_spare : (v : Overlay) (ls : List (List (List ℕ))) → DescribesOverlay v ls → Spare (head_of v)
 unfolding spare_module spare_test all_of
-head_spare v ls d = record { room = d.room; name = d.name-spare; modules = refl; within = refl }
+head_spare v ls d = record { room = d.room; name = d.name_spare; modules = refl; within = refl }
 
 head_once : (v w : Overlay) → overlay_fields v ≡ overlay_fields w → name_fields (head_of v) ≡ name_fields (head_of w)
 unfolding overlay_fields name_fields
@@ -96,9 +96,9 @@ overlay-lines_once ls v w y z p q =
     let n = head_once v w f in
     let name = name_once (head_of v) (head_of w) (head_sized v y) (head_sized w z) (head_spare v ls p) (head_spare w ls q) n in
     let o = options_once (head_of v) (head_of w) g in
-    let c = subst (λ x. BlocksLines x v.xy 0 v.has v.modules p.blocks) o.0 p.blocks-are in
+    let c = subst (λ x. BlocksLines x v.xy 0 v.has v.modules p.blocks) o.0 p.blocks_are in
     let a = subst (λ x. BlocksLines w.power x 0 v.has v.modules p.blocks) o.1 c in
-    let b = blocks_once a q.blocks-are (y.has ∙ sym z.has) (sized-places v y) (sized-places w z) p.within q.within k in
+    let b = blocks_once a q.blocks_are (y.has ∙ sym z.has) (sized-places v y) (sized-places w z) p.within q.within k in
     λ i. record {
       name_len = name.0 i;
       name = name.1 i;

@@ -116,15 +116,15 @@ overlay_parts n o bs a b ls f h k s =
       described =
           record {
             blocks = map fields_in ls;
-            blocks-are = f.lines;
+            blocks_are = f.lines;
             some = s;
             lines_are = cc;
             room = leb-true v.name_len name_max x.0;
-            name-spare = y.1;
+            name_spare = y.1;
             within = blocks-spare f.lines f.good;
           };
       good = and_holds q.good (and_holds (blocks-some f.lines s) f.good);
-      sized = record { name = q.sized; has = f.has-length; modules = f.modules-length; each = λ i h. f.sized i };
+      sized = record { name = q.sized; has = f.has_length; modules = f.modules_length; each = λ i h. f.sized i };
     }
 
 pub overlay_only : (ls : List Line) (v : Overlay) (rest : List Line) → overlay ls ≡ got v rest → OverlayIs v ls × (rest ≡ [])
@@ -186,6 +186,6 @@ reads_described v ls z g d =
     (line-passes overlay_line (overlay_fields v) n (name-said v z.name a.0))
     (then_ends (line options_line) (with_blocks n) (options_fields (head_of v) ∷ []) d.blocks o v
     (line-passes options_line (options_fields (head_of v)) o (options_back (head_of v)))
-    (blocks-are-read v d.blocks z (and_both (has_some v.has) b a.1).1 d.blocks-are d.some))
+    (blocks-are-read v d.blocks z (and_both (has_some v.has) b a.1).1 d.blocks_are d.some))
     ls
     d.lines_are

@@ -38,11 +38,11 @@ module _ (o : Overlay) (z : SizedOverlay o) (g : good_overlay o ≡ true) where
       and_both (leb o.name_len name_max) (is_name (name_of (head_of o)) && all_of none (drop o.name_len o.name)) p.name in
       record {
         blocks = block_lines_from o.power o.xy 0 o.has o.modules;
-        blocks-are = b;
+        blocks_are = b;
         some = written-some o.power o.xy 0 o.has o.modules n p.some;
         lines_are = refl;
         room = leb-true o.name_len name_max a.0;
-        name-spare = (and_both (is_name (name_of (head_of o))) (all_of none (drop o.name_len o.name)) a.1).1;
+        name_spare = (and_both (is_name (name_of (head_of o))) (all_of none (drop o.name_len o.name)) a.1).1;
         within = blocks-spare b p.blocks;
       }
 

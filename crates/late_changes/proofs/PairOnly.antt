@@ -32,7 +32,7 @@ use Rattle.late_changes.proofs.SizedPair.{combined-sized}
 -- both texts are accepted and the overlay fits; the answer is the combined description, and which modules are the overlay's
 pub record Accepted (base overlay : List ℕ) : Type 0 where
   pub base_is : read_soc base ≡ accepted_soc (read_soc base).soc
-  pub overlay-is : (read_overlay overlay).refusal.number ≡ 0
+  pub overlay_is : (read_overlay overlay).refusal.number ≡ 0
   pub fit : fits (read_soc base).soc (read_overlay overlay).overlay ≡ true
   pub is : read_pair base overlay ≡ accepted_pair (combined (read_soc base).soc (read_overlay overlay).overlay) (read_overlay overlay).overlay.has
 
@@ -75,7 +75,7 @@ pair_only base overlay h = go (eqb b.refusal.number 0) refl (eqb o.refusal.numbe
         let k : read_pair base overlay ≡ joined b.soc o.overlay = rw (e, f) in
         record {
           base_is = base_accepted base (eqb-true b.refusal.number 0 e);
-          overlay-is = eqb-true o.refusal.number 0 f;
+          overlay_is = eqb-true o.refusal.number 0 f;
           fit = j.0;
           is = k ∙ j.1;
         }

@@ -293,7 +293,7 @@ module _ (m : ℕ) (t : List ℕ) where
   part-lines (y ∷ mid) h =
       text-fields (part t (module_part m t).from (module_part m t).to)
       ∙ from-before m t (length t) 0 h.before y mid h.behind (omega arith) (sym (text-fields t) ∙ h.lines_are)
-      h.none_before h.all h.none-behind
+      h.none_before h.all h.none_behind
 
   -- and begins and ends with a byte of a field
   pub together-ends : (middle : Lines) → Together m (field_lines t) middle → Ends t (module_part m t)

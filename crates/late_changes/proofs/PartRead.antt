@@ -106,8 +106,8 @@ module _ (base overlay : List ℕ) (m : ℕ) (accepted : (read_pair base overlay
   unfolding combined
   said-is =
       let g = read-good overlay in
-      let h : m < length over.has = omega (arith, below, g.has-length) in
-      let k : m < length over.modules = omega (arith, below, g.modules-length) in
+      let h : m < length over.has = omega (arith, below, g.has_length) in
+      let k : m < length over.modules = omega (arith, below, g.modules_length) in
       let l : m < length under.modules = omega (arith, below, (accepted-sized base under is.base_is).modules) in
       ap (λ (p : PairRead). get_or p.soc.modules m no_module) is.is
       ∙ laid-at m over.has over.modules under.modules no_module h k l
@@ -128,7 +128,7 @@ module _ (base overlay : List ℕ) (m : ℕ) (accepted : (read_pair base overlay
   fit : Fits under over
   fit =
       let g = read-good overlay in
-      fits_only under over g.has-length g.modules-length (accepted-sized base under is.base_is).modules is.fit
+      fits_only under over g.has_length g.modules_length (accepted-sized base under is.base_is).modules is.fit
 
   -- the fields of the part are those of lines that say the module
   pub part_says : let s = (read_pair base overlay).soc in
@@ -138,7 +138,7 @@ module _ (base overlay : List ℕ) (m : ℕ) (accepted : (read_pair base overlay
       go : (t : Bool) → get_or pair.has m false ≡ t
           → ModuleLines pair.soc.power pair.soc.xy m said (field_lines (module_lines base overlay m))
       go true e =
-          let st = blocks_stand overlay m is.overlay-is (sym has-is ∙ e) in
+          let st = blocks_stand overlay m is.overlay_is (sym has-is ∙ e) in
           let d : said ≡ get_or over.modules m no_module = said-is ∙ ap chosen e in
           let g = good in
           let r : level_rule m g.0 (get_or over.modules m no_module).level ≡ true =
@@ -166,7 +166,7 @@ module _ (base overlay : List ℕ) (m : ℕ) (accepted : (read_pair base overlay
     where
       go : (t : Bool) → get_or pair.has m false ≡ t → let q = lines_shown base overlay m in Ends (cond q.over overlay base) q.part
       go true e =
-          let st = blocks_stand overlay m is.overlay-is (sym has-is ∙ e) in
+          let st = blocks_stand overlay m is.overlay_is (sym has-is ∙ e) in
           rw (shown-over e) (together-ends m overlay st.middle st.together)
       go false e =
           let st = text_stands base under m is.base_is (omega (arith, there, count-is)) in

@@ -59,7 +59,7 @@ combined-sized s o z g f p =
 
     over : (i : ℕ) → i < modules_max → get_or o.has i false ≡ true → SizedModule (get_or o.modules i no_module)
     over i h e =
-        let q = places_only n 0 i o.has o.modules s.modules fit (omega (arith, h, p.modules-length)) (omega (arith, h, z.modules)) e in
+        let q = places_only n 0 i o.has o.modules s.modules fit (omega (arith, h, p.modules_length)) (omega (arith, h, z.modules)) e in
         let k : i < n = omega (arith, q.0) in
         let t : i < length (take n s.modules) = front-has n s.modules i k (omega (arith, h, z.modules)) in
         let r = good-at s.power s.xy 0 0 (take n s.modules) i good t in
@@ -73,7 +73,7 @@ combined-sized s o z g f p =
 
     placed : (i : ℕ) → i < modules_max → (t : Bool) → get_or o.has i false ≡ t → SizedModule (get_or (laid o.has o.modules s.modules) i no_module)
     placed i h t e =
-        let l = laid-at i o.has o.modules s.modules no_module (omega (arith, h, p.has-length)) (omega (arith, h, p.modules-length)) (omega (arith, h, z.modules)) in
+        let l = laid-at i o.has o.modules s.modules no_module (omega (arith, h, p.has_length)) (omega (arith, h, p.modules_length)) (omega (arith, h, z.modules)) in
         rw l (rw e (chosen t e))
       where
         chosen : (t : Bool) → get_or o.has i false ≡ t → SizedModule (cond t (get_or o.modules i no_module) (get_or s.modules i no_module))

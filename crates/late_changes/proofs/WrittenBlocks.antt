@@ -47,7 +47,7 @@ block-figures power xy m d g =
       chain_count = f.chain_count;
       lengths = f.lengths;
       position = f.position;
-      test-count = f.test-count;
+      test_count = f.test_count;
       tests = f.tests;
     }
 
@@ -61,8 +61,8 @@ block_described power xy m d g =
     record {
       position = position_lines xy m d;
       tests = test_lines power m 1 (tests_of d);
-      position-is = position_described xy m d f.position;
-      tests-are = tests_described power m 1 (tests_of d) f.tests;
+      position_is = position_described xy m d f.position;
+      tests_are = tests_described power m 1 (tests_of d) f.tests;
       lines_are = refl;
     }
 

@@ -13,6 +13,6 @@ pub record GoodBut (power xy : Bool) (m : ℕ) (d : Module) : Type 0 where
 
 -- each module that the places have
 pub record GoodPlaces (power xy : Bool) (has : List Bool) (modules : List Module) : Type 0 where
-  pub has-length : length has ≡ modules_max
-  pub modules-length : length modules ≡ modules_max
+  pub has_length : length has ≡ modules_max
+  pub modules_length : length modules ≡ modules_max
   pub each : (m : ℕ) → get_or has m false ≡ true → GoodBut power xy m (get_or modules m no_module)

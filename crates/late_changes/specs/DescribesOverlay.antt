@@ -44,9 +44,9 @@ pub data BlocksLines (power xy : Bool) : ℕ → List Bool → List Module → L
 -- has at most 32 bytes, and within each module
 pub record DescribesOverlay (o : Overlay) (ls : List (List (List ℕ))) : Type 0 where
   pub blocks : List (List (List ℕ))
-  pub blocks-are : BlocksLines o.power o.xy 0 o.has o.modules blocks
+  pub blocks_are : BlocksLines o.power o.xy 0 o.has o.modules blocks
   pub some : blocks ≡ [] → ⊥
   pub lines_are : ls ≡ overlay_fields o ∷ options_fields (head_of o) ∷ blocks
   pub room : o.name_len ≤ name_max
-  pub name-spare : all_of rules.none (drop o.name_len o.name) ≡ true
+  pub name_spare : all_of rules.none (drop o.name_len o.name) ≡ true
   pub within : all_of spare_in o.modules ≡ true

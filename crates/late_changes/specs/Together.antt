@@ -26,7 +26,7 @@ pub record Together (m : ℕ) (lines middle : Lines) : Type 0 where
   pub some : middle ≡ [] → ⊥
   pub none_before : any_of (of_module m) before ≡ false
   pub all : all_of (of_module m) middle ≡ true
-  pub none-behind : any_of (of_module m) behind ≡ false
+  pub none_behind : any_of (of_module m) behind ≡ false
 
 -- the lines of module m stand together, and say d
 pub record Stands (power xy : Bool) (m : ℕ) (d : Module) (lines : Lines) : Type 0 where

@@ -65,17 +65,17 @@ module _ (m : ℕ) (t : List ℕ) where
   -- what stands at a place: nothing, a blank line, or a line with fields
   data At (at n : ℕ) : Type 0 where
     over : length t ≤ at → lines_from n t at ≡ [] → At at n
-    blank-line : at < length t → fields_of (line at) ≡ [] → lines_from n t at ≡ lines_from (n + 1) t (next at) → At at n
-    some-line : at < length t → (fields_of (line at) ≡ [] → ⊥) → lines_from n t at ≡ here at n ∷ lines_from (n + 1) t (next at) → At at n
+    blank_line : at < length t → fields_of (line at) ≡ [] → lines_from n t at ≡ lines_from (n + 1) t (next at) → At at n
+    some_line : at < length t → (fields_of (line at) ≡ [] → ⊥) → lines_from n t at ≡ here at n ∷ lines_from (n + 1) t (next at) → At at n
 
   look : (at n : ℕ) → At at n
   unfolding blank
   look at n = go (ltb at (length t)) refl
     where
       fields : (h : at < length t) → LineIs t at (line_at t at).to (next at) → (fs : List (List ℕ)) → fields_of (line at) ≡ fs → At at n
-      fields h i [] e = At.blank-line h e (lines-blank t at (line_at t at).to (next at) i (ap blank e) n)
+      fields h i [] e = At.blank_line h e (lines-blank t at (line_at t at).to (next at) i (ap blank e) n)
       fields h i (f ∷ fs) e =
-          At.some-line h (λ z. none (sym e ∙ z)) (lines-some t at (line_at t at).to (next at) i (ap blank e) n)
+          At.some_line h (λ z. none (sym e ∙ z)) (lines-some t at (line_at t at).to (next at) i (ap blank e) n)
         where
           none : f ∷ fs ≡ [] → ⊥
           none k = clash cc
@@ -136,9 +136,9 @@ module _ (m : ℕ) (t : List ℕ) where
       go : ((n : ℕ) (ls : List Line) → lines_from n t (next at) ≡ ls → Passes (Other m) ls [] → part_from k m t (next at) s ≡ s)
           → (ls : List Line) → Passes (Other m) ls [] → At at n → lines_from n t at ≡ ls → part_from (suc k) m t at s ≡ s
       go f ls p (At.over h z) e = from_end m t at s h (suc k)
-      go f ls p (At.blank-line h b z) e = blank_pass at h k s b ∙ f (n + 1) ls (sym z ∙ e) p
-      go f [] Passes.none (At.some-line h b z) e = clash cc
-      go f (l ∷ ls) (Passes.more o p) (At.some-line h b z) e =
+      go f ls p (At.blank_line h b z) e = blank_pass at h k s b ∙ f (n + 1) ls (sym z ∙ e) p
+      go f [] Passes.none (At.some_line h b z) e = clash cc
+      go f (l ∷ ls) (Passes.more o p) (At.some_line h b z) e =
           let q : here at n ∷ lines_from (n + 1) t (next at) ≡ l ∷ ls = sym z ∙ e in
           let i : here at n ≡ l = cc in
           let j : lines_from (n + 1) t (next at) ≡ ls = cc in
@@ -150,8 +150,8 @@ module _ (m : ℕ) (t : List ℕ) where
     where
       go : At at n → at < length t
       go (At.over h z) = let q : l ∷ ls ≡ [] = sym e ∙ z in clash cc
-      go (At.blank-line h b z) = h
-      go (At.some-line h b z) = h
+      go (At.blank_line h b z) = h
+      go (At.some_line h b z) = h
 
   -- up to the mark behind the module's lines
   module _ (n' to : ℕ) (after-it : Passes (Other m) (lines_from n' t to) []) where
@@ -184,9 +184,9 @@ module _ (m : ℕ) (t : List ℕ) where
             → part_from (suc k) m t at s ≡ ended s
         go ls Passes.none e a f = ends-here (suc k) n at s e last
         go (l ∷ ls) (Passes.more o p) e (At.over i z) f = let q : l ∷ ls ≡ [] = sym e ∙ z in clash cc
-        go (l ∷ ls) (Passes.more o p) e (At.blank-line i b z) f =
+        go (l ∷ ls) (Passes.more o p) e (At.blank_line i b z) f =
             blank_pass at i k s b ∙ f i s (l ∷ ls) (sym z ∙ e) (Passes.more o p) some (last ∙ sym (blank-last at i b))
-        go (l ∷ ls) (Passes.more o p) e (At.some-line i b z) f =
+        go (l ∷ ls) (Passes.more o p) e (At.some_line i b z) f =
             let q : here at n ∷ lines_from (n + 1) t (next at) ≡ l ∷ ls = sym z ∙ e in
             let j : here at n ≡ l = cc in
             let r : lines_from (n + 1) t (next at) ≡ ls = cc in
@@ -214,8 +214,8 @@ module _ (m : ℕ) (t : List ℕ) where
               → part_from (suc k) m t at no_part ≡ all
           go (At.over i z) f =
               let q : lines.first ∷ lines.rest ≡ [] = sym (e ∙ lines.lines) ∙ z in clash cc
-          go (At.blank-line i b z) f = blank_pass at i k no_part b ∙ f i (sym z ∙ e)
-          go (At.some-line i b z) f =
+          go (At.blank_line i b z) f = blank_pass at i k no_part b ∙ f i (sym z ∙ e)
+          go (At.some_line i b z) f =
               let q : here at n ∷ lines_from (n + 1) t (next at) ≡ lines.first ∷ lines.rest = sym z ∙ e ∙ lines.lines in
               let j : here at n ≡ lines.first = cc in
               let r : lines_from (n + 1) t (next at) ≡ lines.rest = cc in
@@ -246,9 +246,9 @@ module _ (m : ℕ) (t : List ℕ) where
               → part_from (suc k) m t at no_part ≡ all
           go ls Passes.none e a f = first-begins (suc k) n at h e
           go (l ∷ ls) (Passes.more o p) e (At.over i z) f = let q : l ∷ ls ≡ [] = sym e ∙ z in clash cc
-          go (l ∷ ls) (Passes.more o p) e (At.blank-line i b z) f =
+          go (l ∷ ls) (Passes.more o p) e (At.blank_line i b z) f =
               blank_pass at i k no_part b ∙ f i (l ∷ ls) (sym z ∙ e) (Passes.more o p)
-          go (l ∷ ls) (Passes.more o p) e (At.some-line i b z) f =
+          go (l ∷ ls) (Passes.more o p) e (At.some_line i b z) f =
               let q : here at n ∷ lines_from (n + 1) t (next at) ≡ l ∷ ls = sym z ∙ e in
               let j : here at n ≡ l = cc in
               let r : lines_from (n + 1) t (next at) ≡ ls = cc in
@@ -258,5 +258,5 @@ module _ (m : ℕ) (t : List ℕ) where
 pub marked_part : (m : ℕ) (t : List ℕ) (from to : ℕ) → Marked m t (lines_from 1 t 0) [] from to → trimmed t from to ≡ module_part m t
 unfolding trimmed module_part
 marked_part m t from to r =
-    sym (before-passed m t r.to-line to r.behind r.from-line from r.lines (length t) 1 0 (lines_from 1 t 0) (omega arith) refl
+    sym (before-passed m t r.to_line to r.behind r.from_line from r.lines (length t) 1 0 (lines_from 1 t 0) (omega arith) refl
     r.before)

@@ -132,7 +132,7 @@ module _ {W B n : ℕ} {p : Plan} (r : IsPlan W B n p) where
     unfolding buses_is
     buses-are =
         let e : take n (padded found_modules 0 p.buses) ≡ p.buses = rw (← r.placed) (padded-take found_modules 0 p.buses) in
-        rw (padded-take found_buses 0 p.widths, e, busies-same a.cycles-are r)
+        rw (padded-take found_buses 0 p.widths, e, busies-same a.cycles_are r)
 
     -- the times of the modules before module i on a bus, over the tables
     starts-are : (time : ℕ → ℕ → ℕ) (i b : ℕ) → i < n →
@@ -143,7 +143,7 @@ module _ {W B n : ℕ} {p : Plan} (r : IsPlan W B n p) where
     starts-are time i b h k l =
         let spare : List ℕ = replicate (found_modules - length p.buses) 0 in
         let e : take i (p.buses ++ spare) ≡ take i p.buses = take-append-le i p.buses spare (omega (arith, r.placed)) in
-        rw e (busy-same a.cycles-are 0 b (get_or p.widths (b - 1) 0) (take i p.buses) (omega (arith, length-take i p.buses)) k l)
+        rw e (busy-same a.cycles_are 0 b (get_or p.widths (b - 1) 0) (take i p.buses) (omega (arith, length-take i p.buses)) k l)
 
     modules-from : (time : ℕ → ℕ → ℕ) (i : ℕ) (bs : List ℕ) → i + length bs ≤ n
         → ((j : ℕ) → j < length bs → (1 ≤ get_or bs j 0) × (get_or bs j 0 ≤ length p.widths))
@@ -159,17 +159,17 @@ module _ {W B n : ℕ} {p : Plan} (r : IsPlan W B n p) where
         rw (
           padded-at modules_max 0 (planned_of s) i,
           padded-at found_buses 0 p.widths (b - 1),
-          a.cycles-are i (get_or p.widths (b - 1) 0) k v.0 v.1,
-          a.wires-are i (get_or p.widths (b - 1) 0) k v.0 v.1,
+          a.cycles_are i (get_or p.widths (b - 1) 0) k v.0 v.1,
+          a.wires_are i (get_or p.widths (b - 1) 0) k v.0 v.1,
           starts-are time i b k v.0 v.1,
           modules-from time (suc i) bs (omega arith) (λ j g. q (suc j) (omega arith)),
         )
 
-    modules-are : (time : ℕ → ℕ → ℕ) → n ≡ length (planned_of s)
+    modules_are : (time : ℕ → ℕ → ℕ) → n ≡ length (planned_of s)
         → modules_is (planned_is (planned_of s)) t (found_of time p)
         ≡ padded module_places no_placed (module_records (planned_of s) (time_in c s) (wires_in c s) p.widths p.buses 0 p.buses)
     unfolding modules_is
-    modules-are time count =
+    modules_are time count =
         let e : take (length (planned_of s)) (padded found_modules 0 p.buses) ≡ p.buses = rw (← count, ← r.placed) (padded-take found_modules 0 p.buses) in
         rw (e, modules-from time 0 p.buses (omega (arith, r.placed)) (λ j g. (r.low j (omega (arith, r.placed)), r.high j (omega (arith, r.placed)))))
 
@@ -190,8 +190,8 @@ module _ {c : ℕ} {s : Soc} {W B : ℕ} {t : Tables} {p : Planned} {q : Plan} {
   pub record_is : record_from p t W B f ≡ record_of c s W B q
   unfolding plan_record
   record_is =
-      let ms = modules-are is a (table_time t.cycles) refl in
-      rw (found, numbers, buses-are is a, ms, time-same a.cycles-are is)
+      let ms = modules_are is a (table_time t.cycles) refl in
+      rw (found, numbers, buses-are is a, ms, time-same a.cycles_are is)
 
 -- the plan that the first planner's search finds
 module _ {c : ℕ} {s : Soc} {W B : ℕ} {t : Tables} {p : Planned} {f : Found}
@@ -200,8 +200,8 @@ module _ {c : ℕ} {s : Soc} {W B : ℕ} {t : Tables} {p : Planned} {f : Found}
     (some : 1 ≤ W) (limit : 1 ≤ B) where
   pub best-plan : IsPlan W B (length (planned_of s)) (best_for c s W B)
   unfolding best_for
-  best-plan = (best-first (time_of (time_in c s)) W B (length (planned_of s)) some limit).is-plan
+  best-plan = (best-first (time_of (time_in c s)) W B (length (planned_of s)) some limit).is_plan
 
   pub found-best : f ≡ found_of (table_time t.cycles) (best_for c s W B)
   unfolding best_for
-  found-best = found ∙ rw (ap (λ x. x.count) numbers, best-same a.cycles-are B)
+  found-best = found ∙ rw (ap (λ x. x.count) numbers, best-same a.cycles_are B)

@@ -123,7 +123,7 @@ module _ (c : ℕ) (first : 1 ≤ c) (last : c ≤ capture_max) (s : Soc) (W B :
 
   -- "A plan of the planner is always a good record"
   pub planner_good : B ≤ limit_max → length (planned_of s) ≤ planned_max → good_plan (record_of c s W B (best_for c s W B)) ≡ true
-  planner_good few most = plan-good (omega arith) (omega arith) (best_for c s W B) (best_for-first c s W B low limit).is-plan
+  planner_good few most = plan-good (omega arith) (omega arith) (best_for c s W B) (best_for-first c s W B low limit).is_plan
 
 -- what the planner answers where it refuses nothing: the limits hold, and the plan is the best one's record
 pub record Answered (s : Soc) (W B c : ℕ) (a : PlanAnswer) : Type 0 where

@@ -74,7 +74,7 @@ module _ {c : ℕ} {s : Soc} {W n : ℕ} {t : Tables} (a : TablesAre c s W n t) 
   row_most i j h k = ⊎_elim
       (λ l.
       let e : suc j - 1 ≡ j = omega arith in
-      rw (rw e at (a.cycles-are i (suc j) h (omega arith) (omega arith)))
+      rw (rw e at (a.cycles_are i (suc j) h (omega arith) (omega arith)))
       (time-limit c s i (suc j) first last good (omega arith) (omega arith)))
       (λ l. rw (a.past i j h l k) (omega arith))
       (below_or j W)
@@ -90,7 +90,7 @@ module _ {c : ℕ} {s : Soc} {W n : ℕ} {t : Tables} (a : TablesAre c s W n t) 
   row_falls : (i v w : ℕ) → i < n → 1 ≤ v → v ≤ w → w ≤ row_places → table_time t.cycles i w ≤ table_time t.cycles i v
   row_falls i v w h k o p = ⊎_elim
       (λ l. rw (a.past i (w - 1) h (omega arith) (omega arith)) (omega arith))
-      (λ l. rw (a.cycles-are i w h (omega arith) l, a.cycles-are i v h k (omega arith)) (time_fall c s i v w k o))
+      (λ l. rw (a.cycles_are i w h (omega arith) l, a.cycles_are i v h k (omega arith)) (time_fall c s i v w k o))
       (below_or W w)
 
   pub times-are : length t.cycles ≡ table_places → n ≤ module_places → AreTimes t.cycles n
@@ -116,8 +116,8 @@ pub tables_none : (c : ℕ) (s : Soc) (W : ℕ)
     → TablesAre c s W 0 (record { cycles = replicate table_places 0; wires = replicate table_places 0 })
 tables_none c s W =
     record {
-      cycles-are = λ i w h k l. absurd (omega arith);
-      wires-are = λ i w h k l. absurd (omega arith);
+      cycles_are = λ i w h k l. absurd (omega arith);
+      wires_are = λ i w h k l. absurd (omega arith);
       past = λ i j h k l. absurd (omega arith);
       spare = λ j h. replicate-at table_places 0 j;
     }
@@ -128,28 +128,28 @@ module _ (c : ℕ) (s : Soc) (W k : ℕ) {t r : Tables} (first : 1 ≤ c) (last 
   there : get_or (planned_of s) k 0 < s.module_count
   there = (planned-number s k h).0
 
-  cycles-here : (w : ℕ) → 1 ≤ w → w ≤ W → get_or r.cycles (k * row_places + (w - 1)) 0 ≡ time_in c s k w
+  cycles_here : (w : ℕ) → 1 ≤ w → w ≤ W → get_or r.cycles (k * row_places + (w - 1)) 0 ≡ time_in c s k w
   unfolding time_in
-  cycles-here w l m =
-      b.cycles-here (w - 1) (omega arith) ∙ ap (λ x. x.0) (times-at c first last s (get_or (planned_of s) k 0) good there W low high w l m)
+  cycles_here w l m =
+      b.cycles_here (w - 1) (omega arith) ∙ ap (λ x. x.0) (times-at c first last s (get_or (planned_of s) k 0) good there W low high w l m)
 
-  wires-here : (w : ℕ) → 1 ≤ w → w ≤ W → get_or r.wires (k * row_places + (w - 1)) 0 ≡ wires_in c s k w
+  wires_here : (w : ℕ) → 1 ≤ w → w ≤ W → get_or r.wires (k * row_places + (w - 1)) 0 ≡ wires_in c s k w
   unfolding wires_in
-  wires-here w l m =
-      b.wires-here (w - 1) (omega arith) ∙ ap (λ x. x.0) (wires-at c first last s (get_or (planned_of s) k 0) good there W low high w l m)
+  wires_here w l m =
+      b.wires_here (w - 1) (omega arith) ∙ ap (λ x. x.0) (wires-at c first last s (get_or (planned_of s) k 0) good there W low high w l m)
 
   past-here : (j : ℕ) → W ≤ j → j < row_places → get_or r.cycles (k * row_places + j) 0 ≡ 0
-  past-here j l m = b.cycles-here j m ∙ ap (λ x. x.0) (times-past c first last s (get_or (planned_of s) k 0) good there W low high j l)
+  past-here j l m = b.cycles_here j m ∙ ap (λ x. x.0) (times-past c first last s (get_or (planned_of s) k 0) good there W low high j l)
 
   pub tables_more : TablesAre c s W k t → TablesAre c s W (k + 1) r
   tables_more a =
       record {
-        cycles-are = λ i w l.
+        cycles_are = λ i w l.
             below_more (λ j. 1 ≤ w → w ≤ W → get_or r.cycles (j * row_places + (w - 1)) 0 ≡ time_in c s j w) k
-            (λ j l m n. (b.cycles_else (j * row_places + (w - 1))).0 (omega arith) ∙ a.cycles-are j w l m n) (cycles-here w) i l;
-        wires-are = λ i w l.
+            (λ j l m n. (b.cycles_else (j * row_places + (w - 1))).0 (omega arith) ∙ a.cycles_are j w l m n) (cycles_here w) i l;
+        wires_are = λ i w l.
             below_more (λ j. 1 ≤ w → w ≤ W → get_or r.wires (j * row_places + (w - 1)) 0 ≡ wires_in c s j w) k
-            (λ j l m n. (b.wires_else (j * row_places + (w - 1))).0 (omega arith) ∙ a.wires-are j w l m n) (wires-here w) i l;
+            (λ j l m n. (b.wires_else (j * row_places + (w - 1))).0 (omega arith) ∙ a.wires_are j w l m n) (wires_here w) i l;
         past = λ i x l.
             below_more (λ j. W ≤ x → x < row_places → get_or r.cycles (j * row_places + x) 0 ≡ 0) k
             (λ j l m n. (b.cycles_else (j * row_places + x)).0 (omega arith) ∙ a.past j x l m n) (past-here x) i l;

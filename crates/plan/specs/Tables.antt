@@ -30,8 +30,8 @@ pub record Plannable (c : ℕ) (s : Soc) (p : Planned) (W : ℕ) : Type 0 where
 
 -- the times of a module stand in the places of module k, and the places of the others are as they were
 pub record TimesStand (t : Tables) (k : ℕ) (times : Times) (r : Tables) : Type 0 where
-  pub cycles-here : (w : ℕ) → w < row_places → get_or r.cycles (k * row_places + w) 0 ≡ (get_or times.cycles w (cycles 0)).0
-  pub wires-here : (w : ℕ) → w < row_places → get_or r.wires (k * row_places + w) 0 ≡ (get_or times.wires w (wires 0)).0
+  pub cycles_here : (w : ℕ) → w < row_places → get_or r.cycles (k * row_places + w) 0 ≡ (get_or times.cycles w (cycles 0)).0
+  pub wires_here : (w : ℕ) → w < row_places → get_or r.wires (k * row_places + w) 0 ≡ (get_or times.wires w (wires 0)).0
   pub cycles_else : (j : ℕ) → (j < k * row_places → get_or r.cycles j 0 ≡ get_or t.cycles j 0)
       × (k * row_places + row_places ≤ j → get_or r.cycles j 0 ≡ get_or t.cycles j 0)
   pub wires_else : (j : ℕ) → (j < k * row_places → get_or r.wires j 0 ≡ get_or t.wires j 0)
@@ -39,7 +39,7 @@ pub record TimesStand (t : Tables) (k : ℕ) (times : Times) (r : Tables) : Type
 
 -- the times and wires of the first n planned modules stand in their places, width by width up to W, and 0 in all others
 pub record TablesAre (c : ℕ) (s : Soc) (W n : ℕ) (t : Tables) : Type 0 where
-  pub cycles-are : (i w : ℕ) → i < n → 1 ≤ w → w ≤ W → get_or t.cycles (i * row_places + (w - 1)) 0 ≡ time_in c s i w
-  pub wires-are : (i w : ℕ) → i < n → 1 ≤ w → w ≤ W → get_or t.wires (i * row_places + (w - 1)) 0 ≡ wires_in c s i w
+  pub cycles_are : (i w : ℕ) → i < n → 1 ≤ w → w ≤ W → get_or t.cycles (i * row_places + (w - 1)) 0 ≡ time_in c s i w
+  pub wires_are : (i w : ℕ) → i < n → 1 ≤ w → w ≤ W → get_or t.wires (i * row_places + (w - 1)) 0 ≡ wires_in c s i w
   pub past : (i j : ℕ) → i < n → W ≤ j → j < row_places → get_or t.cycles (i * row_places + j) 0 ≡ 0
   pub spare : (j : ℕ) → n * row_places ≤ j → get_or t.cycles j 0 ≡ 0

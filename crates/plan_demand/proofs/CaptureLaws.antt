@@ -61,6 +61,6 @@ longer s c e l i w h = time_rises l (planned_module s i) w h
 pub answer-plan_rises : (s : Soc) (W B c e : ℕ) → c ≤ e → (plan_answer s W B c).refusal.number ≡ 0 → (plan_answer s W B e).refusal.number ≡ 0
     → (plan_answer s W B c).plan.time.0 ≤ (plan_answer s W B e).plan.time.0
 answer-plan_rises s W B c e l h k =
-    let r = (answer-first s W B e k).is-plan in
+    let r = (answer-first s W B e k).is_plan in
     rw (answer-time_of s W B c h, answer-time_of s W B e k)
     (omega (arith, (answer-first s W B c h).least _ r, plan_rises (longer s c e l) r))

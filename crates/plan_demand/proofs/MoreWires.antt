@@ -68,15 +68,15 @@ module _ (s : Soc) (W B c : ℕ) (h : (plan_answer s W B c).refusal.number ≡ 0
 
   -- "the least time is at least every planned module's time on a bus of W wires"
   pub answer_single : (i : ℕ) → i < length (planned_of s) → time_in c s i W ≤ (plan_answer s W B c).plan.time.0
-  answer_single i l = rw (answer-time_of s W B c h) (plan_single (time_in c s) (answer-first s W B c h).is-plan (falls c s W) i l)
+  answer_single i l = rw (answer-time_of s W B c h) (plan_single (time_in c s) (answer-first s W B c h).is_plan (falls c s W) i l)
 
   -- "B times it is at least the sum of those"
   pub answer_shared : total (length (planned_of s)) 0 (λ i. time_in c s i W) ≤ B * (plan_answer s W B c).plan.time.0
-  answer_shared = rw (answer-time_of s W B c h) (plan_shared (time_in c s) (answer-first s W B c h).is-plan (falls c s W))
+  answer_shared = rw (answer-time_of s W B c h) (plan_shared (time_in c s) (answer-first s W B c h).is_plan (falls c s W))
 
   -- W times it is at least the sum of the planned modules' areas
   pub answer_area : total (length (planned_of s)) 0 (area_of (time_in c s) W) ≤ W * (plan_answer s W B c).plan.time.0
-  answer_area = rw (answer-time_of s W B c h) (plan_area (time_in c s) (answer-first s W B c h).is-plan)
+  answer_area = rw (answer-time_of s W B c h) (plan_area (time_in c s) (answer-first s W B c h).is_plan)
 
   -- these times are what is answered for the modules alone
   pub answer-times : (i : ℕ) → i < length (planned_of s) → (w : ℕ) → 1 ≤ w → w ≤ width_max

@@ -34,7 +34,7 @@ module _ (s : Soc) (W B c : ℕ) (h : (plan_answer s W B c).refusal.number ≡ 0
   best = best_for-first c s W B told.low told.limit
 
   holds : plan_of (plan_answer s W B c).plan ≡ best_for c s W B
-  holds = ap plan_of told.is ∙ record_plan (planned_of s) (time_in c s) (wires_in c s) W B (best_for c s W B) best.is-plan
+  holds = ap plan_of told.is ∙ record_plan (planned_of s) (time_in c s) (wires_in c s) W B (best_for c s W B) best.is_plan
 
   -- "The answer is the first plan of least time.": it is a plan, no plan takes less time, and no plan of its time stands before it
   pub answer-first : IsFirst (time_of (time_in c s)) W B (length (planned_of s)) (plan_of (plan_answer s W B c).plan)
@@ -57,11 +57,11 @@ module _ (s : Soc) (W B c : ℕ) (h : (plan_answer s W B c).refusal.number ≡ 0
   pub answer-busy : (j : ℕ) → j < (plan_answer s W B c).plan.bus_count
       → let r = (plan_answer s W B c).plan in get_or (busies_of (buses_of r)) j 0 ≡ cycles_on (suc j) (modules_of r)
   answer-busy j k =
-      rw told.is (record_busy (planned_of s) (time_in c s) (wires_in c s) W B (best_for c s W B) best.is-plan j (rw told.is at k))
+      rw told.is (record_busy (planned_of s) (time_in c s) (wires_in c s) W B (best_for c s W B) best.is_plan j (rw told.is at k))
 
   -- "a bus for every planned module": the modules are the planned ones, ascending
   pub answer-modules : numbers_of (modules_of (plan_answer s W B c).plan) ≡ planned_of s
-  answer-modules = rw told.is (record_numbers (planned_of s) (time_in c s) (wires_in c s) W B (best_for c s W B) best.is-plan)
+  answer-modules = rw told.is (record_numbers (planned_of s) (time_in c s) (wires_in c s) W B (best_for c s W B) best.is_plan)
 
   -- its record is good, and its arrays have their places
   good : good_plan (plan_answer s W B c).plan ≡ true
@@ -71,8 +71,8 @@ module _ (s : Soc) (W B c : ℕ) (h : (plan_answer s W B c).refusal.number ≡ 0
   whole =
       let p = best_for c s W B in
       rw told.is (record {
-        buses = record_bus_places (planned_of s) (time_in c s) (wires_in c s) W B p best.is-plan (omega (arith, told.few));
-        modules = record_module_places (planned_of s) (time_in c s) (wires_in c s) W B p best.is-plan (omega (arith, told.most));
+        buses = record_bus_places (planned_of s) (time_in c s) (wires_in c s) W B p best.is_plan (omega (arith, told.few));
+        modules = record_module_places (planned_of s) (time_in c s) (wires_in c s) W B p best.is_plan (omega (arith, told.most));
       })
 
   -- "the top module's terminals are the SOC's pins and need no access mechanism": it names no module 0

@@ -56,7 +56,7 @@ unfolding plan_record
 answer_layouts s W B c h i k =
     let a = answered s W B c h in
     let p = best_for c s W B in
-    let r = (best_for-first c s W B a.low a.limit).is-plan in
+    let r = (best_for-first c s W B a.low a.limit).is_plan in
     let n : i < length p.buses = omega (arith, r.placed, rw a.is at k) in
     let wide : (j : ℕ) → j < length p.buses
     → (1 ≤ get_or p.widths (get_or p.buses j 0 - 1) 0) × (get_or p.widths (get_or p.buses j 0 - 1) 0 ≤ width_max) =

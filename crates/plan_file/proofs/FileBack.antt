@@ -29,7 +29,7 @@ use Rattle.plan_file.specs.Bytes.{module_stride, bus_stride, trailer_length, fil
 use Rattle.plan_file.specs.Puts.{SmallTrailer}
 use Rattle.plan_file.specs.Files.{module_at, bus_at, module_count, bus_count, bus_offset, trailer, plan_in, read_answer, zero_module, zero_bus}
 use Rattle.plan_file.specs.Files.{zero_modules, zero_buses, good_length, good_offsets, good_file}
-use Rattle.plan_file.proofs.FileLaws.{module_length_lem, bus-length, modules-count, buses-count, modules-length, buses-length}
+use Rattle.plan_file.proofs.FileLaws.{module_length_lem, bus-length, modules-count, buses-count, modules_length, buses_length}
 use Rattle.plan_file.proofs.FileLaws.{file-length, good-small}
 use Rattle.plan_file.proofs.ReadLaws.{answer-accepted, Fitting, length-fits}
 use Rattle.plan_file.proofs.SpareLaws.{buses-spare, modules-spare}
@@ -171,13 +171,13 @@ module _ (p : BusPlan) (w : Whole p) (e : good_plan p ≡ true) where
   modules_stand = stands_first (each module_bytes (modules_of p)) (each bus_bytes (buses_of p)) records_stand
 
   buses_stand : Stands (each bus_bytes (buses_of p)) file offset
-  buses_stand = stands_behind (each module_bytes (modules_of p)) _ offset offset (modules-length p w small) (omega arith) records_stand
+  buses_stand = stands_behind (each module_bytes (modules_of p)) _ offset offset (modules_length p w small) (omega arith) records_stand
 
   trailer-is : TrailerIs p file (trailer file)
   unfolding file_bytes
   trailer-is =
       let front = each module_bytes (modules_of p) ++ each bus_bytes (buses_of p) in
-      let l : length front ≡ offset + bus_stride * p.bus_count = rw (length-append, modules-length p w small, buses-length p w small) in
+      let l : length front ≡ offset + bus_stride * p.bus_count = rw (length-append, modules_length p w small, buses_length p w small) in
       trailer_stands p file (trailer file) small (omega (arith, good-time p w e))
       (stands_behind front (trailer_bytes p) _ (trailer file) l (omega (arith, file-length p w e)) (stands_whole file))
 

@@ -101,15 +101,15 @@ module _ (p : BusPlan) (w : Whole p) (s : SmallTrailer p) where
   pub buses-count : length (buses_of p) ≡ p.bus_count
   buses-count = length-take-le p.bus_count p.buses (omega arith)
 
-  pub modules-length : length (each module_bytes (modules_of p)) ≡ module_stride * p.module_count
-  modules-length = each-length module_bytes module_stride (modules_of p) p.module_count no_placed modules-count (λ i h. module_length_lem _)
+  pub modules_length : length (each module_bytes (modules_of p)) ≡ module_stride * p.module_count
+  modules_length = each-length module_bytes module_stride (modules_of p) p.module_count no_placed modules-count (λ i h. module_length_lem _)
 
-  pub buses-length : length (each bus_bytes (buses_of p)) ≡ bus_stride * p.bus_count
-  buses-length = each-length bus_bytes bus_stride (buses_of p) p.bus_count no_bus buses-count (λ i h. bus-length _)
+  pub buses_length : length (each bus_bytes (buses_of p)) ≡ bus_stride * p.bus_count
+  buses_length = each-length bus_bytes bus_stride (buses_of p) p.bus_count no_bus buses-count (λ i h. bus-length _)
 
   small-length : length (file_bytes p) ≡ file_length p.module_count p.bus_count
   unfolding file_bytes
-  small-length = simp (length-append, modules-length, buses-length, trailer-length)
+  small-length = simp (length-append, modules_length, buses_length, trailer-length)
 
   -- a file put by its three parts, each behind those before it
   pub file-put : (o b q r : List ℕ) → file_length p.module_count p.bus_count ≤ length o
@@ -126,8 +126,8 @@ module _ (p : BusPlan) (w : Whole p) (s : SmallTrailer p) where
       let t = trailer_bytes p in
       let m = module_stride * p.module_count in
       let n = m + bus_stride * p.bus_count in
-      let ml = modules-length in
-      let bl = buses-length in
+      let ml = modules_length in
+      let bl = buses_length in
       let tl = trailer-length p in
       let l = small-length in
       let d0 = due_all {rest = ms ++ (bs ++ t)} {w = file_bytes p} {at = 0} {start = o} (append_assoc ms bs t) (omega arith) in
@@ -142,7 +142,7 @@ pub good-small : (p : BusPlan) → good_plan p ≡ true → Small p
 good-small p e =
     let g = good-figures p e in
     record {
-      trailer = record { wires = omega arith; limit = omega arith; buses = g.buses-high; modules = g.modules-high };
+      trailer = record { wires = omega arith; limit = omega arith; buses = g.buses_high; modules = g.modules_high };
       placed =
           λ i h. record { number = omega (arith, g.number i h); bus = omega (arith, g.bus i h); wires = omega (arith, g.wires i h) };
       width = λ b h. omega (arith, g.width b h);

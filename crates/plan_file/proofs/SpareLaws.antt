@@ -64,10 +64,10 @@ module _ (p : BusPlan) (w : Whole p) (e : good_plan p ≡ true) where
   pub buses-spare : padded bus_places no_bus (buses_of p) ≡ p.buses
   buses-spare =
       let s = (spare_both p (good_parts p e).spare).0 in
-      spare-padded spare_bus no_bus bus-spare bus_places p.buses p.bus_count w.buses (good-figures p e).buses-high s
+      spare-padded spare_bus no_bus bus-spare bus_places p.buses p.bus_count w.buses (good-figures p e).buses_high s
 
   pub modules-spare : padded module_places no_placed (modules_of p) ≡ p.modules
   modules-spare =
       let s = (spare_both p (good_parts p e).spare).1 in
-      let h = (good-figures p e).modules-high in
+      let h = (good-figures p e).modules_high in
       spare-padded spare_placed no_placed placed-spare module_places p.modules p.module_count w.modules h s

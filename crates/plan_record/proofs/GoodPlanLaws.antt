@@ -138,14 +138,14 @@ width-at (b ∷ bs) (suc i) = omega (arith, width-at bs i)
 
 -- the figures of a good plan are small
 pub record GoodFigures (p : BusPlan) : Type 0 where
-  pub wires-low : 1 ≤ p.wires.0
-  pub wires-high : p.wires.0 ≤ 64
-  pub limit-low : 1 ≤ p.limit
-  pub limit-high : p.limit ≤ bus_places
-  pub buses-low : 1 ≤ p.bus_count
-  pub buses-high : p.bus_count ≤ bus_places
-  pub modules-low : 1 ≤ p.module_count
-  pub modules-high : p.module_count ≤ module_places
+  pub wires_low : 1 ≤ p.wires.0
+  pub wires_high : p.wires.0 ≤ 64
+  pub limit_low : 1 ≤ p.limit
+  pub limit_high : p.limit ≤ bus_places
+  pub buses_low : 1 ≤ p.bus_count
+  pub buses_high : p.bus_count ≤ bus_places
+  pub modules_low : 1 ≤ p.module_count
+  pub modules_high : p.module_count ≤ module_places
   pub number : (i : ℕ) → i < p.module_count → (get_or p.modules i no_placed).number ≤ 39
   pub bus : (i : ℕ) → i < p.module_count → (get_or p.modules i no_placed).bus ≤ bus_places
   pub wires : (i : ℕ) → i < p.module_count → (get_or p.modules i no_placed).wires.0 ≤ 64
@@ -154,12 +154,12 @@ pub record GoodFigures (p : BusPlan) : Type 0 where
 
 -- and those that the counts alone tell
 pub record GoodCounts (p : BusPlan) : Type 0 where
-  pub wires-low : 1 ≤ p.wires.0
-  pub wires-high : p.wires.0 ≤ 64
-  pub limit-low : 1 ≤ p.limit
-  pub limit-high : p.limit ≤ bus_places
-  pub modules-low : 1 ≤ p.module_count
-  pub modules-high : p.module_count ≤ module_places
+  pub wires_low : 1 ≤ p.wires.0
+  pub wires_high : p.wires.0 ≤ 64
+  pub limit_low : 1 ≤ p.limit
+  pub limit_high : p.limit ≤ bus_places
+  pub modules_low : 1 ≤ p.module_count
+  pub modules_high : p.module_count ≤ module_places
 
 pub good-counts : (p : BusPlan) → good_counts p ≡ true → GoodCounts p
 unfolding good_counts
@@ -170,12 +170,12 @@ good-counts p e =
     let l = within_both 1 bus_places p.limit b.0 in
     let n = within_both 1 module_places p.module_count b.1 in
     record {
-      wires-low = w.0;
-      wires-high = w.1;
-      limit-low = l.0;
-      limit-high = l.1;
-      modules-low = n.0;
-      modules-high = n.1;
+      wires_low = w.0;
+      wires_high = w.1;
+      limit_low = l.0;
+      limit_high = l.1;
+      modules_low = n.0;
+      modules_high = n.1;
     }
 
 pub good-bus-count : (p : BusPlan) → good_buses p ≡ true → (1 ≤ p.bus_count) × (p.bus_count ≤ p.limit)
@@ -230,14 +230,14 @@ good-figures p e =
     let n = good-counts p g.counts in
     let m = good-bus-count p g.buses in
     record {
-      wires-low = n.wires-low;
-      wires-high = n.wires-high;
-      limit-low = n.limit-low;
-      limit-high = n.limit-high;
-      buses-low = m.0;
-      buses-high = omega arith;
-      modules-low = n.modules-low;
-      modules-high = n.modules-high;
+      wires_low = n.wires_low;
+      wires_high = n.wires_high;
+      limit_low = n.limit_low;
+      limit_high = n.limit_high;
+      buses_low = m.0;
+      buses_high = omega arith;
+      modules_low = n.modules_low;
+      modules_high = n.modules_high;
       number = λ i h. rw get_or-take at (ascending_at 1 (modules_of p) g.ascending i);
       bus = λ i h. let f = placed-front p g.placed i h in omega arith;
       wires = λ i h. let f = placed-front p g.placed i h in omega (arith, good-width p g.buses ((get_or p.modules i no_placed).bus - 1) (omega arith));

@@ -139,12 +139,12 @@ module _ (numbers : List ℕ) (time used : ℕ → ℕ → ℕ) (W B : ℕ) (p :
   figures-length : length figures ≡ length p.widths
   figures-length = length-busies time 1 p.widths p.buses
 
-  buses-length : length (bus_records p.widths figures) ≡ length p.widths
-  buses-length = length_records p.widths figures figures-length
+  buses_length : length (bus_records p.widths figures) ≡ length p.widths
+  buses_length = length_records p.widths figures figures-length
 
   buses-are : buses_of r ≡ bus_records p.widths figures
   unfolding plan_record
-  buses-are = rw (← buses-length) (padded-take bus_places no_bus (bus_records p.widths figures))
+  buses-are = rw (← buses_length) (padded-take bus_places no_bus (bus_records p.widths figures))
 
   record_busies : busies_of (buses_of r) ≡ figures
   record_busies = rw buses-are (busies-are p.widths figures figures-length)
@@ -162,18 +162,18 @@ module _ (numbers : List ℕ) (time used : ℕ → ℕ → ℕ) (W B : ℕ) (p :
     placed-length : length placed ≡ length numbers
     placed-length = length-modules numbers time used p.widths p.buses 0 p.buses ∙ is.placed
 
-    modules-are : modules_of r ≡ placed
+    modules_are : modules_of r ≡ placed
     unfolding plan_record
-    modules-are = rw (← placed-length) (padded-take module_places no_placed placed)
+    modules_are = rw (← placed-length) (padded-take module_places no_placed placed)
 
     -- it has the planned modules, ascending, each on its bus
     pub record_numbers : numbers_of (modules_of r) ≡ numbers
-    record_numbers = rw modules-are (numbers-are numbers time used p.widths p.buses 0 p.buses (omega (arith, is.placed)))
+    record_numbers = rw modules_are (numbers-are numbers time used p.widths p.buses 0 p.buses (omega (arith, is.placed)))
 
     -- and it holds that plan
     pub record_plan : plan_of r ≡ p
     record_plan =
-        let b : places_of (modules_of r) ≡ p.buses = rw modules-are (places-are numbers time used p.widths p.buses 0 p.buses) in
+        let b : places_of (modules_of r) ≡ p.buses = rw modules_are (places-are numbers time used p.widths p.buses 0 p.buses) in
         rw (record_widths, b)
 
     -- "A bus is busy for the sum of its modules' times": bus j + 1 for the cycles of the modules that name it
@@ -181,7 +181,7 @@ module _ (numbers : List ℕ) (time used : ℕ → ℕ → ℕ) (W B : ℕ) (p :
     unfolding plan_record
     record_busy j h =
         let e : 1 + j ≡ suc j = omega arith in
-        rw (record_busies, modules-are, cycles-busy numbers time used p.widths p.buses 0 j p.buses)
+        rw (record_busies, modules_are, cycles-busy numbers time used p.widths p.buses 0 j p.buses)
         (busies-at time p.buses 1 p.widths j h ∙ rw e)
 
     -- bus j + 1 has the plan's width
@@ -232,14 +232,14 @@ module _ (numbers : List ℕ) (time used : ℕ → ℕ → ℕ) (W B : ℕ) (p :
       record_starts : good_starts (modules_of r) ≡ true
       unfolding good_starts
       record_starts =
-          rw modules-are (all-each (start_is placed) no_placed placed (λ i h. eq-eqb _ _ (record_start i (omega (arith, placed-length)))))
+          rw modules_are (all-each (start_is placed) no_placed placed (λ i h. eq-eqb _ _ (record_start i (omega (arith, placed-length)))))
 
     -- "spare places are 0"
     spare-buses : all_of spare_bus (drop r.bus_count r.buses) ≡ true
     unfolding spare_bus plan_record
     spare-buses =
         let bs = bus_records p.widths figures in
-        let e : drop (length p.widths) (padded bus_places no_bus bs) ≡ replicate (bus_places - length bs) no_bus = rw (← buses-length) (padded-drop bus_places no_bus bs) in
+        let e : drop (length p.widths) (padded bus_places no_bus bs) ≡ replicate (bus_places - length bs) no_bus = rw (← buses_length) (padded-drop bus_places no_bus bs) in
         ap (all_of spare_bus) e ∙ all_replicate spare_bus (bus_places - length bs) no_bus refl
 
     spare-modules : all_of spare_placed (drop r.module_count r.modules) ≡ true
@@ -251,7 +251,7 @@ module _ (numbers : List ℕ) (time used : ℕ → ℕ → ℕ) (W B : ℕ) (p :
     -- the arrays of the record have their places
     pub record_bus_places : B ≤ bus_places → length r.buses ≡ bus_places
     unfolding plan_record
-    record_bus_places h = padded-length bus_places no_bus _ (omega (arith, buses-length, is.limit))
+    record_bus_places h = padded-length bus_places no_bus _ (omega (arith, buses_length, is.limit))
 
     pub record_module_places : length numbers ≤ module_places → length r.modules ≡ module_places
     unfolding plan_record
@@ -278,7 +278,7 @@ module _ (numbers : List ℕ) (time used : ℕ → ℕ → ℕ) (W B : ℕ) (p :
       record_placed : all_of (good_placed r) (modules_of r) ≡ true
       record_placed =
           let n = is.placed in
-          rw modules-are (placed-good 0 p.buses (omega arith) (λ j k. (is.low j (omega arith), is.high j (omega arith))))
+          rw modules_are (placed-good 0 p.buses (omega arith) (λ j k. (is.low j (omega arith), is.high j (omega arith))))
 
       module _ (low : 1 ≤ W) (narrow : W ≤ width_max) (limit : 1 ≤ B) (few : B ≤ bus_places) where
         record_counts : good_counts r ≡ true

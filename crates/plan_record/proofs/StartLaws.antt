@@ -216,7 +216,7 @@ module _ (p : BusPlan) (w : Whole p) (good : good_plan p ≡ true) where
   parts = good_parts p good
 
   count-is : length (modules_of p) ≡ p.module_count
-  count-is = length-take-le p.module_count p.modules (omega (arith, w.modules, (good-figures p good).modules-high))
+  count-is = length-take-le p.module_count p.modules (omega (arith, w.modules, (good-figures p good).modules_high))
 
   in_use : (i : ℕ) → i < p.module_count → get_or (modules_of p) i no_placed ≡ module_of p i
   in_use i h = get_or-take p.module_count p.modules i no_placed h
@@ -278,7 +278,7 @@ module _ (p : BusPlan) (w : Whole p) (good : good_plan p ≡ true) where
 
     place_there : place < length (buses_of p)
     place_there =
-        let l = length-take-le p.bus_count p.buses (omega (arith, w.buses, (good-figures p good).buses-high)) in
+        let l = length-take-le p.bus_count p.buses (omega (arith, w.buses, (good-figures p good).buses_high)) in
         omega (arith, l, place_in)
 
     bus-is : get_or (buses_of p) place no_bus ≡ bus_of p i

@@ -26,7 +26,7 @@ module _ (cost : Plan → ℕ) (W B n : ℕ) (wires : 1 ≤ W) (buses : 1 ≤ B)
   pub best-first : IsFirst cost W B n (best_of cost W B n)
   best-first =
       record {
-        is-plan = sound W B n (best_of cost W B n) best.listed;
+        is_plan = sound W B n (best_of cost W B n) best.listed;
         least = λ q r. best.least q (complete W B n q r);
         first = λ q r e b. ⊎_elim (λ f. before_irr (best_of cost W B n) (rw f at b)) (before_not q (best_of cost W B n) b) (same_or_later q r e);
       }
@@ -34,9 +34,9 @@ module _ (cost : Plan → ℕ) (W B n : ℕ) (wires : 1 ≤ W) (buses : 1 ≤ B)
   -- no other plan is so
   pub best_unique : (p : Plan) → IsFirst cost W B n p → p ≡ best_of cost W B n
   best_unique p f =
-      let a = f.least (best_of cost W B n) best-first.is-plan in
-      let e : cost p ≡ cost (best_of cost W B n) = omega (arith, a, best-first.least p f.is-plan) in
-      ⊎_elim (λ g. g) (λ b. absurd (f.first (best_of cost W B n) best-first.is-plan (sym e) b)) (same_or_later p f.is-plan e)
+      let a = f.least (best_of cost W B n) best-first.is_plan in
+      let e : cost p ≡ cost (best_of cost W B n) = omega (arith, a, best-first.least p f.is_plan) in
+      ⊎_elim (λ g. g) (λ b. absurd (f.first (best_of cost W B n) best-first.is_plan (sym e) b)) (same_or_later p f.is_plan e)
 
 -- how many lists of widths there are for 64 wires, of one, two and three buses
 pub counts : (length (width_lists 1 1 64) ≡ 1) × (length (width_lists 2 1 64) ≡ 32) × (length (width_lists 3 1 64) ≡ 341)

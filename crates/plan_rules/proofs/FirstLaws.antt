@@ -92,14 +92,14 @@ module _ (cost : Plan → ℕ) (n : ℕ) where
   stands_more k p ws s =
       let e = group-time (cost) (plan ws) p (placements n (length ws)) in
       pick (first_least (cost) p (map (plan ws) (placements n (length ws)))) (least_all (cost_on cost ws) k.time (placements n (length ws)))
-      (rw s.time-is at e) (least-same (cost) p (map (plan ws) (placements n (length ws)))) (group-first (cost) (plan ws) p (placements n (length ws)))
+      (rw s.time_is at e) (least-same (cost) p (map (plan ws) (placements n (length ws)))) (group-first (cost) (plan ws) p (placements n (length ws)))
       (ltb (least_all (cost_on cost ws) k.time (placements n (length ws))) k.time) refl
     where
       pick : (r : Plan) (t : ℕ) → t ≡ cost r → (cost p ≤ cost r → r ≡ p)
           → (cost r < cost p → r ≡ plan ws (first_within (cost_on cost ws) (cost r) (placements n (length ws))))
           → (b : Bool) → ltb t k.time ≡ b → Stands cost n (cond b (record { time = t; widths = ws }) k) r
-      pick r t e a g true c = record { time-is = sym e; plan-is = rw e (g (omega (arith, ltb-true t k.time c, s.time-is, e))) }
-      pick r t e a g false c = rw (a (omega (arith, ltb-false t k.time c, s.time-is, e))) s
+      pick r t e a g true c = record { time_is = sym e; plan_is = rw e (g (omega (arith, ltb-true t k.time c, s.time_is, e))) }
+      pick r t e a g false c = rw (a (omega (arith, ltb-false t k.time c, s.time_is, e))) s
 
   stands_all : (k : Kept) (p : Plan) (wss : List (List ℕ)) → Stands cost n k p
       → Stands cost n (keep_lists (least_by cost n) k wss) (first_least (cost) p (on_lists n wss))
@@ -207,7 +207,7 @@ stands_start : (cost : Plan → ℕ) (n W : ℕ)
 unfolding first_within
 stands_start cost n W =
     let t = cost_on cost (W ∷ []) (replicate n 1) in
-    record { time-is = refl; plan-is = rw (placements-one n, le-leb t t (omega arith)) }
+    record { time_is = refl; plan_is = rw (placements-one n, le-leb t t (omega arith)) }
 
 module _ (cost : Plan → ℕ) (W B n : ℕ) (wires : 1 ≤ W) (buses : 1 ≤ B) where
   -- the first plan of least time stands on the first list of widths of least time, with the first placement on it that takes no more; k
@@ -229,7 +229,7 @@ module _ (cost : Plan → ℕ) (W B n : ℕ) (wires : 1 ≤ W) (buses : 1 ≤ B)
       let one = cost_on cost (W ∷ []) (replicate n 1) in
       let k₀ : Kept = record { time = max k.time (suc one); widths = k.widths } in
       let s = best_stands k₀ (omega arith) in
-      rw (keep-start-lower (least_by cost n) (λ ws t u. all-lower (cost_on cost ws) t u (placements n (length ws))) k₀ k (all_lists W B) (omega arith) (omega (arith, s.time-is))) s
+      rw (keep-start-lower (least_by cost n) (λ ws t u. all-lower (cost_on cost ws) t u (placements n (length ws))) k₀ k (all_lists W B) (omega arith) (omega (arith, s.time_is))) s
 
 module _ (time : ℕ → ℕ → ℕ) (W B n : ℕ) (wires : 1 ≤ W) (buses : 1 ≤ B) where
   -- with the time as the cost, and the modules in another order
@@ -244,7 +244,7 @@ module _ (time : ℕ → ℕ → ℕ) (W B n : ℕ) (wires : 1 ≤ W) (buses : 1
       → time_of time (best_plan time W B n) ≤ t
   reached-best top order new t h r a =
       let p = a.reached in
-      let i = a.is-plan in
+      let i = a.is_plan in
       let m = placements_complete n (length p.widths) p.buses (record { placed = i.placed; low = i.low; high = i.high }) in
       let u = order_old n top order time new r p.widths (λ j k. plan-narrow i j k) p.buses m in
       let s = placements_sound n (length p.widths) u.0 u.1 in

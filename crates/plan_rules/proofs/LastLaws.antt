@@ -59,12 +59,12 @@ module _ (key : List ℕ → ℕ) where
 
 module _ (cost : Plan → ℕ) (W B n : ℕ) (wires : 1 ≤ W) (buses : 1 ≤ B) (k : Kept) (s : Stands cost n k (best_of cost W B n)) where
   widths-are : (best_of cost W B n).widths ≡ k.widths
-  widths-are = ap (λ (p : Plan). p.widths) s.plan-is
+  widths-are = ap (λ (p : Plan). p.widths) s.plan_is
 
   -- a plan on these widths
   plan_on : (bs : List ℕ) → Memᴰ bs (placements n (length k.widths)) → IsPlan W B n (plan k.widths bs)
   plan_on bs m =
-      let r = (best-first cost W B n wires buses).is-plan in
+      let r = (best-first cost W B n wires buses).is_plan in
       let p = placements_sound n (length k.widths) bs m in
       let l : length (best_of cost W B n).widths ≡ length k.widths = ap length widths-are in
       record {
@@ -80,16 +80,16 @@ module _ (cost : Plan → ℕ) (W B n : ℕ) (wires : 1 ≤ W) (buses : 1 ≤ B)
 
   last-least : least_all (cost_on cost k.widths) (suc k.time) (placements n (length k.widths)) ≡ k.time
   last-least =
-      let r = (best-first cost W B n wires buses).is-plan in
+      let r = (best-first cost W B n wires buses).is_plan in
       let bs = (best_of cost W B n).buses in
       let xs = placements n (length k.widths) in
       let m : Memᴰ bs xs = placements_complete n (length k.widths) bs (record { placed = r.placed; low = r.low; high = λ i h. omega (arith, r.high i h, ap length widths-are) }) in
-      let e : cost_on cost k.widths bs ≡ k.time = rw (← widths-are) s.time-is in
+      let e : cost_on cost k.widths bs ≡ k.time = rw (← widths-are) s.time_is in
       omega (
         arith,
         all_in (cost_on cost k.widths) (suc k.time) xs bs m,
         all_ge (cost_on cost k.widths) (suc k.time) k.time xs (omega arith)
-            (λ cs o. omega (arith, s.time-is, (best-first cost W B n wires buses).least (plan k.widths cs) (plan_on cs o))),
+            (λ cs o. omega (arith, s.time_is, (best-first cost W B n wires buses).least (plan k.widths cs) (plan_on cs o))),
       )
 
   -- what is kept from one above that time on is the first plan of least time
@@ -97,4 +97,4 @@ module _ (cost : Plan → ℕ) (W B n : ℕ) (wires : 1 ≤ W) (buses : 1 ≤ B)
       → keep_all (cost_on cost k.widths) b (placements n (length k.widths)) ≡ k.time ∷ (best_of cost W B n).buses
   last_search b e =
       keep-all-first (cost_on cost k.widths) b (placements n (length k.widths)) k.time (rw e last-least) (omega arith)
-      ∙ ap (λ (v : List ℕ). k.time ∷ v) (sym (ap (λ (p : Plan). p.buses) s.plan-is))
+      ∙ ap (λ (v : List ℕ). k.time ∷ v) (sym (ap (λ (p : Plan). p.buses) s.plan_is))

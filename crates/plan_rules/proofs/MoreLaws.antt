@@ -85,7 +85,7 @@ more-plan {p = p} d r =
 module _ (time : ℕ → ℕ → ℕ) {W B n : ℕ} {p : Plan} (f : IsFirst (time_of time) W B n p) where
   -- with more buses the least time is no larger
   pub more-buses : {C : ℕ} {q : Plan} → B ≤ C → IsFirst (time_of time) W C n q → time_of time q ≤ time_of time p
-  more-buses h g = g.least p (limit-more h f.is-plan)
+  more-buses h g = g.least p (limit-more h f.is_plan)
 
   -- nor is it with more wires
   pub more-wires : {U : ℕ} {q : Plan} → W ≤ U → ((i v w : ℕ) → i < n → 1 ≤ v → v ≤ w → w ≤ U → time i w ≤ time i v)
@@ -94,7 +94,7 @@ module _ (time : ℕ → ℕ → ℕ) {W B n : ℕ} {p : Plan} (f : IsFirst (tim
       let d = U - W in
       let ws = p.widths in
       let e : W + d ≡ U = omega arith in
-      let r = f.is-plan in
+      let r = f.is_plan in
       let a = g.least (plan (last_more d ws) p.buses) (rw e at (more-plan d r)) in
       let b = wider-plan time n U falls (more-wider d U ws r.wide (omega (arith, r.wires))) p.buses r.placed in
       omega (arith, a, b)

@@ -6,6 +6,6 @@ use Rattle.plan_rules.specs.Order.{Before}
 
 -- p is a plan, no plan costs less, and no plan of the same cost stands before it
 pub record IsFirst (cost : Plan → ℕ) (W B n : ℕ) (p : Plan) : Type 0 where
-  pub is-plan : IsPlan W B n p
+  pub is_plan : IsPlan W B n p
   pub least : (q : Plan) → IsPlan W B n q → cost p ≤ cost q
   pub first : (q : Plan) → IsPlan W B n q → cost q ≡ cost p → Before q p → ⊥

@@ -47,8 +47,8 @@ first_within key T (x ∷ xs) = cond (leb (key x) T) x (first_within key T xs)
 
 -- p has the cost that is kept, on buses of the widths that are kept, and its placement is the first on them to cost no more
 pub record Stands (cost : Plan → ℕ) (n : ℕ) (k : Kept) (p : Plan) : Type 0 where
-  pub time-is : cost p ≡ k.time
-  pub plan-is : p ≡ plan k.widths (first_within (cost_on cost k.widths) k.time (placements n (length k.widths)))
+  pub time_is : cost p ≡ k.time
+  pub plan_is : p ≡ plan k.widths (first_within (cost_on cost k.widths) k.time (placements n (length k.widths)))
 
 -- the best so far, its time before its bus numbers, and placements to come, as the search in ascending order of the modules keeps it
 unfoldable pub keep_all : (List ℕ → ℕ) → List ℕ → List (List ℕ) → List ℕ
@@ -58,5 +58,5 @@ keep_all time b (bs ∷ bss) = cond (ltb (time bs) (get_or b 0 0)) (keep_all tim
 -- r is the time of some plan
 pub record Reached (time : ℕ → ℕ → ℕ) (W B n r : ℕ) : Type 0 where
   pub reached : Plan
-  pub is-plan : IsPlan W B n reached
+  pub is_plan : IsPlan W B n reached
   pub takes : time_of time reached ≡ r

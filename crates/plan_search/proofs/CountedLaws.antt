@@ -33,7 +33,7 @@ module _ (ws : List ℕ) (W c : ℕ) (long : length ws ≡ c) (some : 1 ≤ c) (
     at_most = omega arith;
     few = omega arith;
     front = none;
-    front-most = omega arith;
+    front_most = omega arith;
     some = omega arith;
     upward = (le-div_iff_mul-le some).1 (omega arith);
     share = let z : length ws - 0 ≡ c = omega arith in rw z share_le;
@@ -60,8 +60,8 @@ module _ (t : List ℕ) (W B n best₀ : ℕ) (found₀ : List ℕ) where
   pub record Counted (widths found : List ℕ) (r c : ℕ) : Type 0 where
     pub from : 1 ≤ c
     pub upto : c ≤ B + 1
-    pub widths-room : length widths ≡ search_buses
-    pub found-room : length found ≡ length found₀
+    pub widths_room : length widths ≡ search_buses
+    pub found_room : length found ≡ length found₀
     pub count : get_or found 0 0 < length found
     pub small : r ≤ best_max
     pub is : keep_lists least (kept best₀ found₀) (all_lists W B) ≡ keep_lists least (kept r found) (upward (min B W - (c - 1)) c lists_with)
@@ -72,8 +72,8 @@ module _ (t : List ℕ) (W B n best₀ : ℕ) (found₀ : List ℕ) where
     counted-first widths e = record {
       from = omega arith;
       upto = omega arith;
-      widths-room = e;
-      found-room = refl;
+      widths_room = e;
+      found_room = refl;
       count = l.rooms.count;
       small = l.small;
       is = let z : min B W - (1 - 1) ≡ min B W = omega arith in rw z;
@@ -90,7 +90,7 @@ module _ (t : List ℕ) (W B n best₀ : ℕ) (found₀ : List ℕ) where
 
       module _ (h : c ≤ B) (k : c ≤ W) where
         widths_lent : length (take c widths) ≡ c
-        widths_lent = length-take-le c widths (omega (arith, s.widths-room, l.limit))
+        widths_lent = length-take-le c widths (omega (arith, s.widths_room, l.limit))
 
         lists_step : upward (min B W - (c - 1)) c lists_with ≡ lists_with c ++ upward (min B W - (c + 1 - 1)) (c + 1) lists_with
         unfolding upward
@@ -102,7 +102,7 @@ module _ (t : List ℕ) (W B n best₀ : ℕ) (found₀ : List ℕ) where
         group_lent = group-all (take c widths) W c widths_lent s.from k (omega (arith, l.limit)) l.narrow
 
         pub rooms_lent : Rooms (length (take c widths)) found
-        rooms_lent = record { places = omega (arith, widths_lent, s.found-room, l.rooms.places, l.limit); count = s.count }
+        rooms_lent = record { places = omega (arith, widths_lent, s.found_room, l.rooms.places, l.limit); count = s.count }
 
         -- the lists of c widths were searched
         pub counted_next : (widths' found' : List ℕ) (r' : ℕ) → length widths' ≡ length (take c widths)
@@ -111,8 +111,8 @@ module _ (t : List ℕ) (W B n best₀ : ℕ) (found₀ : List ℕ) where
         counted_next widths' found' r' e q = record {
           from = omega arith;
           upto = omega arith;
-          widths-room = length_front widths widths' c e ∙ s.widths-room;
-          found-room = q.same-room ∙ s.found-room;
+          widths_room = length_front widths widths' c e ∙ s.widths_room;
+          found_room = q.same_room ∙ s.found_room;
           count = q.count;
           small = omega (arith, s.small, sought_le _ q);
           is =

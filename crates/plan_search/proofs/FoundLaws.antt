@@ -47,7 +47,7 @@ module _ (t : List ℕ) (W B n : ℕ) (wires : 1 ≤ W) (buses : 1 ≤ B) where
   best-listed : Widths (length best.widths) 1 W best.widths
   unfolding plans
   best-listed =
-      let p = (best-first (time_of (table_time t)) W B n wires buses).is-plan in
+      let p = (best-first (time_of (table_time t)) W B n wires buses).is_plan in
       let u = upward_of (_) 1 (λ c. plans_on n c (width_lists c 1 W)) best (complete W B n best p) in
       let v = plans_on_of n u.0 (width_lists u.0 1 W) best u.3 in
       let r = widths_sound u.0 1 W best.widths v.0 in
@@ -65,7 +65,7 @@ module _ (t : List ℕ) (W B n : ℕ) (wires : 1 ≤ W) (buses : 1 ≤ B) where
   -- its widths can be placed on
   pub best-widths : W ≤ row_places → B ≤ search_buses → AreWidths best.widths
   best-widths narrow few =
-      let p = (best-first (time_of (table_time t)) W B n wires buses).is-plan in
+      let p = (best-first (time_of (table_time t)) W B n wires buses).is_plan in
       record {
         some = p.some;
         few = omega (arith, p.limit);
@@ -76,7 +76,7 @@ module _ (t : List ℕ) (W B n : ℕ) (wires : 1 ≤ W) (buses : 1 ≤ B) where
   -- what the buffers hold where its widths are kept and its placement was found
   module _ (T : ℕ) (found : List ℕ) (s : Stands (time_of (table_time t)) n (kept T found) best) (count : get_or found 0 0 < length found) where
     pub found-widths : take (get_or found 0 0) (drop 1 found) ≡ best.widths
-    found-widths = sym (ap (λ (p : Plan). p.widths) s.plan-is)
+    found-widths = sym (ap (λ (p : Plan). p.widths) s.plan_is)
 
     pub found-count : get_or found 0 0 ≡ length best.widths
     found-count =
@@ -90,7 +90,7 @@ module _ (t : List ℕ) (W B n : ℕ) (wires : 1 ≤ W) (buses : 1 ≤ B) where
 
     -- its time is that of a plan
     pub found-most : IsTable t n → T ≤ search_modules * time_bound
-    found-most table = omega (arith, s.time-is, time-most table best (best-first (time_of (table_time t)) W B n wires buses).is-plan.placed)
+    found-most table = omega (arith, s.time_is, time-most table best (best-first (time_of (table_time t)) W B n wires buses).is_plan.placed)
 
     pub found-is : (b : List ℕ) → b ≡ T ∷ best.buses → found_in b found ≡ found_of (table_time t) best
-    found-is b e = rw (e, found-widths, found-count, s.time-is)
+    found-is b e = rw (e, found-widths, found-count, s.time_is)

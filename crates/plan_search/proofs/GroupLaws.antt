@@ -64,11 +64,11 @@ module _ {ws : List ℕ} {at low high left : ℕ} (g : Group at low high left ws
       record {
         some = rw wide-length (omega (arith, g.at_most));
         few = rw wide-length g.few;
-        rising = rising-behind 1 low (take at ws) (high ∷ widest k low (left - low)) g.front g.front-most g.some r;
+        rising = rising-behind 1 low (take at ws) (high ∷ widest k low (left - low)) g.front g.front_most g.some r;
         narrow = omega (
           arith,
           largest-append (take at ws) (high ∷ widest k low (left - low)),
-          g.front-most,
+          g.front_most,
           high-left,
           g.upward,
           widest-most k low (left - low),
@@ -91,7 +91,7 @@ module _ {ws : List ℕ} {at low high left : ℕ} (g : Group at low high left ws
       let behind : Wider row_places x.0 (widest k low (left - low)) =
       widest-wider row_places k low (left - low) w x.0 r.count r.rising (omega (arith, r.wires, u.1)) u.1 g.some
       (omega (arith, g.narrow)) in
-      let front : largest (take at ws) ≤ row_places = omega (arith, g.front-most, g.upward) in
+      let front : largest (take at ws) ≤ row_places = omega (arith, g.front_most, g.upward) in
       let e : take at ws ++ w ∷ x.0 ≡ vs = sym (append_assoc (take at ws) (w ∷ []) x.0) ∙ x.2 in
       subst (λ (ys : List ℕ). Wider row_places ys wide) e
       (wider-behind row_places 1 (take at ws) (omega arith) g.front front (wider some fits narrow behind))
@@ -144,8 +144,8 @@ module _ {ws : List ℕ} {at low left : ℕ} (g : Group at low low left ws) wher
         record {
           at_most = simp length-set (omega arith);
           few = simp length-set g.few;
-          front = rw next-front (rising-behind 1 low (take at ws) (low ∷ []) g.front g.front-most g.some r);
-          front-most = rw next-front (omega (arith, largest-append (take at ws) (low ∷ []), g.front-most));
+          front = rw next-front (rising-behind 1 low (take at ws) (low ∷ []) g.front g.front_most g.some r);
+          front_most = rw next-front (omega (arith, largest-append (take at ws) (low ∷ []), g.front_most));
           some = g.some;
           upward = (le-div_iff_mul-le p).1 (omega (arith, room, mul_comm low (length ws - (at + 1))));
           share = rw c (omega (arith, (le-div_iff_mul-le p).0 (le_self behind), mul_comm behind (length ws - (at + 1))));
@@ -189,8 +189,8 @@ module _ {ws : List ℕ} {at low high left : ℕ} (g : Group at low high left ws
       record {
         some = simp length-set (omega arith);
         few = simp length-set g.few;
-        rising = rw last-is (rising-behind 1 low (take at ws) (left ∷ []) g.front g.front-most g.some r);
-        narrow = rw last-is (omega (arith, largest-append (take at ws) (left ∷ []), g.front-most, last_fits, g.narrow));
+        rising = rw last-is (rising-behind 1 low (take at ws) (left ∷ []) g.front g.front_most g.some r);
+        narrow = rw last-is (omega (arith, largest-append (take at ws) (left ∷ []), g.front_most, last_fits, g.narrow));
       }
 
   pub group-last : group (take at ws) (length ws - (at + 1)) low high left ≡ set ws at left ∷ []
@@ -208,7 +208,7 @@ module _ {ws vs : List ℕ} {at low high left : ℕ} (g : Group at low high left
     at_most = rw same_count g.at_most;
     few = rw same_count g.few;
     front = rw same-front g.front;
-    front-most = rw same-front g.front-most;
+    front_most = rw same-front g.front_most;
     some = g.some;
     upward = omega (arith, g.upward);
     share = rw same_count (share_of (length ws - at) ((low + high) / 2) high left (omega (arith, g.upward)) g.share);
@@ -221,7 +221,7 @@ module _ {ws vs : List ℕ} {at low high left : ℕ} (g : Group at low high left
     at_most = rw same_count g.at_most;
     few = rw same_count g.few;
     front = rw same-front g.front;
-    front-most = rw same-front (omega (arith, g.front-most, g.upward));
+    front_most = rw same-front (omega (arith, g.front_most, g.upward));
     some = omega arith;
     upward = omega (arith, g.upward, apart_lt);
     share = rw same_count g.share;

@@ -37,7 +37,7 @@ module _ {t ws rest : List ℕ} {i top load : ℕ} {loads₀ : List ℕ} (B : Bo
   rest-most =
       let n = length rest - 1 - i in
       let k : n ≤ search_modules = omega (arith, B.table.few) in
-      omega (arith, B.rest-is i at, total-most n i time_bound (λ j. table_time t j (last_of ws)) (λ j. B.table.times j (last_of ws)), mul-le-mul_right time_bound k)
+      omega (arith, B.rest_is i at, total-most n i time_bound (λ j. table_time t j (last_of ws)) (λ j. B.table.times j (last_of ws)), mul-le-mul_right time_bound k)
 
   -- the ways out
   pub out_top : {best enough : ℕ} → best ≤ top → Reaches (least_from (table_time t) ws (length rest - 1 - i) i loads₀ best) enough best
@@ -47,7 +47,7 @@ module _ {t ws rest : List ℕ} {i top load : ℕ} {loads₀ : List ℕ} (B : Bo
       → Reaches (least_from (table_time t) ws (length rest - 1 - i) i loads₀ best) enough best
   out_load {best} h =
       exactly (sym (from_load_skip (table_time t) (λ j. table_time t j (last_of ws)) ws (length rest - 1 - i) i loads₀ best L.long
-      (λ k j l m n. last-least B.widths B.table k j (omega arith) n) (omega (arith, L.load_is, B.rest-is i at))))
+      (λ k j l m n. last-least B.widths B.table k j (omega arith) n) (omega (arith, L.load_is, B.rest_is i at))))
 
   pub out_end : {best enough : ℕ} → top < best → i + 1 ≡ length rest
       → Reaches (least_from (table_time t) ws (length rest - 1 - i) i loads₀ best) enough top

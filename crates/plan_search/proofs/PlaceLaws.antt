@@ -18,10 +18,10 @@ use Rattle.plan_search.proofs.SearchLaws.{keep_append, keep-none, keep_one, upwa
 pub record Left (t ws : List ℕ) (i : ℕ) (loads₀ buses₀ best₀ loads buses best : List ℕ) (b : ℕ) : Type 0 where
   pub upto : b ≤ length ws
   pub loads_same : loads ≡ loads₀
-  pub buses-length : length buses ≡ length buses₀
-  pub best-length : length best ≡ length best₀
-  pub buses-same : take i buses ≡ take i buses₀
-  pub best-is : keep_all (time_on t ws) best₀ (map (λ bs. take i buses₀ ++ bs) (placements (length buses₀ - i) (length ws)))
+  pub buses_length : length buses ≡ length buses₀
+  pub best_length : length best ≡ length best₀
+  pub buses_same : take i buses ≡ take i buses₀
+  pub best_is : keep_all (time_on t ws) best₀ (map (λ bs. take i buses₀ ++ bs) (placements (length buses₀ - i) (length ws)))
       ≡ keep_all (time_on t ws) best (upward (length ws - b) (b + 1) (tries (take i buses₀) (length buses₀ - (i + 1)) (length ws)))
 
 module _ {t ws : List ℕ} {i top : ℕ} {loads₀ buses₀ best₀ : List ℕ} (r : Ready t ws i top loads₀ buses₀ best₀) where
@@ -46,8 +46,8 @@ module _ {t ws : List ℕ} {i top : ℕ} {loads₀ buses₀ best₀ : List ℕ} 
       let s : time_on t ws buses₀ ≡ top = rw (← p) (sym (r.top_is ∙ ap largest r.loads_are)) in
       record {
         loads_same = refl;
-        buses-same = refl;
-        best-is = k ∙ sym (rw (z, p, append-nil) (keep_one (time_on t ws) best₀ buses₀ (omega (arith, r.below)) ∙ rw s));
+        buses_same = refl;
+        best_is = k ∙ sym (rw (z, p, append-nil) (keep_one (time_on t ws) best₀ buses₀ (omega (arith, r.below)) ∙ rw s));
       }
 
   module _ (less : i < length buses₀) where
@@ -55,10 +55,10 @@ module _ {t ws : List ℕ} {i top : ℕ} {loads₀ buses₀ best₀ : List ℕ} 
     left-start = record {
       upto = omega arith;
       loads_same = refl;
-      buses-length = refl;
-      best-length = refl;
-      buses-same = refl;
-      best-is = ap (keep_all (time_on t ws) best₀) (placements-more (take i buses₀) (length buses₀) i (length ws) less);
+      buses_length = refl;
+      best_length = refl;
+      buses_same = refl;
+      best_is = ap (keep_all (time_on t ws) best₀) (placements-more (take i buses₀) (length buses₀) i (length ws) less);
     }
 
     module _ {loads buses best : List ℕ} {b : ℕ} (l : Left t ws i loads₀ buses₀ best₀ loads buses best b) where
@@ -66,8 +66,8 @@ module _ {t ws : List ℕ} {i top : ℕ} {loads₀ buses₀ best₀ : List ℕ} 
       unfolding keep_all
       left_end h = record {
         loads_same = l.loads_same;
-        buses-same = l.buses-same;
-        best-is = sym (l.best-is ∙ rw (upward-end (length ws) b (tries (take i buses₀) (length buses₀ - (i + 1)) (length ws)) h));
+        buses_same = l.buses_same;
+        best_is = sym (l.best_is ∙ rw (upward-end (length ws) b (tries (take i buses₀) (length buses₀ - (i + 1)) (length ws)) h));
       }
 
       left-more : b < length ws
@@ -76,11 +76,11 @@ module _ {t ws : List ℕ} {i top : ℕ} {loads₀ buses₀ best₀ : List ℕ} 
           (upward (length ws - (b + 1)) (b + 1 + 1) (tries (take i buses₀) (length buses₀ - (i + 1)) (length ws)))
       left-more h =
           let f = tries (take i buses₀) (length buses₀ - (i + 1)) (length ws) in
-          l.best-is ∙ ap (keep_all (time_on t ws) best) (upward_step (length ws) b f h)
+          l.best_is ∙ ap (keep_all (time_on t ws) best) (upward_step (length ws) b f h)
           ∙ keep_append (time_on t ws) best (f (b + 1)) (upward (length ws - (b + 1)) (b + 1 + 1) f)
 
       next-buses : take (i + 1) (set buses i (b + 1)) ≡ take i buses₀ ++ (b + 1) ∷ []
-      next-buses = rw (add-one i) (take-suc-set buses i (b + 1) (omega (arith, l.buses-length)) ∙ rw l.buses-same)
+      next-buses = rw (add-one i) (take-suc-set buses i (b + 1) (omega (arith, l.buses_length)) ∙ rw l.buses_same)
 
       module _ {load next : ℕ} (h : b < length ws) (e : load ≡ get_or loads b 0 + table_time t i (get_or ws b 0)) (n : next ≡ max top load) where
         next_loads : set loads b load ≡ busies (table_time t) (take i buses₀ ++ (b + 1) ∷ []) 1 ws
@@ -98,15 +98,15 @@ module _ {t ws : List ℕ} {i top : ℕ} {loads₀ buses₀ best₀ : List ℕ} 
         -- the try is made
         pub ready_next : next < get_or best 0 0 → Ready t ws (i + 1) next (set loads b load) (set buses i (b + 1)) best
         ready_next lower = record {
-          table = simp length-set (omega (arith, r.table, l.buses-length));
+          table = simp length-set (omega (arith, r.table, l.buses_length));
           times = r.times;
           wide = r.wide;
-          modules = simp length-set (omega (arith, r.modules, l.buses-length));
-          at = simp length-set (omega (arith, l.buses-length));
+          modules = simp length-set (omega (arith, r.modules, l.buses_length));
+          at = simp length-set (omega (arith, l.buses_length));
           loads_are = rw next-buses next_loads;
           top_is = next_top;
           below = lower;
-          room = simp length-set (omega (arith, r.room, l.buses-length, l.best-length));
+          room = simp length-set (omega (arith, r.room, l.buses_length, l.best_length));
         }
 
         pub left-tried : {loads' buses' best' : List ℕ}
@@ -115,18 +115,18 @@ module _ {t ws : List ℕ} {i top : ℕ} {loads₀ buses₀ best₀ : List ℕ} 
             → Left t ws i loads₀ buses₀ best₀ (set loads' b (get_or loads b 0)) buses' best' (b + 1)
         unfolding tries
         left-tried {loads'} {buses'} p u v =
-            let s : length (set buses i (b + 1)) ≡ length buses₀ = simp length-set l.buses-length in
+            let s : length (set buses i (b + 1)) ≡ length buses₀ = simp length-set l.buses_length in
             record {
               upto = omega arith;
               loads_same = rw (p.loads_same, set-set loads b load (get_or loads b 0), set-get_or loads b 0) l.loads_same;
-              buses-length = u ∙ s;
-              best-length = v ∙ l.best-length;
-              buses-same =
-                  sym (take-take i (i + 1) buses' (omega arith)) ∙ ap (take i) p.buses-same
+              buses_length = u ∙ s;
+              best_length = v ∙ l.best_length;
+              buses_same =
+                  sym (take-take i (i + 1) buses' (omega arith)) ∙ ap (take i) p.buses_same
                   ∙ take-take i (i + 1) (set buses i (b + 1)) (omega arith)
                   ∙ take-set-le i buses i (b + 1) (omega arith)
-                  ∙ l.buses-same;
-              best-is = left-more h ∙ rw (p.best-is, s, next-buses);
+                  ∙ l.buses_same;
+              best_is = left-more h ∙ rw (p.best_is, s, next-buses);
             }
 
         -- the try is dropped
@@ -145,10 +145,10 @@ module _ {t ws : List ℕ} {i top : ℕ} {loads₀ buses₀ best₀ : List ℕ} 
         left_dropped g = record {
           upto = omega arith;
           loads_same = l.loads_same;
-          buses-length = l.buses-length;
-          best-length = l.best-length;
-          buses-same = l.buses-same;
-          best-is =
+          buses_length = l.buses_length;
+          best_length = l.best_length;
+          buses_same = l.buses_same;
+          best_is =
               left-more h
               ∙ ap (λ x. keep_all (time_on t ws) x (upward (length ws - (b + 1)) (b + 1 + 1) (tries (take i buses₀) (length buses₀ - (i + 1)) (length ws)))) (dropped g);
         }
@@ -174,4 +174,4 @@ pub placed_first : {t ws loads loads' buses buses' best best' : List ℕ} → Pl
     → best' ≡ keep_all (time_on t ws) best (placements (length buses) (length ws))
 placed_first {t} {ws} {buses = buses} {best = best} p =
     let z : length buses - 0 ≡ length buses = omega arith in
-    p.best-is ∙ rw (z, map-id (placements (length buses) (length ws)))
+    p.best_is ∙ rw (z, map-id (placements (length buses) (length ws)))

@@ -41,7 +41,7 @@ module _ {t ws found : List ℕ} {n best r : ℕ} (rooms : Rooms (length ws) fou
       record {
         is = rw (← least, b, e, take-append_seam ws (drop (length ws + 1) found));
         count = rw l (rw e rooms.places);
-        same-room = l;
+        same_room = l;
       }
 
   -- it is not
@@ -50,13 +50,13 @@ module _ {t ws found : List ℕ} {n best r : ℕ} (rooms : Rooms (length ws) fou
   sought-same h =
       let e : r ≡ best = omega (arith, least, least_le (time_of (table_time t)) n ws best) in
       let b = le-ltb r best h in
-      record { is = rw (← least, b, e); count = rooms.count; same-room = refl }
+      record { is = rw (← least, b, e); count = rooms.count; same_room = refl }
 
 -- the lists are skipped
 pub sought-none : {t found : List ℕ} {n c best : ℕ} (wss : List (List ℕ)) → Rooms c found
     → keep_lists (least_on (table_time t) n) (kept best found) wss ≡ kept best found
     → Sought t n wss best found best found
-sought-none wss rooms e = record { is = sym e; count = rooms.count; same-room = refl }
+sought-none wss rooms e = record { is = sym e; count = rooms.count; same_room = refl }
 
 -- other lists were sought behind these
 pub sought-append : {t found found' found'' : List ℕ} {n best best' best'' : ℕ} (vss wss : List (List ℕ))
@@ -64,7 +64,7 @@ pub sought-append : {t found found' found'' : List ℕ} {n best best' best'' : �
 sought-append {t} {found = found} {n = n} {best = best} vss wss a b = record {
   is = b.is ∙ ap (λ (k : Kept). keep_lists (least_on (table_time t) n) k wss) a.is ∙ sym (keep_append (least_on (table_time t) n) (kept best found) vss wss);
   count = b.count;
-  same-room = b.same-room ∙ a.same-room;
+  same_room = b.same_room ∙ a.same_room;
 }
 
 -- what is found takes no more than what was known
@@ -81,4 +81,4 @@ sought_as e s = rw e s
 -- the buffer has places for the widths of the search that follows
 pub sought-rooms : {t found found' : List ℕ} {n c c' best best' : ℕ} (wss : List (List ℕ)) → Rooms c found → c' ≡ c
     → Sought t n wss best found best' found' → Rooms c' found'
-sought-rooms wss rooms e s = record { places = omega (arith, rooms.places, s.same-room); count = s.count }
+sought-rooms wss rooms e s = record { places = omega (arith, rooms.places, s.same_room); count = s.count }

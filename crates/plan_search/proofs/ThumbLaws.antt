@@ -196,7 +196,7 @@ module _ (k w W : ℕ) (low : 1 ≤ w) (fits : suc k * w ≤ W) where
   even-reached : (t : List ℕ) (B n r : ℕ) → suc k ≤ B → Placeable t (even k w W) n r → Reached (table_time t) W B n r
   even-reached t B n r b p = record {
     reached = plan (even k w W) p.buses;
-    is-plan = even-plan k w W B n p.buses low fits b (rw (even-length k w W) at p.listed);
+    is_plan = even-plan k w W B n p.buses low fits b (rw (even-length k w W) at p.listed);
     takes = p.takes;
   }
 
@@ -246,10 +246,10 @@ share-fits c w W some h = let p : 0 < c = some in omega (arith, (le-div_iff_mul-
 -- with a larger limit the same plan is one
 pub reached-more : (t : List ℕ) (W B C n r : ℕ) → B ≤ C → Reached (table_time t) W B n r → Reached (table_time t) W C n r
 reached-more t W B C n r h p =
-    let q = p.is-plan in
+    let q = p.is_plan in
     record {
       reached = p.reached;
-      is-plan = record {
+      is_plan = record {
         some = q.some;
         limit = omega (arith, q.limit);
         wide = q.wide;

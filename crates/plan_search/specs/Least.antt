@@ -17,7 +17,7 @@ pub record Board (t ws rest : List ℕ) : Type 0 where
   pub table : IsTable t (length rest - 1)
   pub some : 1 ≤ length rest
   pub widths : AreWidths ws
-  pub rest-is : RestIs t (last_of ws) rest
+  pub rest_is : RestIs t (last_of ws) rest
 
 -- the modules before i have their buses: the largest load, and the sum of the loads
 pub record Loads (ws : List ℕ) (i top load : ℕ) (loads : List ℕ) : Type 0 where

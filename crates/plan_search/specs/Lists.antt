@@ -28,7 +28,7 @@ pub record Group (at low high left : ℕ) (ws : List ℕ) : Type 0 where
   pub at_most : suc at ≤ length ws
   pub few : length ws ≤ search_buses
   pub front : Rising 1 (take at ws)
-  pub front-most : largest (take at ws) ≤ low
+  pub front_most : largest (take at ws) ≤ low
   pub some : 1 ≤ low
   pub upward : low ≤ high
   pub share : (length ws - at) * high ≤ left
@@ -39,7 +39,7 @@ pub record Group (at low high left : ℕ) (ws : List ℕ) : Type 0 where
 pub record Sought (t : List ℕ) (n : ℕ) (wss : List (List ℕ)) (best : ℕ) (found : List ℕ) (best' : ℕ) (found' : List ℕ) : Type 0 where
   pub is : kept best' found' ≡ keep_lists (least_on (table_time t) n) (kept best found) wss
   pub count : get_or found' 0 0 < length found'
-  pub same-room : length found' ≡ length found
+  pub same_room : length found' ≡ length found
 
 -- all lists of widths can be searched
 pub record Listing (t : List ℕ) (W B n best : ℕ) (found : List ℕ) : Type 0 where

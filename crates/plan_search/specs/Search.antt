@@ -62,8 +62,8 @@ pub record Ready (t ws : List ℕ) (i top : ℕ) (loads buses best : List ℕ) :
 -- all placements of the modules from i on were tried, and nothing but the best and the bus numbers from i on has changed
 pub record Placed (t ws : List ℕ) (i : ℕ) (loads loads' buses buses' best best' : List ℕ) : Type 0 where
   pub loads_same : loads' ≡ loads
-  pub buses-same : take i buses' ≡ take i buses
-  pub best-is : best' ≡ keep_all (time_on t ws) best (map (λ bs. take i buses ++ bs) (placements (length buses - i) (length ws)))
+  pub buses_same : take i buses' ≡ take i buses
+  pub best_is : best' ≡ keep_all (time_on t ws) best (map (λ bs. take i buses ++ bs) (placements (length buses - i) (length ws)))
 
 -- a table of the times of n modules, no more than an answer has places for, which keep their limit
 pub record AreTimes (t : List ℕ) (n : ℕ) : Type 0 where

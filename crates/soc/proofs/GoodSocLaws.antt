@@ -19,7 +19,7 @@ use Rattle.soc.specs.declared.record.Soc.{Soc}
 
 pub record TestFigures (power : Bool) (t : Test) : Type 0 where
   pub patterns : t.patterns ≤ patterns_max
-  pub power-kept : good_power power t.power ≡ true
+  pub power_kept : good_power power t.power ≡ true
 
 pub test-figures : (m : ℕ) (power : Bool) (t : Test) → good_test m power t ≡ true → TestFigures power t
 unfolding good_test
@@ -27,7 +27,7 @@ test-figures m power t h =
     let r = (and_both (pins_rule m t.tam_use) _ h).1 in
     let a = (and_both (leb 1 t.patterns) (leb t.patterns patterns_max && good_power power t.power) r).1 in
     let b = and_both (leb t.patterns patterns_max) (good_power power t.power) a in
-    record { patterns = leb-true _ _ b.0; power-kept = b.1 }
+    record { patterns = leb-true _ _ b.0; power_kept = b.1 }
 
 pub record ModuleFigures (power xy : Bool) (m : ℕ) (d : Module) : Type 0 where
   pub level : d.level ≤ level_max
@@ -37,7 +37,7 @@ pub record ModuleFigures (power xy : Bool) (m : ℕ) (d : Module) : Type 0 where
   pub chain_count : d.chain_count ≤ chains_max
   pub lengths : all_of good_length (chains_of d) ≡ true
   pub position : good_position xy d.x d.y ≡ true
-  pub test-count : d.test_count ≤ tests_max
+  pub test_count : d.test_count ≤ tests_max
   pub tests : all_of (good_test m power) (tests_of d) ≡ true
 
 pub module_figures : (power xy : Bool) (m last : ℕ) (d : Module) → good_module power xy m last d ≡ true → ModuleFigures power xy m d
@@ -60,12 +60,12 @@ module_figures power xy m last d h =
       chain_count = leb-true _ _ k.0;
       lengths = (and_both (all_of good_length (chains_of d)) (all_of spare_length (drop d.chain_count d.chains)) k.1).0;
       position = g.0;
-      test-count = leb-true _ _ n.0;
+      test_count = leb-true _ _ n.0;
       tests = (and_both (all_of (good_test m power) (tests_of d)) (all_of spare_test (drop d.test_count d.tests)) n.1).0;
     }
 
 pub record SocFigures (s : Soc) : Type 0 where
-  pub name-len : s.name_len ≤ name_max
+  pub name_len : s.name_len ≤ name_max
   pub name : is_name (name_of s) ≡ true
   pub module_count : s.module_count ≤ modules_max
   pub modules : good_modules s.power s.xy 0 0 (modules_of s) ≡ true
@@ -80,7 +80,7 @@ soc-figures s h =
     let e = and_both (leb s.module_count modules_max) (good && spare) b in
     let n = and_both (leb s.name_len name_max) (is_name (name_of s) && all_of none (drop s.name_len s.name)) a.0 in
     record {
-      name-len = leb-true _ _ n.0;
+      name_len = leb-true _ _ n.0;
       name = (and_both (is_name (name_of s)) (all_of none (drop s.name_len s.name)) n.1).0;
       module_count = leb-true _ _ e.0;
       modules = (and_both good spare e.1).0;
@@ -93,5 +93,5 @@ unfolding good_modules
 modules-counts power xy m last [] h i = (omega arith, omega arith)
 modules-counts power xy m last (d ∷ ds) h zero =
     let f = module_figures power xy m last d (and_both (good_module power xy m last d) (good_modules power xy (suc m) d.level ds) h).0 in
-    (f.chain_count, f.test-count)
+    (f.chain_count, f.test_count)
 modules-counts power xy m last (d ∷ ds) h (suc i) = modules-counts power xy (suc m) d.level ds (and_both (good_module power xy m last d) (good_modules power xy (suc m) d.level ds) h).1 i

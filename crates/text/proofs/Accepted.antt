@@ -104,7 +104,7 @@ count_fields m t = module_fields m (bytes "TotalTests" ∷ decimal t ∷ [])
 
 pub record BodyRead (m : ℕ) (xy : Bool) (ls : List Line) (b : Body) (rest : List Line) : Type 0 where
   pub position : List (List (List ℕ))
-  pub position-is : ((xy ≡ true) × Sayable b.x × Sayable b.y × (position ≡ place_fields m b.x b.y ∷ [])) ⊎ ((b.x ≡ not_given) × (b.y ≡ not_given) × (position ≡ []))
+  pub position_is : ((xy ≡ true) × Sayable b.x × Sayable b.y × (position ≡ place_fields m b.x b.y ∷ [])) ⊎ ((b.x ≡ not_given) × (b.y ≡ not_given) × (position ≡ []))
   pub lines : map fields_in ls ≡ position ++ count_fields m b.tests ∷ map fields_in rest
   pub good : good_position xy b.x b.y ≡ true
   pub most : b.tests ≤ tests_max
@@ -115,7 +115,7 @@ unfolding behind good_position
 behind-read m xy (Second.tests t) l ls b rest w h =
     let s = second_only_tests m xy l.fields t w in
     let g = got_only h in
-    rw (← g.0) (record { position = []; position-is = inr (refl, refl, refl); lines = ap₂ (λ f q. f ∷ map fields_in q) s.fields g.1; good = refl; most = s.most })
+    rw (← g.0) (record { position = []; position_is = inr (refl, refl, refl); lines = ap₂ (λ f q. f ∷ map fields_in q) s.fields g.1; good = refl; most = s.most })
 behind-read m xy (Second.position px py) l ls b rest w h =
     let s = second_only_position m xy l.fields px py w in
     let y = position-says px py s.good in
@@ -127,7 +127,7 @@ behind-read m xy (Second.position px py) l ls b rest w h =
     ap (map fields_in) c.lines ∙ ap₂ (λ f q. f ∷ map fields_in q) t.fields g.1 in
     rw (← g.0) (record {
       position = place_fields m px py ∷ [];
-      position-is = inl (s.option, y.0, y.1, refl);
+      position_is = inl (s.option, y.0, y.1, refl);
       lines = ap₂ (λ f q. f ∷ q) s.fields k;
       good = ap (λ o. good_position o px py) s.option ∙ s.good;
       most = t.most;
@@ -185,8 +185,8 @@ module _ (o : Options) (m last : ℕ) where
             record {
               position = p.position;
               tests = t.fields;
-              position-is = p.position-is;
-              tests-are = rw u t.are;
+              position_is = p.position_is;
+              tests_are = rw u t.are;
               lines_are = ap (λ f. f ∷ p.position ++ count_fields m b.tests ∷ t.fields) k;
             };
         good = simp (
@@ -305,7 +305,7 @@ module _ (name : Name) (n : ℕ) (o : Options) (ds : List Module) where
       let g : c.fields ≡ options_fields (soc_of name n o ds) = options_only c.fields o w in
       let y : good_soc (soc_of name n o ds) ≡ true = simp (m.1, le-leb 1 n t.least, le-leb n modules_max t.most, u, r.good, z) in
       record {
-        described = record { modules = r.fields; modules-are = rw u r.are; lines_are = cc; spare = good-spare (soc_of name n o ds) y };
+        described = record { modules = r.fields; modules_are = rw u r.are; lines_are = cc; spare = good-spare (soc_of name n o ds) y };
         good = y;
         sized =
             record {

@@ -123,7 +123,7 @@ module _ (power xy : Bool) (m last : ℕ) (d : Module) (z : SizedModule d) (g : 
   module_tests_pass : (ts : List (List (List ℕ))) → TestLines power m 1 (tests_of d) ts → Passes (module_tests (options_of power xy) m (shape_of d) (body_of d)) ts d
   unfolding module_tests
   module_tests_pass ts r =
-      let n : length (tests_of d) ≡ d.test_count = length-take-le d.test_count d.tests (omega (arith, z.tests, g.figures.test-count)) in
+      let n : length (tests_of d) ≡ d.test_count = length-take-le d.test_count d.tests (omega (arith, z.tests, g.figures.test_count)) in
       let e : module_of (shape_of d) (body_of d) (tests_of d) ≡ d = ap (λ l. record {
         level = d.level;
         inputs = d.inputs;
@@ -146,7 +146,7 @@ module _ (power xy : Bool) (m last : ℕ) (d : Module) (z : SizedModule d) (g : 
   module_rest-passes ps ts q r =
       rw (← append_assoc ps (tests_fields m d ∷ []) ts)
       (then_passes (body m xy) (module_tests (options_of power xy) m (shape_of d)) (ps ++ tests_fields m d ∷ []) ts (body_of d) d
-      (body-passes xy m d ps q g.figures.position g.figures.test-count)
+      (body-passes xy m d ps q g.figures.position g.figures.test_count)
       (module_tests_pass ts r))
 
   pub module_passes : (ls : List (List (List ℕ))) → ModuleLines power xy m d ls → Passes (module_lines (options_of power xy) m last) ls d
@@ -155,7 +155,7 @@ module _ (power xy : Bool) (m last : ℕ) (d : Module) (z : SizedModule d) (g : 
       rw r.lines_are
       (then_passes (line (kinds.level_line m last)) (module_rest (options_of power xy) m) (level_fields m d ∷ []) (r.position ++ tests_fields m d ∷ r.tests) (shape_of d) d
       (line-passes (kinds.level_line m last) (level_fields m d) (shape_of d) (level_back m last d z.chains g.level g.rule g.terminals g.chains))
-      (module_rest-passes r.position r.tests r.position-is r.tests-are))
+      (module_rest-passes r.position r.tests r.position_is r.tests_are))
 
 -- the modules
 
@@ -216,6 +216,6 @@ reads_described s ls z h r =
     let g = good-soc s h in
     then_ends (line kinds.name_line) behind_name (name_fields s ∷ []) (total_fields s ∷ options_fields s ∷ r.modules) (held_name s) s
     (line-passes kinds.name_line (name_fields s) (held_name s) (name_back s z.name g.name))
-    (behind-name-ends s r.modules z g r.modules-are)
+    (behind-name-ends s r.modules z g r.modules_are)
     ls
     r.lines_are

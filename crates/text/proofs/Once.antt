@@ -204,10 +204,10 @@ module _ (d e : Module) (y : SizedModule d) (z : SizedModule e) (p : spare_in d 
       let g : (r.position ++ tests_fields m d ∷ r.tests) ++ a ≡ (s.position ++ tests_fields m e ∷ s.tests) ++ b = cc in
       let l = level_once m d e f in
       let o =
-      position_once xy m d e r.position s.position r.position-is s.position-is (r.tests ++ a) (s.tests ++ b)
+      position_once xy m d e r.position s.position r.position_is s.position_is (r.tests ++ a) (s.tests ++ b)
       (sym (append_assoc r.position (tests_fields m d ∷ r.tests) a) ∙ g ∙ append_assoc s.position (tests_fields m e ∷ s.tests) b) in
       let n : length (tests_of d) ≡ length (tests_of e) = taken_once d.test_count e.test_count d.tests e.tests o.count (y.tests ∙ sym z.tests) in
-      let t = tests_once r.tests-are s.tests-are n a b o.behind in
+      let t = tests_once r.tests_are s.tests_are n a b o.behind in
       let c = chains_once l.count l.chains in
       let u = module_tests_once o.count t.0 in (
         λ i. record {
@@ -278,9 +278,9 @@ lines_once ls r s y z p q =
     let name = name_once r s y z p.spare q.spare f in
     let count = total_once r s g in
     let o = options_once r s h in
-    let a : ModulesLines s.power s.xy 0 (modules_of r) p.modules = rw (o.0, o.1) at p.modules-are in
+    let a : ModulesLines s.power s.xy 0 (modules_of r) p.modules = rw (o.0, o.1) at p.modules_are in
     let n : length (modules_of r) ≡ length (modules_of s) = taken_once r.module_count s.module_count r.modules s.modules count (y.modules ∙ sym z.modules) in
-    let m = modules_once a q.modules-are n (sized-front r.module_count r.modules (sized-modules r y)) (sized-front s.module_count s.modules (sized-modules s z)) p.spare.within q.spare.within k in
+    let m = modules_once a q.modules_are n (sized-front r.module_count r.modules (sized-modules r y)) (sized-front s.module_count s.modules (sized-modules s z)) p.spare.within q.spare.within k in
     let modules = all-modules_once r s y z p.spare q.spare count m in
     λ i. record {
       name_len = name.0 i;

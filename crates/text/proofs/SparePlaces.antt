@@ -86,7 +86,7 @@ good-spare s h =
     let a = and_both (leb s.name_len name_max) (is_name (name_of s) && all_of none (drop s.name_len s.name)) g.name in
     let b = and_both (is_name (name_of s)) (all_of none (drop s.name_len s.name)) a.1 in
     record {
-      room = g.figures.name-len;
+      room = g.figures.name_len;
       name = b.1;
       modules = g.spare;
       within = good-spare-each s.power s.xy 0 0 (modules_of s) g.figures.modules;
@@ -132,7 +132,7 @@ spare_module_lem d z h =
     let chains = all-spare spare_length (flip_flops 0) spare-length chains_max d.chains z.chains g.0 in
     let x = none_z_lem d.x k.0 in
     let y = none_z_lem d.y l.0 in
-    let test-count = eqb-true d.test_count 0 m.0 in
+    let test_count = eqb-true d.test_count 0 m.0 in
     let tests = all-spare spare_test no_test spare-test tests_max d.tests z.tests m.1 in
     λ i. record {
       level = level i;
@@ -143,7 +143,7 @@ spare_module_lem d z h =
       chains = chains i;
       x = x i;
       y = y i;
-      test_count = test-count i;
+      test_count = test_count i;
       tests = tests i;
     }
 
@@ -188,4 +188,4 @@ modules-padded s z g =
     rw (m, ← r) (take-append-drop s.module_count s.modules)
 
 pub tests-padded : {power xy : Bool} {m last : ℕ} (d : Module) → SizedModule d → GoodModule power xy m last d → padded tests_max no_test (tests_of d) ≡ d.tests
-tests-padded d z g = padded_back spare_test no_test spare-test tests_max d.test_count d.tests z.tests g.figures.test-count g.spare
+tests-padded d z g = padded_back spare_test no_test spare-test tests_max d.test_count d.tests z.tests g.figures.test_count g.spare

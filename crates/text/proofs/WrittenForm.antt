@@ -61,8 +61,8 @@ module_described power xy m last d h =
     record {
       position = position_lines xy m d;
       tests = test_lines power m 1 (tests_of d);
-      position-is = position_described xy m d g.position;
-      tests-are = tests_described power m 1 (tests_of d) g.tests;
+      position_is = position_described xy m d g.position;
+      tests_are = tests_described power m 1 (tests_of d) g.tests;
       lines_are = refl;
     }
 
@@ -77,7 +77,7 @@ pub written_describes : (s : Soc) → good_soc s ≡ true → Describes s (soc_l
 unfolding soc_lines
 written_describes s h = record {
   modules = module_lines_from s.power s.xy 0 (modules_of s);
-  modules-are = modules_described s.power s.xy 0 0 (modules_of s) (soc-figures s h).modules;
+  modules_are = modules_described s.power s.xy 0 0 (modules_of s) (soc-figures s h).modules;
   lines_are = refl;
   spare = good-spare s h;
 }

@@ -40,8 +40,8 @@ PositionPart xy m d ls =
 pub record ModuleLines (power xy : Bool) (m : ℕ) (d : Module) (ls : List (List (List ℕ))) : Type 0 where
   pub position : List (List (List ℕ))
   pub tests : List (List (List ℕ))
-  pub position-is : PositionPart xy m d position
-  pub tests-are : TestLines power m 1 (tests_of d) tests
+  pub position_is : PositionPart xy m d position
+  pub tests_are : TestLines power m 1 (tests_of d) tests
   pub lines_are : ls ≡ level_fields m d ∷ position ++ tests_fields m d ∷ tests
 
 -- "for each module m from 0"
@@ -64,7 +64,7 @@ pub record Spare (s : Soc) : Type 0 where
 -- the lines of a record, whose other places are spare
 pub record Describes (s : Soc) (ls : List (List (List ℕ))) : Type 0 where
   pub modules : List (List (List ℕ))
-  pub modules-are : ModulesLines s.power s.xy 0 (modules_of s) modules
+  pub modules_are : ModulesLines s.power s.xy 0 (modules_of s) modules
   pub lines_are : ls ≡ name_fields s ∷ total_fields s ∷ options_fields s ∷ modules
   pub spare : Spare s
 

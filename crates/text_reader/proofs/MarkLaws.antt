@@ -41,12 +41,12 @@ lines_pass m {ls} {ms} r = rw r.lines (Passes.more r.begins r.goes_on)
 marked_on : {m : ℕ} {t : List ℕ} {ls ms ns : List Line} {from to : ℕ} → Marked m t ls ms from to → Passes (Other m) ms ns
     → Marked m t ls ns from to
 marked_on r p =
-    record { from-line = r.from-line; to-line = r.to-line; before = r.before; lines = r.lines; behind = passes_both r.behind p }
+    record { from_line = r.from_line; to_line = r.to_line; before = r.before; lines = r.lines; behind = passes_both r.behind p }
 
 marked_before : {m : ℕ} {t : List ℕ} {ks ls ms : List Line} {from to : ℕ} → Passes (Other m) ks ls → Marked m t ls ms from to
     → Marked m t ks ms from to
 marked_before p r =
-    record { from-line = r.from-line; to-line = r.to-line; before = passes_both p r.before; lines = r.lines; behind = r.behind }
+    record { from_line = r.from_line; to_line = r.to_line; before = passes_both p r.before; lines = r.lines; behind = r.behind }
 
 -- the lines of module k come, from low on
 module _ (m low k : ℕ) (has had : Bool) (t : List ℕ) (ls : List Line) (p q : Place) (s r : Marks) where
@@ -63,8 +63,8 @@ module _ (m low k : ℕ) (has had : Bool) (t : List ℕ) (ls : List Line) (p q :
             absent = λ j. absurd (omega (arith, j, z));
             marks = λ _.
                 record {
-                  from-line = p.line;
-                  to-line = q.line;
+                  from_line = p.line;
+                  to_line = q.line;
                   before = a.before (omega (arith, h, z));
                   lines = rw z at l;
                   behind = Passes.none;

@@ -47,11 +47,11 @@ pub record LinesOf (m : ℕ) (ls ms : List Line) : Type 0 where
 
 -- among the lines from ls up to ms those of module m stand between two places of the text t, and no others
 pub record Marked (m : ℕ) (t : List ℕ) (ls ms : List Line) (from to : ℕ) : Type 0 where
-  pub from-line : ℕ
-  pub to-line : ℕ
-  pub before : Passes (Other m) ls (lines_from from-line t from)
-  pub lines : LinesOf m (lines_from from-line t from) (lines_from to-line t to)
-  pub behind : Passes (Other m) (lines_from to-line t to) ms
+  pub from_line : ℕ
+  pub to_line : ℕ
+  pub before : Passes (Other m) ls (lines_from from_line t from)
+  pub lines : LinesOf m (lines_from from_line t from) (lines_from to_line t to)
+  pub behind : Passes (Other m) (lines_from to_line t to) ms
 
 abbrev pub no_marks : Marks
 no_marks = record { from = 0; to = 0 }

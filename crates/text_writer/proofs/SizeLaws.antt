@@ -110,7 +110,7 @@ tests_size power xy m d h f = omega (arith, decimal_size 1 m (omega arith), deci
 
 power-fields_size : (power : Bool) (t : Test) → TestFigures power t → size (cond power (power_fields t) []) ≤ 15
 unfolding power_fields size
-power-fields_size true t f = omega (arith, power_size true t.power f.power-kept)
+power-fields_size true t f = omega (arith, power_size true t.power f.power_kept)
 power-fields_size false t f = omega arith
 
 test_size : (power : Bool) (m i : ℕ) (t : Test) → m < 100 → i < 100 → TestFigures power t → size (test_fields m i t (cond power (power_fields t) [])) ≤ 71

@@ -123,16 +123,16 @@ module _ (c : ℕ) (first : 1 ≤ c) (last : c ≤ capture_max) (s : Soc) (m : �
     wires-past j h = rw times-are (held-past wires_in (wires 0) c (module_at s m) W j h)
 
     -- the same figures as those of one width alone
-    time-is : (w : ℕ) → 1 ≤ w → w ≤ W → module_time_answer s m w c ≡ module_time_of (module_best c (module_at s m) w)
+    time_is : (w : ℕ) → 1 ≤ w → w ≤ W → module_time_answer s m w c ≡ module_time_of (module_best c (module_at s m) w)
     unfolding module_time_answer asked_module
-    time-is w h k =
+    time_is w h k =
         let n : w ≤ width_max = omega arith in
         rw (good, le-leb 1 w h, le-leb w width_max n, le-leb 1 c first, le-leb c capture_max last, lt-ltb m s.module_count there)
 
     pub times-same : (w : ℕ) → 1 ≤ w → w ≤ W
         → get_or (module_times_answer s m W c).times.cycles (w - 1) (cycles 0) ≡ (module_time_answer s m w c).cycles
-    times-same w h k = times-at w h k ∙ sym (ap (λ a. a.cycles) (time-is w h k))
+    times-same w h k = times-at w h k ∙ sym (ap (λ a. a.cycles) (time_is w h k))
 
     pub wires-same : (w : ℕ) → 1 ≤ w → w ≤ W
         → get_or (module_times_answer s m W c).times.wires (w - 1) (wires 0) ≡ (module_time_answer s m w c).wires
-    wires-same w h k = wires-at w h k ∙ sym (ap (λ a. a.wires) (time-is w h k))
+    wires-same w h k = wires-at w h k ∙ sym (ap (λ a. a.wires) (time_is w h k))

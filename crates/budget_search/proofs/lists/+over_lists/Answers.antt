@@ -50,7 +50,7 @@ overflow_cast-due t c = omega (arith, c.requires.4.few)
 pub overflow_mul-low : goal.overflow_mul-low
 overflow_mul-low t c =
     let a = c.args in
-    omega (arith, share-small a.low.0 (length a.widths.now - a.at) c.requires.4.low-most (omega (arith, c.requires.4.few)))
+    omega (arith, share-small a.low.0 (length a.widths.now - a.at) c.requires.4.low_most (omega (arith, c.requires.4.few)))
 
 pub returns-then-left-low : goal.returns-then-left-low
 returns-then-left-low t c =
@@ -112,7 +112,7 @@ over_lists-r-requires t c =
     (m, (c.requires.0, c.requires.1, c.requires.2, c.requires.3, begun-next c.requires.4 l f))
 
 pub overflow_add-low : goal.overflow_add-low
-overflow_add-low t c = omega (arith, c.requires.4.low-most)
+overflow_add-low t c = omega (arith, c.requires.4.low_most)
 
 -- the next width is more, by omega, so that a wrong one is met where the lists are told
 pub over_lists-requires : goal.over_lists-requires

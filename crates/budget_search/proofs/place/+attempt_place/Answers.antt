@@ -89,8 +89,8 @@ pub place-attempt-r-requires : goal.place-attempt-r-requires
 place-attempt-r-requires t c =
     let l = c.loop-left in
     let v = l.invariant in
-    let h : c.args.i < length l.buses = omega (arith, v.2.buses-length, c.requires.upto, c.if-i-buses.false) in
-    let f : (length l.buses - c.args.i) * 2 < t = omega (arith, v.2.buses-length) in
+    let h : c.args.i < length l.buses = omega (arith, v.2.buses_length, c.requires.upto, c.if-i-buses.false) in
+    let f : (length l.buses - c.args.i) * 2 < t = omega (arith, v.2.buses_length) in
     (f, (left_ready v.2 c.requires, (h, omega (arith, v.0, v.1, c.loop-left-test.true))))
 
 pub place-overflow_sub-left : goal.place-overflow_sub-left

@@ -13,7 +13,7 @@ slice_bounds-widths-end c = let a = c.args in
     let l = c.loop-c in
     omega (
       arith,
-      l.invariant.widths-room,
+      l.invariant.widths_room,
       few a.table.now a.wires.0 a.limit a.n a.budget l.invariant c.requires.0
           (omega (arith, c.loop-c-test.true)),
     )
@@ -23,7 +23,7 @@ slice_bounds-over_lists-end c = let a = c.args in
     let l = c.loop-c in
     simp length-take (omega (
       arith,
-      l.invariant.widths-room,
+      l.invariant.widths_room,
       few a.table.now a.wires.0 a.limit a.n a.budget l.invariant
           c.requires.0 (omega (arith, c.loop-c-test.true)),
     ))

@@ -26,9 +26,9 @@ returns-then-answer-ne0 c = let e = plan-refused c.args.s c.args.wires c.args.li
 pub put_plan-requires : goal.put_plan-requires
 put_plan-requires c = let f = found (goal.at.put_plan-requires c).Else-answer-ne0 in (
   (soc-figures c.args.s (planner_accepts_good c.args.s c.args.wires c.args.limit c.args.capture _ c.plan-answer.ensures
-      c.if-answer-ne0.false)).name-len,
-  f.buses-high,
-  f.modules-high,
+      c.if-answer-ne0.false)).name_len,
+  f.buses_high,
+  f.modules_high,
   omega (arith, c.requires),
 )
 

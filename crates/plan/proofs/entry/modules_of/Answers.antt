@@ -12,8 +12,8 @@ use Rattle.plan.proofs.EntryLaws.{cycles_of_lem, times-fewer, placed-none, place
 use Rattle.plan.proofs.entry.modules_of.Goals as goal
 use Rattle.plan.proofs.entry.modules_of.Goals.{In-loop-i, Start}
 
-buses-length : (c : Start) → length c.args.f.buses ≡ found_modules
-buses-length c = search rules
+buses_length : (c : Start) → length c.args.f.buses ≡ found_modules
+buses_length c = search rules
 
 -- where a turn began from
 abbrev start : In-loop-i → Start
@@ -76,7 +76,7 @@ pub loop-i-preserved : goal.loop-i-preserved
 loop-i-preserved c = let s = start (goal.at.loop-i-preserved c).In-loop-i in
     let a = s.args in
     let h : c.loop-i.i < a.p.count = c.loop-i-test.true in
-    let b : c.loop-i.i < length a.f.buses = omega (arith, buses-length s, s.requires.1.few) in
+    let b : c.loop-i.i < length a.f.buses = omega (arith, buses_length s, s.requires.1.few) in
     let fill = placed_fill a.p a.t a.f c.loop-i.i c.loop-i.list b (omega (arith, s.requires.1.few)) c.loop-i.invariant.1 in
     (omega arith, rw (cycles_of_lem c.busy_of.ensures) fill)
 

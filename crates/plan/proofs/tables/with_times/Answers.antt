@@ -50,8 +50,8 @@ returns c = let i = c.loop-j.invariant in
     let x = rw e at i.2 in
     let y = rw e at i.3 in
     record {
-      cycles-here = x.here;
-      wires-here = y.here;
+      cycles_here = x.here;
+      wires_here = y.here;
       cycles_else = λ j. (x.front j, x.behind j);
       wires_else = λ j. (y.front j, y.behind j);
     }

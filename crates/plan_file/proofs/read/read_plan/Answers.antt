@@ -47,11 +47,11 @@ count-buses : (c : After-plan_in-p) → c.plan_in-p.result.bus_count ≡ bus_cou
 unfolding plan_in
 count-buses c = ap (λ p. p.bus_count) c.plan_in-p.ensures
 
-plan-is : (c : After-is_good_plan) → c.is_good_plan.result ≡ good_plan (plan_in (file1 (goal.at.After-is_good_plan c).Else-not-has_good_length))
-plan-is c = c.is_good_plan.ensures ∙ ap good_plan c.plan_in-p.ensures
+plan_is : (c : After-is_good_plan) → c.is_good_plan.result ≡ good_plan (plan_in (file1 (goal.at.After-is_good_plan c).Else-not-has_good_length))
+plan_is c = c.is_good_plan.ensures ∙ ap good_plan c.plan_in-p.ensures
 
-modules-are : (c : After-are_zero_modules) → let f = file2 (goal.at.After-are_zero_modules c).Else-not-is_good_plan in c.are_zero_modules.result ≡ zero_modules f (module_count f)
-modules-are c = rw (count-modules (goal.at.After-are_zero_modules c).After-plan_in-p) at c.are_zero_modules.ensures
+modules_are : (c : After-are_zero_modules) → let f = file2 (goal.at.After-are_zero_modules c).Else-not-is_good_plan in c.are_zero_modules.result ≡ zero_modules f (module_count f)
+modules_are c = rw (count-modules (goal.at.After-are_zero_modules c).After-plan_in-p) at c.are_zero_modules.ensures
 
 buses-are : (c : After-are_zero_buses) →
     let f = file3 (goal.at.After-are_zero_buses c).Else-not-are_zero_modules in
@@ -64,10 +64,10 @@ unfolding good_file
 after-length c = and_goes _ _ (length-good c)
 
 after-plan : (c : Else-not-is_good_plan) → good_file (file2 c) ≡ behindPlan (file2 c)
-after-plan c = after-length (goal.at.Else-not-is_good_plan c).Else-not-has_good_length ∙ and_goes _ _ (sym (plan-is (goal.at.Else-not-is_good_plan c).After-is_good_plan) ∙ c.if-not-is_good_plan.false)
+after-plan c = after-length (goal.at.Else-not-is_good_plan c).Else-not-has_good_length ∙ and_goes _ _ (sym (plan_is (goal.at.Else-not-is_good_plan c).After-is_good_plan) ∙ c.if-not-is_good_plan.false)
 
 after-modules : (c : Else-not-are_zero_modules) → good_file (file3 c) ≡ behindModules (file3 c)
-after-modules c = after-plan (goal.at.Else-not-are_zero_modules c).Else-not-is_good_plan ∙ and_goes _ _ (sym (modules-are (goal.at.Else-not-are_zero_modules c).After-are_zero_modules) ∙ c.if-not-are_zero_modules.false)
+after-modules c = after-plan (goal.at.Else-not-are_zero_modules c).Else-not-is_good_plan ∙ and_goes _ _ (sym (modules_are (goal.at.Else-not-are_zero_modules c).After-are_zero_modules) ∙ c.if-not-are_zero_modules.false)
 
 after-buses : (c : Else-not-are_zero_buses) → good_file (file4 c) ≡ good_offsets (file4 c)
 after-buses c = after-modules (goal.at.Else-not-are_zero_buses c).Else-not-are_zero_modules ∙ and_goes _ _ (sym (buses-are (goal.at.Else-not-are_zero_buses c).After-are_zero_buses) ∙ c.if-not-are_zero_buses.false)
@@ -81,7 +81,7 @@ plan_in-p-requires c = length-good c
 
 pub returns-then-not-is_good_plan : goal.returns-then-not-is_good_plan
 returns-then-not-is_good_plan c = let f : good_file (file1 (goal.at.returns-then-not-is_good_plan c).Else-not-has_good_length) ≡ false =
-    after-length (goal.at.returns-then-not-is_good_plan c).Else-not-has_good_length ∙ and_stops _ _ (sym (plan-is (goal.at.returns-then-not-is_good_plan c).After-is_good_plan) ∙ c.if-not-is_good_plan.true) in
+    after-length (goal.at.returns-then-not-is_good_plan c).Else-not-has_good_length ∙ and_stops _ _ (sym (plan_is (goal.at.returns-then-not-is_good_plan c).After-is_good_plan) ∙ c.if-not-is_good_plan.true) in
     c.refused_read-then-not-is_good_plan.ensures ∙ answer-refused _ f
 
 pub are_zero_modules-requires : goal.are_zero_modules-requires
@@ -89,7 +89,7 @@ are_zero_modules-requires c = omega (arith, count-modules (goal.at.are_zero_modu
 
 pub returns-then-not-are_zero_modules : goal.returns-then-not-are_zero_modules
 returns-then-not-are_zero_modules c = let f : good_file (file2 (goal.at.returns-then-not-are_zero_modules c).Else-not-is_good_plan) ≡ false =
-    after-plan (goal.at.returns-then-not-are_zero_modules c).Else-not-is_good_plan ∙ and_stops _ _ (sym (modules-are (goal.at.returns-then-not-are_zero_modules c).After-are_zero_modules) ∙ c.if-not-are_zero_modules.true) in
+    after-plan (goal.at.returns-then-not-are_zero_modules c).Else-not-is_good_plan ∙ and_stops _ _ (sym (modules_are (goal.at.returns-then-not-are_zero_modules c).After-are_zero_modules) ∙ c.if-not-are_zero_modules.true) in
     c.refused_read-then-not-are_zero_modules.ensures ∙ answer-refused _ f
 
 pub overflow_mul-p : goal.overflow_mul-p

@@ -22,7 +22,7 @@ counted : (c : Else-not-has_good_counts) → good_counts c.args.p ≡ true
 counted c = sym c.has_good_counts.ensures ∙ c.if-not-has_good_counts.false
 
 pub has_good_buses-requires : goal.has_good_buses-requires
-has_good_buses-requires c = (good-counts c.args.p (counted c)).limit-high
+has_good_buses-requires c = (good-counts c.args.p (counted c)).limit_high
 
 pub returns-then-not-has_good_buses : goal.returns-then-not-has_good_buses
 returns-then-not-has_good_buses c = sym (plan-order c.args.p ∙ and_goes _ _ (counted (goal.at.returns-then-not-has_good_buses c).Else-not-has_good_counts) ∙ and_stops _ _ (sym c.has_good_buses.ensures ∙ c.if-not-has_good_buses.true))
@@ -41,7 +41,7 @@ few : (c : Else-not-has_good_buses) → let p = c.args.p in (p.bus_count ≤ bus
 few c = let p = c.args.p in
     let n : GoodCounts p = good-counts p (counted (goal.at.Else-not-has_good_buses c).Else-not-has_good_counts) in
     let m = good-bus-count p (bused c) in
-    (omega arith, n.modules-high)
+    (omega arith, n.modules_high)
 
 pub is_ascending-requires : goal.is_ascending-requires
 is_ascending-requires c = (few c).1

@@ -27,7 +27,7 @@ returns-then-not-is_good_plan c = let e : good_plan c.args.p ≡ false = sym c.i
 
 pub put_shown-n-requires : goal.put_shown-n-requires
 put_shown-n-requires c = let f = good-figures _ (good (goal.at.put_shown-n-requires c).Else-not-is_good_plan) in
-    (f.buses-high, f.modules-high, long 0)
+    (f.buses_high, f.modules_high, long 0)
 
 pub slice_bounds-form-end : goal.slice_bounds-form-end
 slice_bounds-form-end c = front-within c.put_shown-n.ensures.0

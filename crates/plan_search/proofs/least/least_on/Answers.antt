@@ -20,14 +20,14 @@ rest-length c = c.sum_rest.auto.rest ∙ lent_length (c.args.n + 1) (search_modu
 whole : (c : After-sum_rest) → length (c.sum_rest.new.rest ++ drop (c.args.n + 1) (replicate (search_modules + 1) 0)) ≡ search_modules + 1
 whole c = length_front (replicate (search_modules + 1) 0) c.sum_rest.new.rest (c.args.n + 1) c.sum_rest.auto.rest
 
-rest-is : (c : After-sum_rest)
+rest_is : (c : After-sum_rest)
     → take (c.args.n + 1) (c.sum_rest.new.rest ++ drop (c.args.n + 1) (replicate (search_modules + 1) 0)) ≡ c.sum_rest.new.rest
-rest-is c = take_at c.sum_rest.new.rest (drop (c.args.n + 1) (replicate (search_modules + 1) 0)) (c.args.n + 1) (rest-length c)
+rest_is c = take_at c.sum_rest.new.rest (drop (c.args.n + 1) (replicate (search_modules + 1) 0)) (c.args.n + 1) (rest-length c)
 
 board : (c : After-sum_rest) → Board c.args.table.now c.args.widths.now c.sum_rest.new.rest
 board c = let m : c.args.n + 1 - 1 ≡ c.args.n = omega arith in
     let one : 1 ≤ c.args.n + 1 = omega arith in
-    record { table = rw (rest-length c, m) c.requires.0; some = rw (rest-length c) one; widths = c.requires.1; rest-is = c.sum_rest.ensures }
+    record { table = rw (rest-length c, m) c.requires.0; some = rw (rest-length c) one; widths = c.requires.1; rest_is = c.sum_rest.ensures }
 
 pub overflow_sub-c : goal.overflow_sub-c
 overflow_sub-c c = omega (arith, c.requires.1.some)
@@ -73,10 +73,10 @@ pub least-requires : goal.least-requires
 least-requires c = let e = rest-length (goal.at.least-requires c).After-sum_rest in
     let n : 0 < c.args.n + 1 = omega arith in
     let f = take-replicate (length c.args.widths.now) search_buses 0 c.requires.1.few in
-    rw (rest-is (goal.at.least-requires c).After-sum_rest) (board (goal.at.least-requires c).After-sum_rest, loads_first c.args.widths.now f, rw e n, c.requires.2)
+    rw (rest_is (goal.at.least-requires c).After-sum_rest) (board (goal.at.least-requires c).After-sum_rest, loads_first c.args.widths.now f, rw e n, c.requires.2)
 
 pub returns : goal.returns
 returns c = let a = c.args in
     let m : a.n + 1 - 1 ≡ a.n = omega arith in
     let f = take-replicate (length a.widths.now) search_buses 0 c.requires.1.few in
-    on_first a.table.now a.widths.now a.n a.best.0 f (rw (rest-is (goal.at.returns c).After-sum_rest, rest-length (goal.at.returns c).After-sum_rest, m) at c.least.ensures.reaches)
+    on_first a.table.now a.widths.now a.n a.best.0 f (rw (rest_is (goal.at.returns c).After-sum_rest, rest-length (goal.at.returns c).After-sum_rest, m) at c.least.ensures.reaches)

@@ -44,7 +44,7 @@ place-requires t c =
     let b = c.loop-b.b in
     let p = less t (goal.at.place-requires t c).In-loop-b in
     let next = set c.loop-b.buses c.args.i (b + 1) in
-    let z : length next ≡ length c.args.buses.now = length-set c.loop-b.buses c.args.i (b + 1) ∙ c.loop-b.invariant.buses-length in
+    let z : length next ≡ length c.args.buses.now = length-set c.loop-b.buses c.args.i (b + 1) ∙ c.loop-b.invariant.buses_length in
     let m : length next - (c.args.i + 1) < t = omega (arith, z, p) in
     let e = ap (λ x. get_or c.loop-b.loads b 0 + x) c.time_at-t.ensures in (
       m,

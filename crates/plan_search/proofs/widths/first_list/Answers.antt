@@ -16,10 +16,10 @@ pub nonzero_div-wires : goal.nonzero_div-wires
 nonzero_div-wires c = omega (arith, c.loop-c.invariant.from)
 
 pub slice_bounds-widths-end : goal.slice_bounds-widths-end
-slice_bounds-widths-end c = omega (arith, c.loop-c.invariant.widths-room, c.loop-c-test.true, c.requires.limit)
+slice_bounds-widths-end c = omega (arith, c.loop-c.invariant.widths_room, c.loop-c-test.true, c.requires.limit)
 
 pub slice_bounds-over_group-end : goal.slice_bounds-over_group-end
-slice_bounds-over_group-end c = simp length-take (omega (arith, c.loop-c.invariant.widths-room, c.loop-c-test.true, c.requires.limit))
+slice_bounds-over_group-end c = simp length-take (omega (arith, c.loop-c.invariant.widths_room, c.loop-c-test.true, c.requires.limit))
 
 pub over_group-r-requires : goal.over_group-r-requires
 over_group-r-requires c = let a = c.args in
@@ -41,14 +41,14 @@ loop-c-preserved c = let a = c.args in
     o.new.widths o.new.found o.result.0 o.auto.widths o.ensures.sought
 
 pub shape_of-found-after-loop-c : goal.shape_of-found-after-loop-c
-shape_of-found-after-loop-c c = c.loop-c.invariant.found-room
+shape_of-found-after-loop-c c = c.loop-c.invariant.found_room
 
 pub returns-after-loop-c : goal.returns-after-loop-c
 returns-after-loop-c c = let a = c.args in
     record { found_after = counted-last a.table.now a.wires.0 a.limit a.n a.best.0 a.found.now c.requires c.loop-c.invariant (inl c.loop-c-test.false); found_in_bounds = c.loop-c.invariant.count }
 
 pub shape_of-found-then-wires-c : goal.shape_of-found-then-wires-c
-shape_of-found-then-wires-c c = c.loop-c.invariant.found-room
+shape_of-found-then-wires-c c = c.loop-c.invariant.found_room
 
 pub returns-then-wires-c : goal.returns-then-wires-c
 returns-then-wires-c c = let a = c.args in

@@ -30,7 +30,7 @@ rows-table c = rw (order_is (goal.at.After-rows_in-rows c).After-sort_order, sor
 -- the time of some plan fits
 bound-most : (c : After-bound_of-bound) → c.bound_of-bound.result.0 ≤ search_modules * time_bound
 bound-most c = let b = c.bound_of-bound.ensures in
-    omega (arith, b.takes, time-most (rows-table (goal.at.After-bound_of-bound c).After-rows_in-rows) b.reached b.is-plan.placed)
+    omega (arith, b.takes, time-most (rows-table (goal.at.After-bound_of-bound c).After-rows_in-rows) b.reached b.is_plan.placed)
 
 pub slice_bounds-order-end : goal.slice_bounds-order-end
 slice_bounds-order-end c = omega (arith, c.requires.0.few)

@@ -39,8 +39,8 @@ whole : (c : After-first_placement) → length (c.first_placement.new.best ++ dr
 whole c = length_front ((c.least_list-time.result.0 + 1) ∷ replicate search_modules 0) c.first_placement.new.best (c.args.n + 1) c.first_placement.auto.best
 
 -- what was found stands at the front of its buffer
-best-is : (c : After-first_placement) → take (c.args.n + 1) (c.first_placement.new.best ++ drop (c.args.n + 1) ((c.least_list-time.result.0 + 1) ∷ replicate search_modules 0)) ≡ c.first_placement.new.best
-best-is c = take_at c.first_placement.new.best (drop (c.args.n + 1) ((c.least_list-time.result.0 + 1) ∷ replicate search_modules 0)) (c.args.n + 1)
+best_is : (c : After-first_placement) → take (c.args.n + 1) (c.first_placement.new.best ++ drop (c.args.n + 1) ((c.least_list-time.result.0 + 1) ∷ replicate search_modules 0)) ≡ c.first_placement.new.best
+best_is c = take_at c.first_placement.new.best (drop (c.args.n + 1) ((c.least_list-time.result.0 + 1) ∷ replicate search_modules 0)) (c.args.n + 1)
     (c.first_placement.auto.best ∙ room (goal.at.After-first_placement c).After-least_list-time)
 
 pub least_list-time-requires : goal.least_list-time-requires
@@ -72,8 +72,8 @@ found_in-requires c = let p = best-widths c.args.table.now c.args.wires.0 c.args
     let e = c.first_placement.auto.best ∙ room (goal.at.found_in-requires c).After-least_list-time in
     let f = found-count c.args.table.now c.args.wires.0 c.args.limit c.args.n c.requires.1 c.requires.3 c.least_list-time.result.0 c.least_list-time.new.found (stands (goal.at.found_in-requires c).After-least_list-time) c.least_list-time.ensures.found_in_bounds in
     record {
-      time = rw (best-is (goal.at.found_in-requires c).After-first_placement) (omega (arith, e));
-      modules = rw (best-is (goal.at.found_in-requires c).After-first_placement) (omega (arith, e, c.requires.0.few));
+      time = rw (best_is (goal.at.found_in-requires c).After-first_placement) (omega (arith, e));
+      modules = rw (best_is (goal.at.found_in-requires c).After-first_placement) (omega (arith, e, c.requires.0.few));
       counted = omega (arith, c.least_list-time.auto.found);
       few = omega (arith, f, p.few);
       count = c.least_list-time.ensures.found_in_bounds;
@@ -90,4 +90,4 @@ returns c = let a = c.args in
     let h : get_or b 0 0 ≡ suc T = get_or-take (a.n + 1) ((T + 1) ∷ replicate search_modules 0) 0 0 (omega arith) ∙ add-one T in
     let g = found-buses a.table.now a.wires.0 a.limit a.n c.requires.1 c.requires.3 T f (stands (goal.at.returns c).After-least_list-time) c.least_list-time.ensures.found_in_bounds b w m h c.first_placement.ensures in
     c.found_in.ensures
-    ∙ rw (best-is (goal.at.returns c).After-first_placement) (found-is a.table.now a.wires.0 a.limit a.n c.requires.1 c.requires.3 T f (stands (goal.at.returns c).After-least_list-time) c.least_list-time.ensures.found_in_bounds c.first_placement.new.best g)
+    ∙ rw (best_is (goal.at.returns c).After-first_placement) (found-is a.table.now a.wires.0 a.limit a.n c.requires.1 c.requires.3 T f (stands (goal.at.returns c).After-least_list-time) c.least_list-time.ensures.found_in_bounds c.first_placement.new.best g)

@@ -34,7 +34,7 @@ due1 : (c : After-put_head-a) → Left (start1 c) (part2 (start1 c)) c.put_head-
 due1 c = due-next (part1 (start1 c)) (part2 (start1 c)) (due0 (start1 c)) c.put_head-a.ensures
 
 pub put_head-a-requires : goal.put_head-a-requires
-put_head-a-requires c = ((soc-figures c.args.s c.requires.0).name-len, due-room (part1 (goal.at.put_head-a-requires c).Start) (part2 (goal.at.put_head-a-requires c).Start) (due0 (goal.at.put_head-a-requires c).Start))
+put_head-a-requires c = ((soc-figures c.args.s c.requires.0).name_len, due-room (part1 (goal.at.put_head-a-requires c).Start) (part2 (goal.at.put_head-a-requires c).Start) (due0 (goal.at.put_head-a-requires c).Start))
 
 pub put_modules-requires : goal.put_modules-requires
 put_modules-requires c = let s = start1 (goal.at.put_modules-requires c).After-put_head-a in
