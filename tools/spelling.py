@@ -1,11 +1,10 @@
 #!/usr/bin/env python3
 """Brings the repository's own definitions and laws to today's spelling, once, behind the toolchain's port script.
 
-Types and modules stay in camel case. Every other name of specs/ and proofs/ is in snake case: `planAnswer` becomes `plan_answer`, and a law's words
-are joined by `_`. In a law's name a dash
-stays where it joins two names, of a definition, a type or the library (`padded-take`). A law that would then have its
-definition's name gets `_lem`. Functions of src/, strings, inputs and outputs keep their names; the clauses and `ghost use` lines of src/, and the
-pages, follow the definitions. With --say nothing is written, and what falls together is listed.
+Types and modules stay in camel case. Every other name of specs/ and proofs/ is in snake case: `planAnswer` becomes `plan_answer`, and the words of a
+law or of a record's field are joined by `_`. In a law's name a dash stays where it joins two names, of a definition, a type or the library
+(`padded-take`). A law that would then have its definition's name gets `_lem`. Functions of src/, strings, inputs and outputs keep their names; the
+clauses and `ghost use` lines of src/, and the pages, follow the definitions. With --say nothing is written, and what falls together is listed.
 """
 import collections
 import os
