@@ -18,7 +18,7 @@ good_countable s h i k =
     rw (get_or-take s.module_count s.modules i no_module k) at e
 
 -- an element that is there is read whatever is taken for one that is not
-pub get_or_same : {A : Type 0} (l : List A) (i : ℕ) (y z : A) → i < length l → get_or l i y ≡ get_or l i z
-get_or_same [] i y z h = absurd (omega arith)
-get_or_same (x ∷ l) zero y z h = refl
-get_or_same (x ∷ l) (suc i) y z h = get_or_same l i y z (omega arith)
+pub get_or-same : {A : Type 0} (l : List A) (i : ℕ) (y z : A) → i < length l → get_or l i y ≡ get_or l i z
+get_or-same [] i y z h = absurd (omega arith)
+get_or-same (x ∷ l) zero y z h = refl
+get_or-same (x ∷ l) (suc i) y z h = get_or-same l i y z (omega arith)

@@ -9,7 +9,7 @@ use Rattle.soc.specs.Record.{no_module}
 use Rattle.soc.specs.declared.record.Module.{Module}
 use Rattle.fields.specs.WrittenLines.{written_lines}
 use Rattle.text_writer.specs.WrittenSoc.{module_lines_of, module_lines_from}
-use Rattle.text_writer.proofs.GoodSocCounts.{get_or_same}
+use Rattle.text_writer.proofs.GoodSocCounts.{get_or-same}
 use Rattle.buffer.proofs.PutLaws.{Due, due_all, due-room, due-next, put-none}
 use Rattle.text_writer.proofs.RunLaws.{modules_text, modules-more, rest-none}
 use Rattle.text_writer.proofs.write.put_modules.Goals as goal
@@ -44,7 +44,7 @@ loop-i-init c = (omega arith, refl, due_all refl c.requires.3)
 pub put_module-e-requires : goal.put_module-e-requires
 put_module-e-requires c = let modules = c.args.s.modules in
     let i = c.loop-i.i in
-    let same : get_or modules i blank ≡ get_or modules i no_module = get_or_same modules i blank no_module (omega (arith, len (goal.at.put_module-e-requires c).Start)) in
+    let same : get_or modules i blank ≡ get_or modules i no_module = get_or-same modules i blank no_module (omega (arith, len (goal.at.put_module-e-requires c).Start)) in
     let counts = c.requires.2 i (omega (arith, c.requires.1)) in
     (rw same counts.0, rw same counts.1, due-room (written_lines (module_lines_of _ _ _ _)) _ (due (goal.at.put_module-e-requires c).In-loop-i))
 
