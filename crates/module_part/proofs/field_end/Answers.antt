@@ -1,3 +1,4 @@
+-- `module_part::field_end` meets its contract: what its invariant (Invariants.antt) leaves to show. Assumes nothing.
 use native.Mathlib.Omega.{arith}
 use mathlib.Core.Path.{◌≡◌, refl, sym, ap, ◌∙◌}
 use Rattle.module_part.specs.Trimmed.{last_field}

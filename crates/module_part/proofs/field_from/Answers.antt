@@ -1,3 +1,4 @@
+-- `module_part::field_from` meets its contract: what its invariant (Invariants.antt) leaves to show. Assumes nothing.
 use native.Mathlib.Omega.{arith}
 use mathlib.Core.Path.{refl, sym, ◌∙◌}
 use Rattle.module_part.proofs.TrimLaws.{until_stop, until_on, until_end}

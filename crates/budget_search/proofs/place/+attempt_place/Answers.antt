@@ -1,3 +1,4 @@
+-- `budget_search::place::attempt_place` meets its contract: what its invariant (Invariants.antt) leaves to show. Assumes nothing.
 use native.Mathlib.Omega.{arith}
 use Prim.Native.Nat.{ℕ, ◌+◌, ◌-◌, ◌*◌, ◌<◌}
 use mathlib.Core.Path.{◌≡◌, refl, sym, ap, ◌∙◌}

@@ -1,3 +1,4 @@
+-- `c_forms::plan_read::buses_at` meets its contract: what its invariant (Invariants.antt) leaves to show. Assumes nothing.
 use native.Mathlib.Omega.{arith}
 use mathlib.Core.Path.{◌∙◌}
 use Rattle.little_endian.proofs.RowLaws.{filled_none, filled_step, filled-end}

@@ -1,3 +1,4 @@
+-- `c_forms::soc_form::put_lengths` meets its contract: what its invariant (Invariants.antt) leaves to show. Assumes nothing.
 use borrow.Author.Rules.{rules}
 use native.Mathlib.Omega.{arith}
 use mathlib.Core.Path.{◌≡◌, refl}

@@ -1,3 +1,4 @@
+-- `c_forms::soc_form::put_modules` meets its contract: what its invariant (Invariants.antt) leaves to show. Assumes nothing.
 use native.Mathlib.Omega.{arith}
 use mathlib.Core.Path.{◌≡◌}
 use mathlib.Core.List.{[]}

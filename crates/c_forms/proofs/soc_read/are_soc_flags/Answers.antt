@@ -1,3 +1,4 @@
+-- `c_forms::soc_read::are_soc_flags` meets its contract: what its invariant (Invariants.antt) leaves to show. Assumes nothing.
 use native.Mathlib.Omega.{arith}
 use mathlib.Core.Path.{sym, ◌∙◌}
 use Rattle.units.proofs.TestLaws.{and_stops, and_goes}

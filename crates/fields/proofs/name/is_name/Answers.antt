@@ -1,3 +1,4 @@
+-- `fields::name::is_name` meets its contract: what its invariant (Invariants.antt) leaves to show. Assumes nothing.
 use native.Mathlib.Omega.{arith}
 use Prim.Native.Nat.{◌≤◌, ◌<◌}
 use mathlib.Core.Path.{sym, ◌∙◌}

@@ -1,3 +1,4 @@
+-- `plan_file::read::buses_in` meets its contract: what its invariant (Invariants.antt) leaves to show. Assumes nothing.
 use native.Mathlib.Omega.{arith}
 use mathlib.Core.Path.{◌≡◌, ◌∙◌}
 use Rattle.little_endian.proofs.RowLaws.{filled_none, filled_step}

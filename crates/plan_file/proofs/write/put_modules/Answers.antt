@@ -1,3 +1,4 @@
+-- `plan_file::write::put_modules` meets its contract: what its invariant (Invariants.antt) leaves to show. Assumes nothing.
 use Prim.Native.Nat.{◌+◌, ◌*◌, ◌≤◌, ◌<◌}
 use mathlib.Core.Path.{◌≡◌}
 use native.Mathlib.Omega.{arith}

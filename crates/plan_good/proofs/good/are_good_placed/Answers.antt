@@ -1,3 +1,4 @@
+-- `plan_good::good::are_good_placed` meets its contract: what its invariant (Invariants.antt) leaves to show. Assumes nothing.
 use mathlib.Core.Path.{◌≡◌, refl, sym, ◌∙◌}
 use mathlib.Core.Logic.{inl}
 use native.Mathlib.Omega.{arith}

@@ -1,3 +1,4 @@
+-- `plan_good::good::are_spare_placed` meets its contract: what its invariant (Invariants.antt) leaves to show. Assumes nothing.
 use mathlib.Core.Path.{◌≡◌, refl, sym, ◌∙◌}
 use native.Mathlib.Omega.{arith}
 use lib.ListN.{length}

@@ -1,3 +1,4 @@
+-- `plan_good::good::is_ascending` meets its contract: what its invariant (Invariants.antt) leaves to show. Assumes nothing.
 use borrow.Author.Tests.{le-leb, lt-leb}
 use Prim.Native.Nat.{◌+◌}
 use mathlib.Core.Path.{◌≡◌, refl, sym, ◌∙◌}

@@ -1,3 +1,4 @@
+-- `plan_good::good::sum_widths` meets its contract: what its invariant (Invariants.antt) leaves to show. Assumes nothing.
 use mathlib.Core.Path.{◌≡◌}
 use native.Mathlib.Omega.{arith}
 use lib.ListN.{length, take, drop}

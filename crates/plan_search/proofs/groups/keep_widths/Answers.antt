@@ -1,3 +1,4 @@
+-- `groups::keep_widths` meets its contract: what its invariant (Invariants.antt) leaves to show. Assumes nothing.
 use native.Mathlib.Omega.{arith}
 use Prim.Native.Nat.{◌+◌, ◌<◌}
 use mathlib.Core.Path.{◌∙◌}

@@ -1,3 +1,4 @@
+-- `bound_of` meets its contract: what its invariant (Invariants.antt) leaves to show. Assumes nothing.
 use native.Mathlib.Omega.{arith}
 use Rattle.plan_search.proofs.ThumbLaws.{reached-more}
 use Rattle.plan_search.proofs.thumb.bound_of.Goals as goal

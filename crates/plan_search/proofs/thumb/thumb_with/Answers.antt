@@ -1,3 +1,4 @@
+-- `thumb_with` meets its contract: what its invariant (Invariants.antt) leaves to show. Assumes nothing.
 use native.Mathlib.Omega.{arith}
 use native.Mathlib.Nat.{div-le_self}
 use Prim.Native.Nat.{◌*◌, ◌≤◌}

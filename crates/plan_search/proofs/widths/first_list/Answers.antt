@@ -1,3 +1,4 @@
+-- `widths::first_list` meets its contract: what its invariant (Invariants.antt) leaves to show. Assumes nothing.
 use native.Mathlib.Omega.{arith}
 use mathlib.Core.Path.{refl}
 use mathlib.Core.Logic.{inl, inr}

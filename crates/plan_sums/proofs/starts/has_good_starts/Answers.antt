@@ -1,3 +1,4 @@
+-- `plan_sums::starts::has_good_starts` meets its contract: what its invariant (Invariants.antt) leaves to show. Assumes nothing.
 use borrow.Author.Tests.{eq-eqb, ne_eqb}
 use mathlib.Core.Path.{◌≡◌, refl, sym, ◌∙◌}
 use mathlib.Core.Logic.{inl}

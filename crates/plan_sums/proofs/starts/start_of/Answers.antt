@@ -1,3 +1,4 @@
+-- `plan_sums::starts::start_of` meets its contract: what its invariant (Invariants.antt) leaves to show. Assumes nothing.
 use Prim.Native.Nat.{◌<◌}
 use mathlib.Core.Path.{◌≡◌, sym, ◌∙◌}
 use native.Mathlib.Omega.{arith}

@@ -1,3 +1,4 @@
+-- `plan_sums::times::has_good_busy` meets its contract: what its invariant (Invariants.antt) leaves to show. Assumes nothing.
 use borrow.Author.Tests.{eq-eqb, ne_eqb}
 use Prim.Native.Nat.{◌+◌}
 use mathlib.Core.Path.{◌≡◌, refl, sym, ◌∙◌}

@@ -1,3 +1,4 @@
+-- `plan_sums::times::largest_busy` meets its contract: what its invariant (Invariants.antt) leaves to show. Assumes nothing.
 use mathlib.Core.Path.{◌≡◌}
 use native.Mathlib.Omega.{arith}
 use lib.ListN.{length, drop}

@@ -1,3 +1,4 @@
+-- `soc::module_rules::are_good_lengths` meets its contract: what its invariant (Invariants.antt) leaves to show. Assumes nothing.
 use borrow.Author.Rules.{rules}
 use borrow.Author.Tests.{lt-leb, le-leb}
 use mathlib.Core.Path.{◌≡◌, refl, sym, ◌∙◌}

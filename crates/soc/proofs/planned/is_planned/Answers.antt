@@ -1,3 +1,4 @@
+-- `soc::planned::is_planned` meets its contract: what its invariant (Invariants.antt) leaves to show. Assumes nothing.
 use mathlib.Core.Path.{◌≡◌, refl, sym, ◌∙◌}
 use mathlib.Core.Logic.{inl, inr}
 use native.Mathlib.Omega.{arith}

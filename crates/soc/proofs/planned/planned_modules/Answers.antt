@@ -1,3 +1,4 @@
+-- `soc::planned::planned_modules` meets its contract: what its invariant (Invariants.antt) leaves to show. Assumes nothing.
 use Prim.Native.Nat.{ℕ, suc, ◌+◌, ◌≤◌, ◌<◌}
 use mathlib.Core.Path.{◌≡◌, refl, ap, sym, ◌∙◌}
 use mathlib.Core.Bool.{Bool, true, false, cond}

@@ -1,3 +1,4 @@
+-- `soc::rules::are_good_modules` meets its contract: what its invariant (Invariants.antt) leaves to show. Assumes nothing.
 use Prim.Native.Nat.{ℕ, ◌+◌, ◌≤◌, ◌<◌}
 use mathlib.Core.Path.{◌≡◌, refl, sym, ◌∙◌}
 use mathlib.Core.Bool.{Bool, true, ◌&&◌}

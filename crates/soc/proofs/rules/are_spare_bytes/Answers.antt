@@ -1,3 +1,4 @@
+-- `soc::rules::are_spare_bytes` meets its contract: what its invariant (Invariants.antt) leaves to show. Assumes nothing.
 use borrow.Author.Rules.{rules}
 use borrow.Author.Tests.{eq-eqb, ne_eqb}
 use mathlib.Core.Path.{◌≡◌, refl, sym, ◌∙◌}

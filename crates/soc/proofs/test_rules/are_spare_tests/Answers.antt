@@ -1,3 +1,4 @@
+-- `soc::test_rules::are_spare_tests` meets its contract: what its invariant (Invariants.antt) leaves to show. Assumes nothing.
 use borrow.Author.Rules.{rules}
 use mathlib.Core.Path.{◌≡◌, refl, sym, ◌∙◌}
 use native.Mathlib.Omega.{arith}

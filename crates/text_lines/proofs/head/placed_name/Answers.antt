@@ -1,3 +1,4 @@
+-- `text_lines::head::placed_name` meets its contract: what its invariant (Invariants.antt) leaves to show. Assumes nothing.
 use native.Mathlib.Omega.{arith}
 use mathlib.Core.Path.{sym, ap, ◌∙◌}
 use lib.Seq.{take_all}

@@ -1,3 +1,4 @@
+-- `text_lines::level::lengths_at` meets its contract: what its invariant (Invariants.antt) leaves to show. Assumes nothing.
 use native.Mathlib.Omega.{arith}
 use native.Mathlib.Numerals.{add-one}
 use Prim.Native.Nat.{◌-◌, ◌<◌}

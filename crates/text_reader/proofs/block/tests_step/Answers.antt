@@ -1,3 +1,4 @@
+-- `text_reader::block::tests_step` meets its contract: what its invariant (Invariants.antt) leaves to show. Assumes nothing.
 use native.Mathlib.Omega.{arith}
 use native.Mathlib.Numerals.{add-one}
 use Prim.Native.Nat.{◌+◌, ◌-◌, ◌<◌}

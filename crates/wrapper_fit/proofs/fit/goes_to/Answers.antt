@@ -1,3 +1,4 @@
+-- `wrapper_fit::fit::goes_to` meets its contract: what its invariant (Invariants.antt) leaves to show. Assumes nothing.
 use native.Mathlib.Omega.{arith}
 use native.Mathlib.Numerals.{add-one}
 use Prim.Native.Nat.{ℕ, ◌+◌, ◌≤◌, ◌<◌}

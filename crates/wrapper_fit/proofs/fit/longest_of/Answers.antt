@@ -1,3 +1,4 @@
+-- `wrapper_fit::fit::longest_of` meets its contract: what its invariant (Invariants.antt) leaves to show. Assumes nothing.
 use native.Mathlib.Omega.{arith}
 use mathlib.Core.Path.{sym, ◌∙◌}
 use Rattle.wrapper_fit.proofs.FitLaws.{longest_step, longest-end}
