@@ -5,4 +5,4 @@ mod put;
 mod written;
 
 pub use put::{put_bytes, write_bytes};
-pub use written::{Written, refused_write, write};
+pub use written::write;

@@ -9,12 +9,8 @@ pub fn write_bytes(buf: &mut [u8], w: &[u8]) -> usize
     if w.len() > buf.len() {
         return 0;
     }
-    let mut i: usize = 0;
-    while i < w.len() {
-        buf[i] = w[i];
-        i += 1;
-    }
-    i
+    buf[..w.len()].copy_from_slice(w);
+    w.len()
 }
 
 // At a place. The answer is the place behind them, or without the room the place itself.

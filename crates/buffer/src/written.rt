@@ -2,26 +2,10 @@
 ghost use Rattle.std.specs.Prelude.{◌≡◌};
 ghost use Rattle.buffer.specs.Puts.{put_front};
 ghost use Rattle.buffer.specs.Room.{all_or_none};
-ghost use Rattle.buffer.specs.WriterAnswers.{refused_write, written};
+ghost use Rattle.buffer.specs.WriterAnswers.{written};
 
 use super::put::write_bytes;
-use units::Refusal;
-
-// How many bytes were written; or the refusal.
-#[derive(Clone, Copy)]
-pub struct Written {
-    pub refusal: Refusal,
-    pub len: usize,
-}
-
-pub fn refused_write(n: u8) -> Written
-    ensures { result ≡ refused_write n }
-{
-    Written {
-        refusal: Refusal::at(n, 0),
-        len: 0,
-    }
-}
+use units::{Fault, Refusal};
 
 // How many of n bytes are written into a room: all of them, or none.
 fn all_or_none(n: usize, room: usize) -> usize
@@ -30,18 +14,15 @@ fn all_or_none(n: usize, room: usize) -> usize
     if n <= room { n } else { 0 }
 }
 
-// The form w, or 11.
-pub fn write(buf: &mut [u8], w: &[u8]) -> Written
+// The form w: how many bytes were written; or 11.
+pub fn write(buf: &mut [u8], w: &[u8]) -> Result<usize, Refusal>
     ensures { (result ≡ written w.now buf.old) × (buf.new ≡ put_front w.now buf.old) }
 {
     let n = w.len();
     let k = all_or_none(n, buf.len());
     write_bytes(&mut *buf, &w[..k]);
     if k < n {
-        return refused_write(11);
+        return Err(Refusal::at(Fault::ShortBuffer, 0));
     }
-    Written {
-        refusal: Refusal::none(),
-        len: n,
-    }
+    Ok(n)
 }

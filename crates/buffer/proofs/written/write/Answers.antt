@@ -12,9 +12,9 @@ slice_bounds-write_bytes-end c = sym (length-take-le _ _ (omega (arith, c.all_or
 pub returns-then-k-n : goal.returns-then-k-n
 returns-then-k-n c = let w = c.args.w.now in
     let r = room-none w w c.args.buf.now _ _ _ refl (take-length w) c.all_or_none-k.ensures c.write_bytes.ensures.1 c.if-k-n.true in
-    (c.refused_write.ensures ∙ simp r.0, r.1 ∙ simp r.0)
+    (rw c.at.ensures (simp r.0), r.1 ∙ simp r.0)
 
 pub returns : goal.returns
 returns c = let w = c.args.w.now in
     let r = room-all w w c.args.buf.now _ _ _ refl (take-length w) c.all_or_none-k.ensures c.write_bytes.ensures.1 c.if-k-n.false in
-    (rw c.none.ensures (simp r.0), r.1 ∙ simp r.0)
+    (simp r.0, r.1 ∙ simp r.0)
