@@ -52,3 +52,4 @@ module _ (f : List ℕ → ℕ) (p : ℕ → Bool) (k : Counts f p) where
       go : f l ≤ length l → (t : Bool) → cond t (suc (f l)) 0 ≤ suc (length l)
       go ih true = omega arith
       go ih false = omega arith
+

@@ -11,8 +11,7 @@ use lib.Dec.{ltb}
 use lib.Seq.{drop-drop}
 use Rattle.units.proofs.TestLaws.{clash}
 use Rattle.fields.specs.Fields.{gap, begins, on_field, fields_of, part, gaps, run, run_end, field_from, next_field, field_end}
-use Rattle.fields.specs.declared.field.Next.{Next}
-use Rattle.fields.specs.declared.field.Next.TheVariants.{Field, Nothing}
+use Rattle.std.specs.Prelude.{Option, None, Some}
 use Rattle.fields.proofs.CountLaws.{run-counts, count_le}
 
 -- the first field at or behind at is the part of s from a to e
@@ -78,28 +77,28 @@ field_is s at a e h k m =
       is = fields-past s at a h ∙ fields-run (drop a s) b ∙ rw (drop-drop, m, r);
     }
 
-pub next_field_lem : (s : List ℕ) (at a e : ℕ) → next_field s at ≡ Field a e → FieldIs s at a e
+pub next_field_lem : (s : List ℕ) (at a e : ℕ) → next_field s at ≡ Some (a, e) → FieldIs s at a e
 unfolding next_field field_from
 next_field_lem s at a e h = go (at + gaps (drop at s)) refl (ltb (at + gaps (drop at s)) (length s)) refl h
   where
-    go : (m : ℕ) → at + gaps (drop at s) ≡ m → (t : Bool) → ltb m (length s) ≡ t → cond t (Field m (m + run (drop m s))) Nothing ≡ Field a e → FieldIs s at a e
+    go : (m : ℕ) → at + gaps (drop at s) ≡ m → (t : Bool) → ltb m (length s) ≡ t → cond t (Some (m, m + run (drop m s))) None ≡ Some (a, e) → FieldIs s at a e
     go m p true l q = let x : m ≡ a = cc in let y : m + run (drop m s) ≡ e = cc in rw x at (field_is s at m e p (ltb-true m (length s) l) y)
     go m p false l q = clash cc
 
-pub next-nothing : (s : List ℕ) (at : ℕ) → next_field s at ≡ Nothing → fields_of (drop at s) ≡ []
+pub next-nothing : (s : List ℕ) (at : ℕ) → next_field s at ≡ None → fields_of (drop at s) ≡ []
 unfolding next_field field_from fields_of
 next-nothing s at h = go (at + gaps (drop at s)) refl (ltb (at + gaps (drop at s)) (length s)) refl h
   where
-    go : (m : ℕ) → at + gaps (drop at s) ≡ m → (t : Bool) → ltb m (length s) ≡ t → cond t (Field m (m + run (drop m s))) Nothing ≡ Nothing → fields_of (drop at s) ≡ []
+    go : (m : ℕ) → at + gaps (drop at s) ≡ m → (t : Bool) → ltb m (length s) ≡ t → cond t (Some (m, m + run (drop m s))) None ≡ None → fields_of (drop at s) ≡ []
     go m p true l q = clash cc
     go m p false l q = fields-past s at m p ∙ ap fields_of (drop_of_length-le s (ltb-false m (length s) l))
 
 -- the end that `next_field` names is the field's end
-pub next-end : (s : List ℕ) (at a e : ℕ) → next_field s at ≡ Field a e → field_end s at ≡ e
+pub next-end : (s : List ℕ) (at a e : ℕ) → next_field s at ≡ Some (a, e) → field_end s at ≡ e
 unfolding next_field field_from field_end
 next-end s at a e h = go (at + gaps (drop at s)) (ltb (at + gaps (drop at s)) (length s)) h
   where
-    go : (m : ℕ) (t : Bool) → cond t (Field m (run_end s m)) Nothing ≡ Field a e → run_end s m ≡ e
+    go : (m : ℕ) (t : Bool) → cond t (Some (m, run_end s m)) None ≡ Some (a, e) → run_end s m ≡ e
     go m true q = cc
     go m false q = clash cc
 
@@ -107,6 +106,6 @@ next-end s at a e h = go (at + gaps (drop at s)) (ltb (at + gaps (drop at s)) (l
 pub fields-behind : (s : List ℕ) (at : ℕ) (f : List ℕ) (fs : List (List ℕ)) → fields_of (drop at s) ≡ f ∷ fs → fs ≡ fields_of (drop (field_end s at) s)
 fields-behind s at f fs h = go (next_field s at) refl
   where
-    go : (n : Next) → next_field s at ≡ n → fs ≡ fields_of (drop (field_end s at) s)
-    go (Field a e) q = let k : part s a e ∷ fields_of (drop e s) ≡ f ∷ fs = sym (next_field_lem s at a e q).is ∙ h in rw (next-end s at a e q) (cc)
-    go Nothing q = let k = next-nothing s at q in clash cc
+    go : (n : Option (ℕ × ℕ)) → next_field s at ≡ n → fs ≡ fields_of (drop (field_end s at) s)
+    go (Some (a, e)) q = let k : part s a e ∷ fields_of (drop e s) ≡ f ∷ fs = sym (next_field_lem s at a e q).is ∙ h in rw (next-end s at a e q) (cc)
+    go None q = let k = next-nothing s at q in clash cc

@@ -16,7 +16,7 @@ use Rattle.fields.specs.Fields.{fields_of, part, blank}
 use Rattle.fields.specs.Lines.{on_line, lines_of, Line, with_line, numbered, lines_from, until_lf, line_to, line_ending, line_at, Placed, meant_lines, line_start, NextLineIs}
 use Rattle.fields.specs.declared.line.OneLine.{OneLine}
 use Rattle.fields.specs.declared.line.NextLine.{NextLine}
-use Rattle.fields.specs.declared.line.NextLine.TheVariants.{Found, End}
+use Rattle.std.specs.Prelude.{Option, None, Some}
 use Rattle.fields.proofs.CountLaws.{lf-counts, count_le}
 
 -- the first line of l ends at its first LF, without a CR before that
@@ -215,17 +215,17 @@ numbered-some n (l ∷ ls) x xs e = go (numbered-some (suc n) ls x xs) (fields_o
     go ih (f ∷ fs) e = let k : record { number = n; fields = f ∷ fs } ≡ x = cc in rw (← k) refl
 
 -- what an answer of `next_line` tells
-module _ (t : List ℕ) (from : ℕ) (r : NextLine) (is : NextLineIs t from r) where
-  pub found-placed : (a e next k : ℕ) → r ≡ Found a e next k → Placed t from a e next k
-  found-placed a e next k h = (rw h at is).placed
+module _ (t : List ℕ) (from : ℕ) (r : Option NextLine) (is : NextLineIs t from r) where
+  pub found-placed : (l : NextLine) → r ≡ Some l → Placed t from l.from l.to l.next l.passed
+  found-placed l h = (rw h at is).placed
 
-  pub found-lines : (a e next k : ℕ) → r ≡ Found a e next k → (n : ℕ) → lines_from n t from ≡ record { number = n + k; fields = fields_of (part t a e) } ∷ lines_from (n + k + 1) t next
-  found-lines a e next k h n = sym ((rw h at is).meant n)
+  pub found-lines : (l : NextLine) → r ≡ Some l → (n : ℕ) → lines_from n t from ≡ record { number = n + l.passed; fields = fields_of (part t l.from l.to) } ∷ lines_from (n + l.passed + 1) t l.next
+  found-lines l h n = sym ((rw h at is).meant n)
 
-  pub found_some : (a e next k : ℕ) → r ≡ Found a e next k → blank (fields_of (part t a e)) ≡ false
-  found_some a e next k h = numbered-some 0 (lines_of (drop from t)) _ _ (found-lines a e next k h 0)
+  pub found_some : (l : NextLine) → r ≡ Some l → blank (fields_of (part t l.from l.to)) ≡ false
+  found_some l h = numbered-some 0 (lines_of (drop from t)) _ _ (found-lines l h 0)
 
-  pub end-lines : r ≡ End → (n : ℕ) → lines_from n t from ≡ []
+  pub end-lines : r ≡ None → (n : ℕ) → lines_from n t from ≡ []
   end-lines h n = sym ((rw h at is).meant n)
 
 -- the line behind the one that is k lines behind a place
@@ -241,21 +241,21 @@ first-number : (x y : Line) (xs ys : List Line) → x ∷ xs ≡ y ∷ ys → x.
 first-number x y xs ys h = let e : x ≡ y = cc in ap (λ (l : Line). l.number) e
 
 -- two answers that meet the promise of `next_line` are equal: they pass as many lines, so they begin at the same place, and end there
-pub next-line_unique : (t : List ℕ) (from : ℕ) (r q : NextLine) → NextLineIs t from r → NextLineIs t from q → r ≡ q
-next-line_unique t from (Found a e next k) (Found b f more m) x y =
-    let h : 0 + k ≡ 0 + m = first-number _ _ _ _ (x.meant 0 ∙ sym (y.meant 0)) in
-    let u : k ≡ m = omega arith in
-    let s : a ≡ b = x.exact.starts ∙ ap (line_start t from) u ∙ sym y.exact.starts in
-    let o : ◌≡◌ {A = OneLine} (record { to = e; next = next }) (record { to = f; next = more }) = x.exact.ends ∙ ap (line_at t) s ∙ sym y.exact.ends in
-    let v : e ≡ f = ap (λ l. l.to) o in
-    let w : next ≡ more = ap (λ l. l.next) o in
+pub next-line_unique : (t : List ℕ) (from : ℕ) (r q : Option NextLine) → NextLineIs t from r → NextLineIs t from q → r ≡ q
+next-line_unique t from (Some l) (Some m) x y =
+    let h : 0 + l.passed ≡ 0 + m.passed = first-number _ _ _ _ (x.meant 0 ∙ sym (y.meant 0)) in
+    let u : l.passed ≡ m.passed = omega arith in
+    let s : l.from ≡ m.from = x.exact.starts ∙ ap (line_start t from) u ∙ sym y.exact.starts in
+    let o : ◌≡◌ {A = OneLine} (record { to = l.to; next = l.next }) (record { to = m.to; next = m.next }) = x.exact.ends ∙ ap (line_at t) s ∙ sym y.exact.ends in
+    let v : l.to ≡ m.to = ap (λ l. l.to) o in
+    let w : l.next ≡ m.next = ap (λ l. l.next) o in
     cc
-next-line_unique t from (Found a e next k) End x y =
-    let h : meant_lines t 0 (Found a e next k) ≡ [] = x.meant 0 ∙ sym (y.meant 0) in
+next-line_unique t from (Some l) None x y =
+    let h : meant_lines t 0 (Some l) ≡ [] = x.meant 0 ∙ sym (y.meant 0) in
     let z : ◌≡◌ {A = ℕ} 0 1 = cc in
     absurd (omega arith)
-next-line_unique t from End (Found b f more m) x y =
-    let h : meant_lines t 0 (Found b f more m) ≡ [] = y.meant 0 ∙ sym (x.meant 0) in
+next-line_unique t from None (Some m) x y =
+    let h : meant_lines t 0 (Some m) ≡ [] = y.meant 0 ∙ sym (x.meant 0) in
     let z : ◌≡◌ {A = ℕ} 0 1 = cc in
     absurd (omega arith)
-next-line_unique t from End End x y = refl
+next-line_unique t from None None x y = refl

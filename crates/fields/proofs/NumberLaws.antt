@@ -11,7 +11,7 @@ use borrow.Author.Tests.{lt-ltb, eq-eqb}
 use lib.ListN.{length, get_or, drop}
 use lib.Dec.{eqb, ltb}
 use lib.Seq.{drop-cons, drop-length}
-use Rattle.fields.specs.declared.number.Number.TheVariants.{Value}
+use Rattle.std.specs.Prelude.{Some}
 use Rattle.fields.specs.Numbers.{digit, digits, more, decimal_of, cap, cut}
 
 cut-cond : (t : Bool) (x y : Option ℕ) → cut x ≡ cut y → cut (cond t x none) ≡ cut (cond t y none)
@@ -21,7 +21,7 @@ cut-cond false x y h = refl
 -- two counts that are cut at the same number make the same cut number
 pub cut-same : (bs : List ℕ) (v w : ℕ) → min v cap ≡ min w cap → cut (digits bs v) ≡ cut (digits bs w)
 unfolding digits cut
-cut-same [] v w h = ap Value h
+cut-same [] v w h = ap Some h
 cut-same (b ∷ bs) v w h =
     cut-cond (digit b) (digits bs (v * 10 + (b - 48))) (digits bs (w * 10 + (b - 48))) (cut-same bs (v * 10 + (b - 48)) (w * 10 + (b - 48)) (omega arith))
 
@@ -29,7 +29,7 @@ pub digits-at : (f : List ℕ) (i v : ℕ) → i < length f → digits (drop i f
 unfolding digits
 digits-at f i v h = rw (add-one, drop-cons f i 0)
 
-pub cut-end : (f : List ℕ) (i v : ℕ) → length f ≡ i → v ≤ cap → cut (digits (drop i f) v) ≡ Value v
+pub cut-end : (f : List ℕ) (i v : ℕ) → length f ≡ i → v ≤ cap → cut (digits (drop i f) v) ≡ Some v
 unfolding digits cut
 cut-end f i v e h = simp (← e, drop-length, min-eq_left h)
 

@@ -9,7 +9,8 @@ use borrow.Author.Tests.{leb-true, le-leb, lt-leb}
 use lib.Dec.{leb}
 use lib.Seq.{append_snoc}
 use Rattle.fields.specs.Numbers.{decimal_of, cap, cut}
-use Rattle.fields.specs.declared.number.Number.TheVariants.{Bad, Value}
+use Rattle.std.specs.Prelude as prelude
+use Rattle.units.specs.declared.Fault.TheVariants.{WrongFigure}
 use Rattle.fields.specs.Readers.{Got, no, got, Reads, FieldsGot, after, give, each, bytes_due, within, between, key_between}
 use Rattle.units.proofs.TestLaws.{clash, and_both}
 
@@ -55,7 +56,7 @@ module _ {E S A : Type 0} (p : ℕ → Reads E S A) (from n i : ℕ) (xs : List 
   unfolding each prepend
   each-end h = let k : n - i ≡ 0 = omega arith in rw k (ap (λ l. got l s) (append-nil xs))
 
-tested : (low high v : ℕ) (fs : List (List ℕ)) (u : ℕ) (gs : List (List ℕ)) (t : Bool) → (leb low v && leb v high) ≡ t → cond {A = FieldsGot ℕ} t (got v fs) (no 4) ≡ got u gs → (low ≤ u) × (u ≤ high)
+tested : (low high v : ℕ) (fs : List (List ℕ)) (u : ℕ) (gs : List (List ℕ)) (t : Bool) → (leb low v && leb v high) ≡ t → cond {A = FieldsGot ℕ} t (got v fs) (no WrongFigure) ≡ got u gs → (low ≤ u) × (u ≤ high)
 tested low high v fs u gs true e h =
     let q : v ≡ u = cc in
     let b = and_both (leb low v) (leb v high) e in
@@ -81,14 +82,14 @@ pub key-between-within : (w : List ℕ) (low high : ℕ) (fs : List (List ℕ)) 
 key-between-within w low high fs v gs h = due-within low high (bytes_due w fs) v gs h
 
 -- the field is no number
-pub within_bad : (low high : ℕ) (o : Option ℕ) (fs : List (List ℕ)) → cut o ≡ Bad → within low high o fs ≡ no 4
+pub within_bad : (low high : ℕ) (o : Option ℕ) (fs : List (List ℕ)) → cut o ≡ prelude.None → within low high o fs ≡ no WrongFigure
 unfolding within cut
 within_bad low high none fs h = refl
 within_bad low high (some n) fs h = clash cc
 
 -- the field is the number v, or where v is the cap, some number from there on
 module _ (low high v : ℕ) (fs : List (List ℕ)) where
-  pub within-below : (o : Option ℕ) → cut o ≡ Value v → v < low → low < cap → within low high o fs ≡ no 4
+  pub within-below : (o : Option ℕ) → cut o ≡ prelude.Some v → v < low → low < cap → within low high o fs ≡ no WrongFigure
   unfolding within cut
   within-below none h k l = clash cc
   within-below (some n) h k l =
@@ -96,7 +97,7 @@ module _ (low high v : ℕ) (fs : List (List ℕ)) where
       let b : n < low = omega arith in
       simp (lt-leb low n b)
 
-  pub within-above : (o : Option ℕ) → cut o ≡ Value v → high < v → within low high o fs ≡ no 4
+  pub within-above : (o : Option ℕ) → cut o ≡ prelude.Some v → high < v → within low high o fs ≡ no WrongFigure
   unfolding within cut
   within-above none h k = clash cc
   within-above (some n) h k =
@@ -104,7 +105,7 @@ module _ (low high v : ℕ) (fs : List (List ℕ)) where
       let b : high < n = omega arith in
       simp (lt-leb n high b, and-false)
 
-  pub within-got : (o : Option ℕ) → cut o ≡ Value v → low ≤ v → v ≤ high → high < cap → within low high o fs ≡ got v fs
+  pub within-got : (o : Option ℕ) → cut o ≡ prelude.Some v → low ≤ v → v ≤ high → high < cap → within low high o fs ≡ got v fs
   unfolding within cut
   within-got none h k l m = clash cc
   within-got (some n) h k l m =

@@ -1,9 +1,7 @@
 -- Bytes, and which of them a text may have (document 01, "The SOC text" and refusal 2).
-use Rattle.std.specs.Prelude.{ℕ, suc, Bool, true, false, cond, ◌&&◌, ◌||◌, List, [], ◌∷◌, eqb, leb}
+use Rattle.std.specs.Prelude.{ℕ, suc, Bool, true, false, cond, ◌&&◌, ◌||◌, List, [], ◌∷◌, Option, None, Some, eqb, leb}
 use Prim.Native.String.{String}
 use Prim.Native.Char.{code}
-use Rattle.fields.specs.declared.byte.BadByte.{BadByte}
-use Rattle.fields.specs.declared.byte.BadByte.TheVariants.{OnLine, Nowhere}
 
 -- the bytes of a quoted text
 abbrev pub bytes : String → List ℕ
@@ -36,9 +34,9 @@ abbrev pub line_behind : ℕ → ℕ → ℕ
 line_behind n b = cond (eqb b lf) (suc n) n
 
 -- the line of the first byte that is none of these, in a text that begins on line n
-unfoldable pub bad_byte : ℕ → List ℕ → BadByte
-bad_byte n [] = Nowhere
-bad_byte n (b ∷ bs) = cond (allowed b bs) (bad_byte (line_behind n b) bs) (OnLine n)
+unfoldable pub bad_byte : ℕ → List ℕ → Option ℕ
+bad_byte n [] = None
+bad_byte n (b ∷ bs) = cond (allowed b bs) (bad_byte (line_behind n b) bs) (Some n)
 
 -- the two are the same bytes
 unfoldable pub same_bytes : List ℕ → List ℕ → Bool

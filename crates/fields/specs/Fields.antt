@@ -1,9 +1,7 @@
 -- The fields of a line (document 01, "The SOC text"): "Fields are parted by one or more spaces or tabs; such bytes at either end of a
 -- line count for nothing."
-use Rattle.std.specs.Prelude.{ℕ, suc, ◌+◌, ◌-◌, Bool, true, false, cond, ◌||◌, not, List, [], ◌∷◌, length, take, drop, ltb, eqb}
+use Rattle.std.specs.Prelude.{ℕ, suc, ◌+◌, ◌-◌, Bool, true, false, cond, ◌||◌, not, List, [], ◌∷◌, length, take, drop, Option, None, Some, ltb, eqb}
 use Rattle.fields.specs.Bytes.{tab, space}
-use Rattle.fields.specs.declared.field.Next.{Next}
-use Rattle.fields.specs.declared.field.Next.TheVariants.{Field, Nothing}
 
 -- a space or a tab
 abbrev pub gap : ℕ → Bool
@@ -49,11 +47,11 @@ abbrev pub run_end : List ℕ → ℕ → ℕ
 run_end s a = a + run (drop a s)
 
 -- the field that begins at a place, and where it ends; nothing behind the end
-unfoldable pub field_from : List ℕ → ℕ → Next
-field_from s a = cond (ltb a (length s)) (Field a (run_end s a)) Nothing
+unfoldable pub field_from : List ℕ → ℕ → Option (ℕ × ℕ)
+field_from s a = cond (ltb a (length s)) (Some (a, run_end s a)) None
 
 -- the first field at or behind a place
-unfoldable pub next_field : List ℕ → ℕ → Next
+unfoldable pub next_field : List ℕ → ℕ → Option (ℕ × ℕ)
 next_field s at = field_from s (at + gaps (drop at s))
 
 -- where that field ends; where there is none, the end of the gaps

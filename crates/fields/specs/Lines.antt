@@ -1,11 +1,10 @@
 -- The lines of a text (document 01, "The SOC text"): "Lines end in LF or CRLF; the last may lack its end. .. Blank lines are skipped but
 -- counted."
-use Rattle.std.specs.Prelude.{ℕ, zero, suc, ◌+◌, ◌-◌, ◌<◌, ◌≤◌, ◌≡◌, cond, ◌&&◌, List, [], ◌∷◌, length, get_or, drop, ltb, eqb}
+use Rattle.std.specs.Prelude.{ℕ, zero, suc, ◌+◌, ◌-◌, ◌<◌, ◌≤◌, ◌≡◌, cond, ◌&&◌, List, [], ◌∷◌, length, get_or, drop, Option, None, Some, IfSome, ltb, eqb}
 use Rattle.fields.specs.Bytes.{lf, cr, lf_next}
 use Rattle.fields.specs.Fields.{fields_of, part}
 use Rattle.fields.specs.declared.line.OneLine.{OneLine}
 use Rattle.fields.specs.declared.line.NextLine.{NextLine}
-use Rattle.fields.specs.declared.line.NextLine.TheVariants.{Found, End}
 
 -- byte b at the front of the first line
 unfoldable pub on_line : ℕ → List (List ℕ) → List (List ℕ)
@@ -54,9 +53,9 @@ unfoldable pub line_at : List ℕ → ℕ → OneLine
 line_at t from = line_ending t from (from + until_lf (drop from t))
 
 -- the line that an answer names, in a text whose line at the place asked for has number n, and the lines behind it
-abbrev pub meant_lines : List ℕ → ℕ → NextLine → List Line
-meant_lines t n (Found a e next k) = record { number = n + k; fields = fields_of (part t a e) } ∷ lines_from (n + k + 1) t next
-meant_lines t n End = []
+abbrev pub meant_lines : List ℕ → ℕ → Option NextLine → List Line
+meant_lines t n (Some l) = record { number = n + l.passed; fields = fields_of (part t l.from l.to) } ∷ lines_from (n + l.passed + 1) t l.next
+meant_lines t n None = []
 
 -- a line's places lie in the text, in order, and at least a byte behind each line that was passed
 pub record Placed (t : List ℕ) (from a e next k : ℕ) : Type 0 where
@@ -66,9 +65,8 @@ pub record Placed (t : List ℕ) (from a e next k : ℕ) : Type 0 where
   pub more : a < next
   pub inside : next ≤ length t
 
-abbrev pub PlacedIn : List ℕ → ℕ → NextLine → Type 0
-PlacedIn t from (Found a e next k) = Placed t from a e next k
-PlacedIn t from End = Unit {0}
+abbrev pub PlacedIn : List ℕ → ℕ → Option NextLine → Type 0
+PlacedIn t at r = IfSome r (λ l. Placed t at l.from l.to l.next l.passed)
 
 -- where the line begins that is k lines behind the one at a place
 unfoldable pub line_start : List ℕ → ℕ → ℕ → ℕ
@@ -80,12 +78,11 @@ pub record Exact (t : List ℕ) (from a e next k : ℕ) : Type 0 where
   pub starts : a ≡ line_start t from k
   pub ends : record { to = e; next = next } ≡ line_at t a
 
-abbrev pub ExactIn : List ℕ → ℕ → NextLine → Type 0
-ExactIn t from (Found a e next k) = Exact t from a e next k
-ExactIn t from End = Unit {0}
+abbrev pub ExactIn : List ℕ → ℕ → Option NextLine → Type 0
+ExactIn t at r = IfSome r (λ l. Exact t at l.from l.to l.next l.passed)
 
 -- the first line at or behind a place that is not blank
-pub record NextLineIs (t : List ℕ) (from : ℕ) (r : NextLine) : Type 0 where
+pub record NextLineIs (t : List ℕ) (from : ℕ) (r : Option NextLine) : Type 0 where
   pub placed : PlacedIn t from r
   pub meant : (n : ℕ) → meant_lines t n r ≡ lines_from n t from
   pub exact : ExactIn t from r

@@ -1,8 +1,7 @@
 -- Decimal numbers (document 01, "The SOC text"): "Numbers are decimal without leading zeros."
 use Rattle.std.specs.Prelude.{ℕ, ◌+◌, ◌-◌, ◌*◌, min, Bool, true, false, cond, ◌&&◌, List, [], ◌∷◌, leb, eqb}
 use Rattle.std.proofs.Math.Option.{Option, some, none}
-use Rattle.fields.specs.declared.number.Number.{Number}
-use Rattle.fields.specs.declared.number.Number.TheVariants.{Bad, Value}
+use Rattle.std.specs.Prelude as prelude
 
 abbrev pub digit : ℕ → Bool
 digit b = leb 48 b && leb b 57
@@ -26,6 +25,6 @@ abbrev pub cap : ℕ
 cap = 4294967296
 
 -- a number as an answer has it: one over the cap as the cap
-unfoldable pub cut : Option ℕ → Number
-cut none = Bad
-cut (some v) = Value (min v cap)
+unfoldable pub cut : Option ℕ → prelude.Option ℕ
+cut none = prelude.None
+cut (some v) = prelude.Some (min v cap)

@@ -11,11 +11,11 @@ mod put;
 mod reader;
 mod write;
 
-pub use byte::{BadByte, bad_byte, same_bytes};
-pub use field::{Next, is_blank, next_field};
+pub use byte::{bad_byte, same_bytes};
+pub use field::{is_blank, next_field};
 pub use line::{NextLine, OneLine, line_at, next_line};
 pub use name::{NAME_MAX, is_name};
-pub use number::{Number, number_of};
+pub use number::number_of;
 pub use put::{put_key, put_number};
-pub use reader::{Figure, Past, figure_at, key_figure, past_word};
+pub use reader::{figure_at, key_figure, past_word};
 pub use write::write_number;

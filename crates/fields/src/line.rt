@@ -11,22 +11,17 @@ pub struct OneLine {
 
 // The next line that is not blank: where it begins and ends, where the line behind it begins, and how many blank lines were passed.
 #[derive(Clone, Copy)]
-pub enum NextLine {
-    Found(usize, usize, usize, usize),
-    End,
+pub struct NextLine {
+    pub from: usize,
+    pub to: usize,
+    pub next: usize,
+    pub passed: usize,
 }
 
 fn past_line(text: &[u8], from: usize) -> usize
     ensures { result ≡ from + until_lf (drop from text.now) }
 {
-    let mut i = from;
-    while i < text.len() {
-        if text[i] == 10 {
-            return i;
-        }
-        i += 1;
-    }
-    i
+    from + text.iter().skip(from).take_while(|b| **b != 10).count()
 }
 
 // The line that begins at a place.
@@ -37,18 +32,16 @@ pub fn line_at(text: &[u8], from: usize) -> OneLine
     if text.len() <= e {
         return OneLine { to: e, next: e };
     }
-    if from < e {
-        if text[e - 1] == 13 {
-            return OneLine {
-                to: e - 1,
-                next: e + 1,
-            };
-        }
+    if from < e && text[e - 1] == 13 {
+        return OneLine {
+            to: e - 1,
+            next: e + 1,
+        };
     }
     OneLine { to: e, next: e + 1 }
 }
 
-pub fn next_line(text: &[u8], from: usize) -> NextLine
+pub fn next_line(text: &[u8], from: usize) -> Option<NextLine>
     ensures { NextLineIs text.now from result }
 {
     let mut at = from;
@@ -58,10 +51,15 @@ pub fn next_line(text: &[u8], from: usize) -> NextLine
         let to = line.to;
         let next = line.next;
         if !super::is_blank(&text[at..to], 0) {
-            return NextLine::Found(at, to, next, passed);
+            return Some(NextLine {
+                from: at,
+                to,
+                next,
+                passed,
+            });
         }
         at = next;
         passed += 1;
     }
-    NextLine::End
+    None
 }

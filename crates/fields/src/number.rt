@@ -2,12 +2,6 @@
 ghost use Rattle.std.specs.Prelude.{◌≡◌, ◌-◌, ◌≤◌, min};
 ghost use Rattle.fields.specs.Numbers.{cap, cut, decimal_of};
 
-#[derive(Clone, Copy)]
-pub enum Number {
-    Bad,
-    Value(u64),
-}
-
 const CAP: u64 = 4294967296;
 
 fn value_of(b: u8) -> u64
@@ -20,32 +14,21 @@ fn value_of(b: u8) -> u64
 fn cut_at_cap(v: u64) -> u64
     ensures { result ≡ min v cap }
 {
-    if v < CAP { v } else { CAP }
+    v.min(CAP)
 }
 
-pub fn number_of(f: &[u8]) -> Number
+pub fn number_of(f: &[u8]) -> Option<u64>
     ensures { result ≡ cut (decimal_of f.now) }
 {
-    if f.len() == 0 {
-        return Number::Bad;
-    }
-    if f[0] == 48 {
-        if 1 < f.len() {
-            return Number::Bad;
-        }
+    if f.len() == 0 || f[0] == 48 && 1 < f.len() {
+        return None;
     }
     let mut v: u64 = 0;
-    let mut i: usize = 0;
-    while i < f.len() {
-        let b = f[i];
-        if b < 48 {
-            return Number::Bad;
+    for b in f {
+        if *b < 48 || 57 < *b {
+            return None;
         }
-        if b > 57 {
-            return Number::Bad;
-        }
-        v = cut_at_cap(v * 10 + value_of(b));
-        i += 1;
+        v = cut_at_cap(v * 10 + value_of(*b));
     }
-    Number::Value(v)
+    Some(v)
 }

@@ -6,14 +6,14 @@ use mathlib.Core.Path.{◌≡◌}
 use mathlib.Core.List.{List}
 use lib.ListN.{length, drop}
 use Rattle.fields.specs.Fields.{gaps, run, field_from, next_field}
-use Rattle.fields.specs.declared.field.Next.TheVariants.{Field, Nothing}
+use Rattle.std.specs.Prelude.{Some, None}
 use Rattle.fields.proofs.field.next_field.Goals as goal
 
-field-none : (s : List ℕ) (at a : ℕ) → a ≡ at + gaps (drop at s) → length s ≤ a → Nothing ≡ next_field s at
+field-none : (s : List ℕ) (at a : ℕ) → a ≡ at + gaps (drop at s) → length s ≤ a → None ≡ next_field s at
 unfolding next_field field_from
 field-none s at a p h = rw (← p) (simp (le-ltb _ _ h))
 
-field-some : (s : List ℕ) (at a e : ℕ) → a ≡ at + gaps (drop at s) → a < length s → e ≡ a + run (drop a s) → Field a e ≡ next_field s at
+field-some : (s : List ℕ) (at a e : ℕ) → a ≡ at + gaps (drop at s) → a < length s → e ≡ a + run (drop a s) → Some (a, e) ≡ next_field s at
 unfolding next_field field_from
 field-some s at a e p h q = rw (← p, ← q) (simp (lt-ltb _ _ h))
 

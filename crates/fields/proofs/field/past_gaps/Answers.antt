@@ -1,18 +1,7 @@
--- `fields::field::past_gaps` meets its contract: what its invariant (Invariants.antt) leaves to show. Assumes nothing.
-use native.Mathlib.Omega.{arith}
-use mathlib.Core.Path.{refl, sym, ◌∙◌}
-use Rattle.fields.specs.Fields.{gap, gaps}
-use Rattle.fields.proofs.CountLaws.{gaps-counts, count_on, count_stop, count-end}
+use Rattle.std.proofs.Common.{rules, ◌≡◌, ◌+◌, drop, ℕ, ◌-◌, ◌*◌, ◌<◌, ◌≤◌, length, ◌/◌, ◌%◌, Bool, true, false, nat_eq, nat_lt, List, [], ◌∷◌, ◌++◌, slice_index_or, slice_set, bit_and, bit_or, Fits, w8, w32, w64, Bor, MutBor}
+use Rattle.fields.specs.Fields.{gap, gaps, run, next_field, fields_of, blank}
 use Rattle.fields.proofs.field.past_gaps.Goals as goal
 
-pub loop-i-init : goal.loop-i-init
-loop-i-init c = refl
-
-pub returns-then-not-is_gap : goal.returns-then-not-is_gap
-returns-then-not-is_gap c = sym (c.loop-i.invariant ∙ count_stop gaps gap gaps-counts c.args.l.now c.loop-i.i (omega arith) (sym c.is_gap.ensures ∙ c.if-not-is_gap.true))
-
-pub loop-i-preserved : goal.loop-i-preserved
-loop-i-preserved c = c.loop-i.invariant ∙ count_on gaps gap gaps-counts c.args.l.now c.loop-i.i (omega arith) (sym c.is_gap.ensures ∙ c.if-not-is_gap.false)
-
+-- src/field.rt:11:1
 pub returns : goal.returns
-returns c = sym (c.loop-i.invariant ∙ count-end gaps gap gaps-counts c.args.l.now c.loop-i.i (omega arith))
+returns c = ?

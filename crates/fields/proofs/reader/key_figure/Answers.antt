@@ -1,10 +1,11 @@
--- `fields::reader::key_figure` meets its contract. The definition goes on behind the keyword as the code does. Assumes nothing.
-use mathlib.Core.Path.{sym, ◌∙◌}
-use Rattle.fields.proofs.PlaceAnswerLaws.{key-number-no, key-number-past}
+use Rattle.std.proofs.Common.{rules, ◌≡◌, ℕ, ◌+◌, ◌-◌, ◌*◌, ◌<◌, ◌≤◌, length, ◌/◌, ◌%◌, Bool, true, false, nat_eq, nat_lt, List, [], ◌∷◌, ◌++◌, slice_index_or, slice_set, bit_and, bit_or, Fits, w8, w32, w64, Bor, MutBor}
+use Rattle.fields.specs.Readers.{word_answer, number_answer, key_number_answer}
 use Rattle.fields.proofs.reader.key_figure.Goals as goal
 
-pub returns-in-No : goal.returns-in-No
-returns-in-No c = key-number-no _ _ c.args.w.now c.args.low c.args.high _ (sym c.in-No.is ∙ c.past_word.ensures)
+-- src/reader.rt:35:13
+pub returns-in_err-e : goal.returns-in_err-e
+returns-in_err-e c = ?
 
-pub returns-in-At : goal.returns-in-At
-returns-in-At c = c.figure_at.ensures ∙ key-number-past _ _ _ _ _ _ (sym c.in-At.is ∙ c.past_word.ensures)
+-- src/reader.rt:32:1
+pub returns : goal.returns
+returns c = ?

@@ -1,40 +1,27 @@
--- `fields::reader::past_word` meets its contract. What `next_field_lem` names is the first field, by the law of fields, and the field is compared
--- with the keyword; the place answered is that field's end. Assumes nothing.
-use native.Mathlib.Omega.{arith}
-use mathlib.Core.Path.{◌≡◌, sym, ap, ◌∙◌}
-use lib.ListN.{drop}
-use Rattle.fields.specs.Fields.{fields_of, field_end}
-use Rattle.fields.specs.Readers.{bytes_due}
-use Rattle.fields.proofs.FieldLaws.{FieldIs, next_field_lem, next-end, next-nothing}
-use Rattle.fields.proofs.PlaceAnswerLaws.{word-no, word_got}
+use Rattle.std.proofs.Common.{rules, ◌≡◌, ℕ, ◌+◌, ◌-◌, ◌*◌, ◌<◌, ◌≤◌, length, ◌/◌, ◌%◌, Bool, true, false, nat_eq, nat_lt, List, [], ◌∷◌, ◌++◌, slice_index_or, slice_set, bit_and, bit_or, Fits, w8, w32, w64, Bor, MutBor}
+use Rattle.fields.specs.Readers.{word_answer, number_answer, key_number_answer}
 use Rattle.fields.proofs.reader.past_word.Goals as goal
-use Rattle.fields.proofs.reader.past_word.Goals.{In-Field}
 
--- the field that was found
-field : (c : In-Field) → FieldIs c.args.l.now c.args.at c.in-Field.a c.in-Field.e
-field c = next_field_lem _ _ _ _ (sym c.next_field.ensures ∙ c.in-Field.is)
-
-end : (c : In-Field) → field_end c.args.l.now c.args.at ≡ c.in-Field.e
-end c = next-end _ _ _ _ (sym c.next_field.ensures ∙ c.in-Field.is)
-
+-- src/reader.rt:13:43
 pub slice_bounds-same_bytes-count : goal.slice_bounds-same_bytes-count
-slice_bounds-same_bytes-count c = let f = field c in omega arith
+slice_bounds-same_bytes-count c = ?
 
+-- src/reader.rt:13:43
 pub slice_bounds-same_bytes-start : goal.slice_bounds-same_bytes-start
-slice_bounds-same_bytes-start c = let f = field c in omega arith
+slice_bounds-same_bytes-start c = ?
 
+-- src/reader.rt:13:43
 pub slice_bounds-same_bytes-end : goal.slice_bounds-same_bytes-end
-slice_bounds-same_bytes-end c = let f = field c in omega arith
+slice_bounds-same_bytes-end c = ?
 
-pub returns-in-Nothing : goal.returns-in-Nothing
-unfolding bytes_due
-returns-in-Nothing c = word-no c.args.l.now c.args.at c.args.w.now _ (ap (bytes_due c.args.w.now) (next-nothing _ _ (sym c.next_field.ensures ∙ c.in-Nothing.is)))
+-- src/reader.rt:9:1
+pub returns-in-Some : goal.returns-in-Some
+returns-in-Some c = ?
 
-pub returns-then-same_bytes : goal.returns-then-same_bytes
-unfolding bytes_due
-returns-then-same_bytes c = let fs = fields_of (drop c.in-Field.e c.args.l.now) in
-    word_got _ _ c.args.w.now _ fs (end (goal.at.returns-then-same_bytes c).In-Field) (ap (bytes_due c.args.w.now) (field (goal.at.returns-then-same_bytes c).In-Field).is ∙ simp (sym c.same_bytes.ensures ∙ c.if-same_bytes.true))
+-- src/reader.rt:9:1
+pub returns-in_default : goal.returns-in_default
+returns-in_default c = ?
 
-pub returns-else-same_bytes : goal.returns-else-same_bytes
-unfolding bytes_due
-returns-else-same_bytes c = word-no _ _ _ 3 (ap (bytes_due c.args.w.now) (field (goal.at.returns-else-same_bytes c).In-Field).is ∙ simp (sym c.same_bytes.ensures ∙ c.if-same_bytes.false))
+-- src/reader.rt:9:1
+pub returns-in_default-2 : goal.returns-in_default-2
+returns-in_default-2 c = ?
