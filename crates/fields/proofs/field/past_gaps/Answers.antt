@@ -1,9 +1,7 @@
 -- `fields::field::past_gaps` meets its contract: it passes as many bytes as `gaps` counts. Assumes nothing.
 use Prim.Native.Nat.{◌+◌}
 use mathlib.Core.Path.{ap, ◌∙◌}
-use mathlib.Core.Bool.{not}
 use lib.ListN.{drop}
-use lib.Dec.{eqb}
 use Rattle.std.proofs.Common.{rules, tests}
 use Rattle.std.specs.Iterator.Adapters.{skip_count, take_while_source}
 use Rattle.std.proofs.lemmas.Iterator.{YieldsList-from_slice}
