@@ -10,13 +10,15 @@ use lib.Seq.{length-take-le, drop-drop, drop_at, drop-set-lt}
 use Rattle.units.proofs.TestLaws.{clash}
 use borrow.Author.Tests.{leb-true}
 use lib.Dec.{leb}
+use Rattle.std.specs.Prelude.{Ok}
+use Rattle.units.specs.declared.Fault.{Fault}
 use Rattle.fields.specs.Readers.{Got, Reads, no, got, after, between}
 use Rattle.fields.specs.Bytes.{bytes}
 use Rattle.fields.proofs.ReaderLaws.{after-no, after-got, key-between-within}
 use Rattle.soc.specs.Limits.{modules_max, level_max, length_max}
 use Rattle.units.specs.Places.{padded}
 use Rattle.soc.specs.Record.{flip_flops}
-use Rattle.text_lines.specs.Parts.{rule, says, whole}
+use Rattle.text_lines.specs.Parts.{rule, whole}
 use Rattle.text_lines.specs.Kinds.{BlockStart, level, chain_length, block_number, block_line}
 use Rattle.text_lines.proofs.BoundLaws.{closed-got}
 
@@ -47,7 +49,7 @@ module _ {A : Type 0} (n : ℕ) (z : A) (xs : List A) (i : ℕ) (spare : drop i 
 
 -- a chain's length is a number
 module _ (fs : List (List ℕ)) where
-  pub chain_no : (c : ℕ) → between 1 length_max fs ≡ no c → chain_length fs ≡ no c
+  pub chain_no : (c : Fault) → between 1 length_max fs ≡ no c → chain_length fs ≡ no c
   unfolding chain_length
   chain_no c e = after-no (between 1 length_max fs) _ c e
 
@@ -94,7 +96,7 @@ number-within low fs m gs h =
     let r = leb-true low key.value (rule-holds (leb low key.value) key.left kept.value kept.left kept.first) in
     (omega (arith, r, e), omega (arith, b, e))
 
-pub start-within : (low : ℕ) (fs : List (List ℕ)) (s : BlockStart) → whole (block_line low) fs ≡ says s → (low ≤ s.number) × (s.number ≤ modules_max - 1)
+pub start-within : (low : ℕ) (fs : List (List ℕ)) (s : BlockStart) → whole (block_line low) fs ≡ Ok s → (low ≤ s.number) × (s.number ≤ modules_max - 1)
 unfolding block_line
 start-within low fs s h =
     let m = came _ _ s [] (closed-got _ s h) in
