@@ -67,9 +67,9 @@ fn lengths_at(l: &[u8], from: usize, n: usize) -> Result<([FlipFlops; CHAINS_MAX
 {
     let mut lengths = [FlipFlops(0); CHAINS_MAX];
     let mut at = from;
-    for length in lengths[..n].iter_mut() {
+    for place in lengths[..n].iter_mut() {
         let (v, e) = fields::figure_at(l, at, 1, LENGTH_MAX)?;
-        *length = FlipFlops(v as u32);
+        *place = FlipFlops(v as u32);
         at = e;
     }
     Ok((lengths, at))
