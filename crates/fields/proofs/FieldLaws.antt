@@ -81,15 +81,15 @@ pub next_field_lem : (s : List ℕ) (at a e : ℕ) → next_field s at ≡ Some 
 unfolding next_field field_from
 next_field_lem s at a e h = go (at + gaps (drop at s)) refl (ltb (at + gaps (drop at s)) (length s)) refl h
   where
-    go : (m : ℕ) → at + gaps (drop at s) ≡ m → (t : Bool) → ltb m (length s) ≡ t → cond t (Some (m, m + run (drop m s))) None ≡ Some (a, e) → FieldIs s at a e
-    go m p true l q = let x : m ≡ a = cc in let y : m + run (drop m s) ≡ e = cc in rw x at (field_is s at m e p (ltb-true m (length s) l) y)
+    go : (m : ℕ) → at + gaps (drop at s) ≡ m → (t : Bool) → ltb m (length s) ≡ t → cond {A = Option (ℕ × ℕ)} t (Some (m, m + run (drop m s))) None ≡ Some (a, e) → FieldIs s at a e
+    go m p true l q = let k : ◌≡◌ {A = ℕ × ℕ} (m, m + run (drop m s)) (a, e) = cc in let x : m ≡ a = ap (λ r. r.0) k in let y : m + run (drop m s) ≡ e = ap (λ r. r.1) k in rw x at (field_is s at m e p (ltb-true m (length s) l) y)
     go m p false l q = clash cc
 
 pub next-nothing : (s : List ℕ) (at : ℕ) → next_field s at ≡ None → fields_of (drop at s) ≡ []
 unfolding next_field field_from fields_of
 next-nothing s at h = go (at + gaps (drop at s)) refl (ltb (at + gaps (drop at s)) (length s)) refl h
   where
-    go : (m : ℕ) → at + gaps (drop at s) ≡ m → (t : Bool) → ltb m (length s) ≡ t → cond t (Some (m, m + run (drop m s))) None ≡ None → fields_of (drop at s) ≡ []
+    go : (m : ℕ) → at + gaps (drop at s) ≡ m → (t : Bool) → ltb m (length s) ≡ t → cond {A = Option (ℕ × ℕ)} t (Some (m, m + run (drop m s))) None ≡ None → fields_of (drop at s) ≡ []
     go m p true l q = clash cc
     go m p false l q = fields-past s at m p ∙ ap fields_of (drop_of_length-le s (ltb-false m (length s) l))
 
@@ -98,8 +98,8 @@ pub next-end : (s : List ℕ) (at a e : ℕ) → next_field s at ≡ Some (a, e)
 unfolding next_field field_from field_end
 next-end s at a e h = go (at + gaps (drop at s)) (ltb (at + gaps (drop at s)) (length s)) h
   where
-    go : (m : ℕ) (t : Bool) → cond t (Some (m, run_end s m)) None ≡ Some (a, e) → run_end s m ≡ e
-    go m true q = cc
+    go : (m : ℕ) (t : Bool) → cond {A = Option (ℕ × ℕ)} t (Some (m, run_end s m)) None ≡ Some (a, e) → run_end s m ≡ e
+    go m true q = let k : ◌≡◌ {A = ℕ × ℕ} (m, run_end s m) (a, e) = cc in ap (λ r. r.1) k
     go m false q = clash cc
 
 -- the fields behind the first one are those behind its end

@@ -249,7 +249,8 @@ next-line_unique t from (Some l) (Some m) x y =
     let o : ◌≡◌ {A = OneLine} (record { to = l.to; next = l.next }) (record { to = m.to; next = m.next }) = x.exact.ends ∙ ap (line_at t) s ∙ sym y.exact.ends in
     let v : l.to ≡ m.to = ap (λ l. l.to) o in
     let w : l.next ≡ m.next = ap (λ l. l.next) o in
-    cc
+    let k : ◌≡◌ {A = NextLine} (record { from = l.from; to = l.to; next = l.next; passed = l.passed }) (record { from = m.from; to = m.to; next = m.next; passed = m.passed }) = cc in
+    ap Some k
 next-line_unique t from (Some l) None x y =
     let h : meant_lines t 0 (Some l) ≡ [] = x.meant 0 ∙ sym (y.meant 0) in
     let z : ◌≡◌ {A = ℕ} 0 1 = cc in

@@ -5,7 +5,7 @@ use mathlib.Core.Bool.{Bool, true, false, ◌&&◌, cond, and-false}
 use mathlib.Core.List.{List, [], ◌∷◌, ◌++◌, append-nil}
 use mathlib.Core.Option.{Option, some, none}
 use native.Mathlib.Omega.{arith}
-use borrow.Author.Tests.{leb-true, le-leb, lt-leb}
+use borrow.Author.Tests.{leb-true, leb-false, lt-leb}
 use lib.Dec.{leb}
 use lib.Seq.{append_snoc}
 use Rattle.fields.specs.Numbers.{decimal_of, cap, cut}
@@ -88,27 +88,15 @@ within_bad low high none fs h = refl
 within_bad low high (some n) fs h = clash cc
 
 -- the field is the number v, or where v is the cap, some number from there on
-module _ (low high v : ℕ) (fs : List (List ℕ)) where
-  pub within-below : (o : Option ℕ) → cut o ≡ prelude.Some v → v < low → low < cap → within low high o fs ≡ no WrongFigure
-  unfolding within cut
-  within-below none h k l = clash cc
-  within-below (some n) h k l =
-      let q : min n cap ≡ v = cc in
-      let b : n < low = omega arith in
-      simp (lt-leb low n b)
-
-  pub within-above : (o : Option ℕ) → cut o ≡ prelude.Some v → high < v → within low high o fs ≡ no WrongFigure
-  unfolding within cut
-  within-above none h k = clash cc
-  within-above (some n) h k =
-      let q : min n cap ≡ v = cc in
-      let b : high < n = omega arith in
-      simp (lt-leb n high b, and-false)
-
-  pub within-got : (o : Option ℕ) → cut o ≡ prelude.Some v → low ≤ v → v ≤ high → high < cap → within low high o fs ≡ got v fs
-  unfolding within cut
-  within-got none h k l m = clash cc
-  within-got (some n) h k l m =
-      let q : min n cap ≡ v = cc in
-      let e : n ≡ v = omega arith in
-      simp (e, le-leb low v k, le-leb v high l)
+pub within-cut : (low high v : ℕ) (fs : List (List ℕ)) (o : Option ℕ) → cut o ≡ prelude.Some v → low < cap → high < cap → within low high o fs ≡ cond (leb low v && leb v high) (got v fs) (no WrongFigure)
+unfolding within cut
+within-cut low high v fs none h l m = clash cc
+within-cut low high v fs (some n) h l m = let q : min n cap ≡ v = cc in go q (leb cap n) refl
+  where
+    go : min n cap ≡ v → (t : Bool) → leb cap n ≡ t → within low high (some n) fs ≡ cond (leb low v && leb v high) (got v fs) (no WrongFigure)
+    go q true k =
+        let z : cap ≤ n = leb-true cap n k in
+        let a : high < n = omega arith in
+        let b : high < v = omega arith in
+        simp (lt-leb n high a, lt-leb v high b, and-false)
+    go q false k = let z : n < cap = leb-false cap n k in let e : n ≡ v = omega arith in rw e

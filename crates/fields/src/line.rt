@@ -1,6 +1,6 @@
 // The lines of a text: each ends in LF or CRLF, the last may lack its end, and blank ones are skipped but counted.
-ghost use Rattle.std.specs.Prelude.{◌≡◌, ◌+◌, drop};
-ghost use Rattle.fields.specs.Lines.{until_lf, line_at, NextLineIs};
+ghost use Rattle.std.specs.Prelude.{◌≡◌, ◌+◌, ◌<◌, length, drop};
+ghost use Rattle.fields.specs.Lines.{until_lf, line_to, line_at, NextLineIs};
 
 // A line's place without its end, and where the next line begins.
 #[derive(Clone, Copy)]
@@ -24,6 +24,17 @@ fn past_line(text: &[u8], from: usize) -> usize
     from + text.iter().skip(from).take_while(|b| **b != 10).count()
 }
 
+// Where the line from a place, whose LF is at e, ends: before a CR that stands before the LF.
+fn line_to(text: &[u8], from: usize, e: usize) -> usize
+    requires { e < length text.now }
+    ensures { result ≡ line_to text.now from e }
+{
+    if from < e && text[e - 1] == 13 {
+        return e - 1;
+    }
+    e
+}
+
 // The line that begins at a place.
 pub fn line_at(text: &[u8], from: usize) -> OneLine
     ensures { result ≡ line_at text.now from }
@@ -32,13 +43,10 @@ pub fn line_at(text: &[u8], from: usize) -> OneLine
     if text.len() <= e {
         return OneLine { to: e, next: e };
     }
-    if from < e && text[e - 1] == 13 {
-        return OneLine {
-            to: e - 1,
-            next: e + 1,
-        };
+    OneLine {
+        to: line_to(text, from, e),
+        next: e + 1,
     }
-    OneLine { to: e, next: e + 1 }
 }
 
 pub fn next_line(text: &[u8], from: usize) -> Option<NextLine>

@@ -1,6 +1,6 @@
 // Fields read left to right at a place of a line: a keyword that is due, a number within its limits. An answer is what was read
 // and the place behind it; or the fault.
-ghost use Rattle.std.specs.Prelude.{◌≡◌};
+ghost use Rattle.std.specs.Prelude.{◌≡◌, ◌&&◌, leb};
 ghost use Rattle.fields.specs.Readers.{word_answer, number_answer, key_number_answer};
 
 use units::Fault;
@@ -9,10 +9,19 @@ use units::Fault;
 pub fn past_word(l: &[u8], at: usize, w: &[u8]) -> Result<usize, Fault>
     ensures { result ≡ word_answer l.now at w.now }
 {
-    match super::next_field(l, at) {
-        Some((a, e)) if super::same_bytes(&l[a..e], w) => Ok(e),
-        _ => Err(Fault::WrongForm),
+    let Some((from, to)) = super::next_field(l, at) else {
+        return Err(Fault::WrongForm);
+    };
+    if !super::same_bytes(&l[from..to], w) {
+        return Err(Fault::WrongForm);
     }
+    Ok(to)
+}
+
+fn is_within(v: u64, low: u64, high: u64) -> bool
+    ensures { result ≡ (leb low v && leb v high) }
+{
+    low <= v && v <= high
 }
 
 // A number from low to high, both below 4,294,967,296.
@@ -22,10 +31,13 @@ pub fn figure_at(l: &[u8], at: usize, low: u32, high: u32) -> Result<(u64, usize
     let Some((a, e)) = super::next_field(l, at) else {
         return Err(Fault::WrongForm);
     };
-    match super::number_of(&l[a..e]) {
-        Some(v) if low as u64 <= v && v <= high as u64 => Ok((v, e)),
-        _ => Err(Fault::WrongFigure),
+    let Some(v) = super::number_of(&l[a..e]) else {
+        return Err(Fault::WrongFigure);
+    };
+    if !is_within(v, low as u64, high as u64) {
+        return Err(Fault::WrongFigure);
     }
+    Ok((v, e))
 }
 
 // The keyword w, and then a number from low to high.

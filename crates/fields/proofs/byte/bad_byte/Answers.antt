@@ -1,23 +1,44 @@
-use Rattle.std.proofs.Common.{rules, ◌≡◌, drop, get_or, ◌+◌, ℕ, ◌-◌, ◌*◌, ◌<◌, ◌≤◌, length, ◌/◌, ◌%◌, Bool, true, false, nat_eq, nat_lt, List, [], ◌∷◌, ◌++◌, slice_set, bit_and, bit_or, Fits, w8, w32, w64, Bor, MutBor}
-use Rattle.fields.specs.Bytes.{allowed, bad_byte, same_bytes, lf_next}
+-- `fields::byte::bad_byte` meets its contract: what its invariant (Invariants.antt) leaves to show. Assumes nothing.
+use borrow.Author.Tests.{eq-eqb, ne_eqb}
+use native.Mathlib.Numerals.{add-one}
+use native.Mathlib.Omega.{arith}
+use Prim.Native.Nat.{ℕ, ◌+◌, ◌≤◌, ◌<◌}
+use mathlib.Core.Path.{◌≡◌, sym, ◌∙◌}
+use mathlib.Core.Bool.{true, false}
+use mathlib.Core.List.{List}
+use lib.ListN.{length, get_or, drop, drop_of_length-le}
+use lib.Seq.{drop-cons}
+use Rattle.fields.specs.Bytes.{lf, allowed, line_behind, bad_byte}
+use Rattle.std.specs.Prelude.{Some, None}
 use Rattle.fields.proofs.byte.bad_byte.Goals as goal
+use Rattle.fields.proofs.byte.bad_byte.Goals.{then-b-eq10, else-b-eq10}
 
--- src/byte.rt:23:5
-pub loop-i-init : goal.loop-i-init
-loop-i-init c = ?
+module _ (n : ℕ) (s : List ℕ) (i : ℕ) where
+  bad-here : i < length s → allowed (get_or s i 0) (drop (i + 1) s) ≡ false → bad_byte n (drop i s) ≡ Some n
+  unfolding bad_byte
+  bad-here h e = rw (drop-cons s i 0) (simp (← add-one, e))
 
--- src/byte.rt:25:13
+  bad-later : (m : ℕ) → i < length s → allowed (get_or s i 0) (drop (i + 1) s) ≡ true → line_behind n (get_or s i 0) ≡ m → bad_byte n (drop i s) ≡ bad_byte m (drop (i + 1) s)
+  unfolding bad_byte
+  bad-later m h e k = rw (drop-cons s i 0) (simp (← add-one, e, k))
+
+  bad-none : length s ≤ i → bad_byte n (drop i s) ≡ None
+  unfolding bad_byte
+  bad-none h = rw (drop_of_length-le s h)
+
+line-lf : (n b m : ℕ) → b ≡ lf → m ≡ n + 1 → line_behind n b ≡ m
+line-lf n b m e h = simp (eq-eqb b lf e) (omega arith)
+
+line_on : (n b m : ℕ) → (b ≡ lf → ⊥) → m ≡ n → line_behind n b ≡ m
+line_on n b m e h = simp (ne_eqb b lf e) (sym h)
+
 pub returns-then-not-is_allowed : goal.returns-then-not-is_allowed
-returns-then-not-is_allowed c = ?
+returns-then-not-is_allowed c = sym (c.loop-i.invariant.1 ∙ bad-here _ c.args.text.now c.loop-i.i (omega arith) (sym c.is_allowed.ensures ∙ c.if-not-is_allowed.true))
 
--- src/byte.rt:28:13
-pub overflow_add-line : goal.overflow_add-line
-overflow_add-line c = ?
-
--- src/byte.rt:23:5
 pub loop-i-preserved : goal.loop-i-preserved
-loop-i-preserved c = ?
+loop-i-preserved c = let s = c.args.text.now in
+    let ok = sym c.is_allowed.ensures ∙ c.if-not-is_allowed.false in
+    (elim c.if-b-eq10.branch [ then-b-eq10 w ↦ (omega arith, c.loop-i.invariant.1 ∙ bad-later c.loop-i.line s c.loop-i.i c.if-b-eq10.line (omega arith) ok (line-lf _ _ _ w.if-b-eq10.true w.line-is)) | else-b-eq10 w ↦ (omega arith, c.loop-i.invariant.1 ∙ bad-later c.loop-i.line s c.loop-i.i c.if-b-eq10.line (omega arith) ok (line_on _ _ _ w.if-b-eq10.false w.line-is)) ])
 
--- src/byte.rt:19:1
 pub returns : goal.returns
-returns c = ?
+returns c = sym (c.loop-i.invariant.1 ∙ bad-none _ c.args.text.now c.loop-i.i (omega arith))

@@ -1,7 +1,19 @@
-use Rattle.std.proofs.Common.{rules, ◌≡◌, drop, get_or, ◌+◌, ℕ, ◌-◌, ◌*◌, ◌<◌, ◌≤◌, length, ◌/◌, ◌%◌, Bool, true, false, nat_eq, nat_lt, List, [], ◌∷◌, ◌++◌, slice_set, bit_and, bit_or, Fits, w8, w32, w64, Bor, MutBor}
-use Rattle.fields.specs.Bytes.{allowed, bad_byte, same_bytes, lf_next}
+-- `fields::byte::same_bytes` meets its contract: it is the library's equality of bytes. Assumes nothing.
+use mathlib.Core.Path.{◌≡◌, refl, sym, ap, ◌∙◌}
+use mathlib.Core.Bool.{◌&&◌}
+use mathlib.Core.List.{List, [], ◌∷◌}
+use Prim.Native.Nat.{ℕ}
+use lib.Dec.{eqb}
+use Rattle.std.specs.Str.{bytes_eq}
+use Rattle.fields.specs.Bytes.{same_bytes}
 use Rattle.fields.proofs.byte.same_bytes.Goals as goal
 
--- src/byte.rt:34:1
+same : (a b : List ℕ) → bytes_eq a b ≡ same_bytes a b
+unfolding same_bytes
+same [] [] = refl
+same [] (y ∷ b) = refl
+same (x ∷ a) [] = refl
+same (x ∷ a) (y ∷ b) = ap (λ t. eqb x y && t) (same a b)
+
 pub returns : goal.returns
-returns c = ?
+returns c = c.eq.ensures ∙ same c.args.a.now c.args.b.now

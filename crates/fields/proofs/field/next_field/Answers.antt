@@ -21,4 +21,4 @@ pub returns-then-l-a : goal.returns-then-l-a
 returns-then-l-a c = field-none _ _ _ c.past_gaps-a.ensures c.if-l-a.true
 
 pub returns : goal.returns
-returns c = field-some _ _ _ _ c.past_gaps-a.ensures c.if-l-a.false c.past_run-e.ensures
+returns c = field-some _ _ _ _ c.past_gaps-a.ensures c.if-l-a.false c.past_run.ensures

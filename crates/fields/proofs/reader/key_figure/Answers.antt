@@ -1,11 +1,11 @@
-use Rattle.std.proofs.Common.{rules, ◌≡◌, ℕ, ◌+◌, ◌-◌, ◌*◌, ◌<◌, ◌≤◌, length, ◌/◌, ◌%◌, Bool, true, false, nat_eq, nat_lt, List, [], ◌∷◌, ◌++◌, slice_index_or, slice_set, bit_and, bit_or, Fits, w8, w32, w64, Bor, MutBor}
-use Rattle.fields.specs.Readers.{word_answer, number_answer, key_number_answer}
+-- `fields::reader::key_figure` meets its contract. The definition goes on behind the keyword as the code does. Assumes nothing.
+use mathlib.Core.Path.{◌∙◌}
+use Rattle.std.proofs.lemmas.Result.{err_from_is_err_and}
+use Rattle.fields.proofs.PlaceAnswerLaws.{key-number-no, key-number-past}
 use Rattle.fields.proofs.reader.key_figure.Goals as goal
 
--- src/reader.rt:35:13
 pub returns-in_err-e : goal.returns-in_err-e
-returns-in_err-e c = ?
+returns-in_err-e c = let p = err_from_is_err_and c.from_residual.result c.from_residual.ensures.1 in rw (p.1, p.2) (key-number-no _ _ c.args.w.now c.args.low c.args.high _ c.in_err-e.ensures)
 
--- src/reader.rt:32:1
 pub returns : goal.returns
-returns c = ?
+returns c = c.figure_at.ensures ∙ key-number-past _ _ _ _ _ _ c.in_ok-e.ensures
