@@ -76,7 +76,13 @@ fn lengths_at(l: &[u8], from: usize, n: usize) -> Result<([FlipFlops; CHAINS_MAX
 }
 
 // The s lengths from a place on, to the line's end, behind the module's level and its terminals.
-fn lengths_to_end(l: &[u8], at: usize, s: usize, level: u32, terminals: Terminals) -> Result<Shape, Fault>
+fn lengths_to_end(
+    l: &[u8],
+    at: usize,
+    s: usize,
+    level: u32,
+    terminals: Terminals,
+) -> Result<Shape, Fault>
     requires { s ≤ chains_max }
     ensures { result ≡ whole (lengths_part s level terminals) (fields_of (drop at l.now)) }
 {

@@ -31,9 +31,9 @@ power-more true (f ∷ fs) e h = refl
 
 pub returns-then-not-power : goal.returns-then-not-power
 returns-then-not-power c = elim c.then-not-power.branch [
-      then-not-power-via-then-not-power w ↦ sym (power-off c.args.power _ w.if-not-power.true)
-    | then-not-power-via-else-not-power+then-is_blank w ↦ sym (power-end c.args.power _ (sym w.is_blank.ensures ∙ w.if-is_blank.true))
-    ]
+  | then-not-power-via-then-not-power w ↦ sym (power-off c.args.power _ w.if-not-power.true)
+  | then-not-power-via-else-not-power+then-is_blank w ↦ sym (power-end c.args.power _ (sym w.is_blank.ensures ∙ w.if-is_blank.true))
+]
 
 pub returns : goal.returns
 returns c = c.key_given.ensures ∙ sym (power-more c.args.power _ c.if-not-power.false (sym c.is_blank.ensures ∙ c.if-is_blank.false))
