@@ -67,16 +67,22 @@ fn lengths_at(l: &[u8], from: usize, n: usize) -> Result<([FlipFlops; CHAINS_MAX
 {
     let mut lengths = [FlipFlops(0); CHAINS_MAX];
     let mut at = from;
-    for length in lengths[..n].iter_mut() {
+    for place in lengths[..n].iter_mut() {
         let (v, e) = fields::figure_at(l, at, 1, LENGTH_MAX)?;
-        *length = FlipFlops(v as u32);
+        *place = FlipFlops(v as u32);
         at = e;
     }
     Ok((lengths, at))
 }
 
 // The s lengths from a place on, to the line's end, behind the module's level and its terminals.
-fn lengths_to_end(l: &[u8], at: usize, s: usize, level: u32, terminals: Terminals) -> Result<Shape, Fault>
+fn lengths_to_end(
+    l: &[u8],
+    at: usize,
+    s: usize,
+    level: u32,
+    terminals: Terminals,
+) -> Result<Shape, Fault>
     requires { s ≤ chains_max }
     ensures { result ≡ whole (lengths_part s level terminals) (fields_of (drop at l.now)) }
 {
