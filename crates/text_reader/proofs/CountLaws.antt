@@ -8,7 +8,9 @@ use Rattle.fields.specs.Lines.{Line}
 use Rattle.fields.specs.Readers.{Got, no, got, Reads, Reader, after}
 use Rattle.soc.specs.Limits.{modules_max, tests_max}
 use Rattle.soc.specs.Record.{not_given}
-use Rattle.text_lines.specs.Kinds.{SecondLine, Tests, Position, total_line, second_line, tests_line}
+use Rattle.text_lines.specs.Kinds.{total_line, second_line, tests_line}
+use Rattle.text_lines.specs.declared.second.SecondLine.{SecondLine}
+use Rattle.text_lines.specs.declared.second.SecondLine.TheVariants.{Tests, Position}
 use Rattle.std.specs.Prelude.{Result, Ok, Err}
 use Rattle.units.specs.declared.Fault.{Fault}
 use Rattle.text_lines.specs.Parts.{whole}

@@ -19,7 +19,12 @@ use Rattle.std.specs.Prelude.{Result, Ok, Err}
 use Rattle.units.specs.declared.Fault.{Fault}
 use Rattle.units.specs.declared.Fault.TheVariants.{WrongForm, BrokenRule}
 use Rattle.text_lines.specs.Parts.{closed, whole, due, due_is}
-use Rattle.text_lines.specs.Kinds.{Name, Options, Shape, SecondLine, Tests, Position, name_line, total_line, options_line}
+use Rattle.text_lines.specs.Kinds.{name_line, total_line, options_line}
+use Rattle.text_lines.specs.declared.head.Name.{Name}
+use Rattle.text_lines.specs.declared.head.Options.{Options}
+use Rattle.text_lines.specs.declared.level.Shape.{Shape}
+use Rattle.text_lines.specs.declared.second.SecondLine.{SecondLine}
+use Rattle.text_lines.specs.declared.second.SecondLine.TheVariants.{Tests, Position}
 use Rattle.text_lines.specs.Kinds.{module_due, level, level_line, second_line, tests_line, test_due, test_line}
 use Rattle.text_reader.specs.Lines.{LinesRead, judged, line}
 use Rattle.text_reader.specs.declared.block.Body.{Body}

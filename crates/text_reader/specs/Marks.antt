@@ -10,7 +10,8 @@ use Rattle.units.specs.Places.{padded}
 use Rattle.units.specs.declared.Refusal.{Refusal}
 use Rattle.text_line_reader.specs.Due.{place_at, lines_at, Inside}
 use Rattle.text_line_reader.specs.declared.place.Place.{Place}
-use Rattle.text_lines.specs.Kinds.{Options, module_due}
+use Rattle.text_lines.specs.Kinds.{module_due}
+use Rattle.text_lines.specs.declared.head.Options.{Options}
 use Rattle.text_reader.specs.Lines.{LinesReader}
 use Rattle.text_reader.specs.Reading.{modules, answer, read_soc}
 use Rattle.text_reader.specs.declared.marks.Marks.{Marks}

@@ -12,7 +12,12 @@ use Rattle.soc.specs.Record.{not_given, no_test, no_module}
 use Rattle.soc.specs.declared.record.Test.{Test}
 use Rattle.soc.specs.declared.record.Module.{Module}
 use Rattle.soc.specs.declared.record.Soc.{Soc}
-use Rattle.text_lines.specs.Kinds.{Name, Options, Shape, SecondLine, Tests, Position, name_line, total_line, options_line, level_line, second_line, tests_line, test_line}
+use Rattle.text_lines.specs.Kinds.{name_line, total_line, options_line, level_line, second_line, tests_line, test_line}
+use Rattle.text_lines.specs.declared.head.Name.{Name}
+use Rattle.text_lines.specs.declared.head.Options.{Options}
+use Rattle.text_lines.specs.declared.level.Shape.{Shape}
+use Rattle.text_lines.specs.declared.second.SecondLine.{SecondLine}
+use Rattle.text_lines.specs.declared.second.SecondLine.TheVariants.{Tests, Position}
 use Rattle.text_reader.specs.Lines.{LinesRead, LinesReader, line, no_more}
 use Rattle.text_reader.specs.declared.block.Body.{Body}
 

@@ -27,6 +27,7 @@ pub fn due(text: &[u8], p: Place) -> Result<DueLine, Refusal>
 }
 
 // What a line's reader answers, as a step: with the place behind the line, or with its number.
+#[tactic(auto, unfolding(crate::specs::Steps::taken))]
 pub fn taken<T>(read: Result<T, Fault>, l: DueLine) -> Result<(T, Place), Refusal>
     ensures { result ≡ taken read l }
 {
