@@ -109,13 +109,14 @@ fn module_tests(
     ensures { StepMeans text.now result (module_tests o m shape body (lines_at text.now p)) }
 {
     let (tests, behind) = tests_step(text, p, m, body.tests, o.power)?;
+    let chains = shape.chains.lengths;
     let module = Module {
         level: shape.level,
         inputs: shape.terminals.inputs,
         outputs: shape.terminals.outputs,
         bidirs: shape.terminals.bidirs,
         chain_count: shape.chains.count,
-        chains: shape.chains.lengths,
+        chains,
         x: body.x,
         y: body.y,
         test_count: body.tests,

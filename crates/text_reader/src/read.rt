@@ -67,13 +67,15 @@ fn modules_to_end(
     if let Some(l) = due_line(text, behind) {
         return Err(Refusal::at(Fault::WrongForm, l.number));
     }
+    let bytes = name.bytes;
+    let modules = read.modules;
     let soc = Soc {
         name_len: name.len,
-        name: name.bytes,
+        name: bytes,
         power: o.power,
         xy: o.xy,
         module_count: n,
-        modules: read.modules,
+        modules,
     };
     Ok(SocMarked {
         soc,
