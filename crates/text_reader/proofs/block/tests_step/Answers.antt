@@ -37,8 +37,7 @@ returns-in_err-test c =
 
 pub loop-i-preserved : goal.loop-i-preserved
 loop-i-preserved c = let v = c.in_ok-test.test in
-    let h : c.loop-i.i < length c.loop-i.list = omega arith in
-    (
+    let h : c.loop-i.i < length c.loop-i.list = omega arith in (
       simp length-set c.loop-i.invariant.0,
       c.in_ok-test.ensures.inside,
       spare-set 8 no_test c.loop-i.list c.loop-i.i c.loop-i.invariant.2 v (omega arith),

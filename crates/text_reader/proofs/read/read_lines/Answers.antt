@@ -1,14 +1,28 @@
-use Rattle.std.proofs.Common.{rules, ◌≡◌, ◌≤◌, ℕ, ◌+◌, ◌-◌, ◌*◌, ◌<◌, length, ◌/◌, ◌%◌, Bool, true, false, nat_eq, nat_lt, List, [], ◌∷◌, ◌++◌, slice_index_or, slice_set, bit_and, bit_or, Fits, w8, w32, w64, Bor, MutBor}
-use Rattle.soc.specs.Limits.{modules_max}
-use Rattle.text_reader.specs.Reading.{rest, behind_name, soc, read_soc}
-use Rattle.text_line_reader.specs.Due.{Inside, place_at}
-use Rattle.text_reader.specs.Marks.{ModulesMean, ReadsMarked, TextMarked}
+-- `text_reader::read::read_lines` meets its contract. The definition goes on behind the first line as the code does. Assumes nothing.
+use native.Mathlib.Omega.{arith}
+use mathlib.Core.Path.{◌≡◌, sym, ap}
+use Rattle.std.proofs.lemmas.Result.{err_from_is_err_and}
+use Rattle.fields.proofs.ReaderLaws.{after-no, after-got}
+use Rattle.text_lines.specs.Kinds.{name_line}
+use Rattle.text_reader.specs.Reading.{soc, answer}
+use Rattle.text_reader.proofs.LinesOfLaws.{name_other}
+use Rattle.text_reader.proofs.MarkLaws.{refused_marked, marked_behind}
+use Rattle.text_reader.proofs.StepLaws.{step_no, step_got}
 use Rattle.text_reader.proofs.read.read_lines.Goals as goal
 
--- src/read.rt:99:24
-pub returns-in_err-name : goal.returns-in_err-name
-returns-in_err-name c = ?
+pub name_step-requires : goal.name_step-requires
+name_step-requires c = record { at = omega arith; line = omega arith }
 
--- src/read.rt:96:1
+pub read_behind_name-requires : goal.read_behind_name-requires
+read_behind_name-requires c = c.in_ok-name.ensures.inside
+
+pub returns-in_err-name : goal.returns-in_err-name
+unfolding soc answer
+returns-in_err-name c =
+    let p = err_from_is_err_and c.from_residual.result c.from_residual.ensures.1 in
+    rw (p.1, p.2) (refused_marked _ _ _ _ _ (sym (ap answer (after-no _ _ _ (step_no c.in_err-name.ensures)))))
+
 pub returns : goal.returns
-returns c = ?
+unfolding soc
+returns c = let n = step_got c.in_ok-name.ensures in
+    marked_behind _ _ name_line _ _ _ n (λ l w. name_other _ l _ w) _ _ _ (sym (ap answer (after-got _ _ _ _ n))) c.read_behind_name.ensures

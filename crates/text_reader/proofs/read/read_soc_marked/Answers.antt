@@ -1,18 +1,29 @@
-use Rattle.std.proofs.Common.{rules, ◌≡◌, ◌≤◌, ℕ, ◌+◌, ◌-◌, ◌*◌, ◌<◌, length, ◌/◌, ◌%◌, Bool, true, false, nat_eq, nat_lt, List, [], ◌∷◌, ◌++◌, slice_index_or, slice_set, bit_and, bit_or, Fits, w8, w32, w64, Bor, MutBor}
-use Rattle.soc.specs.Limits.{modules_max}
-use Rattle.text_reader.specs.Reading.{rest, behind_name, soc, read_soc}
-use Rattle.text_line_reader.specs.Due.{Inside, place_at}
-use Rattle.text_reader.specs.Marks.{ModulesMean, ReadsMarked, TextMarked}
+-- `text_reader::read::read_soc_marked` meets its contract: the text is too long, or has a byte that is not allowed, or is read line by line.
+-- Assumes nothing.
+use borrow.Author.Tests.{le-leb, lt-leb}
+use native.Mathlib.Omega.{arith}
+use Prim.Native.Nat.{◌≤◌}
+use mathlib.Core.Path.{sym, ap, ◌∙◌}
+use lib.ListN.{length}
+use Rattle.std.specs.Prelude.{Err}
+use Rattle.soc.specs.Limits.{text_max}
+use Rattle.text_reader.specs.Reading.{unless_bad, read_soc}
+use Rattle.text_reader.proofs.MarkLaws.{refused_marked}
 use Rattle.text_reader.proofs.read.read_soc_marked.Goals as goal
 
--- src/read.rt:108:9
 pub returns-then-text-gt-TEXT_MAX : goal.returns-then-text-gt-TEXT_MAX
-returns-then-text-gt-TEXT_MAX c = ?
+unfolding read_soc
+returns-then-text-gt-TEXT_MAX c = let t = c.args.text.now in
+    rw (lt-leb (length t) text_max c.if-text-gt-TEXT_MAX.true) (refused_marked _ _ _ _ _ (ap Err c.at.ensures))
 
--- src/read.rt:111:9
 pub returns-in-Some : goal.returns-in-Some
-returns-in-Some c = ?
+unfolding read_soc unless_bad
+returns-in-Some c = let t = c.args.text.now in
+    let short : length t ≤ text_max = omega arith in
+    rw (le-leb (length t) text_max short, sym c.bad_byte.ensures ∙ c.in-Some.is) (refused_marked _ _ _ _ _ (ap Err c.at-in-Some.ensures))
 
--- src/read.rt:104:1
 pub returns : goal.returns
-returns c = ?
+unfolding read_soc unless_bad
+returns c = let t = c.args.text.now in
+    let short : length t ≤ text_max = omega arith in
+    rw (le-leb (length t) text_max short, sym c.bad_byte.ensures ∙ c.in_default.is) c.read_lines.ensures
