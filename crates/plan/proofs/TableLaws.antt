@@ -8,7 +8,7 @@ use mathlib.Core.List.{List, [], ◌∷◌, Memᴰ}
 use native.Mathlib.Omega.{arith}
 use borrow.Author.Count.{below_more}
 use lib.ListN.{length, get_or, take, replicate, length-take}
-use Rattle.std.specs.Prelude.{Result, Ok}
+use Rattle.std.specs.Prelude.{Ok}
 use Rattle.soc.specs.Record.{modules_of}
 use Rattle.soc.specs.Planned.{is_planned, planned_from, planned_of, planned_is}
 use Rattle.soc.specs.declared.planned.Planned.{Planned}

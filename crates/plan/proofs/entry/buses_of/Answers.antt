@@ -2,7 +2,7 @@
 use native.Mathlib.Omega.{arith}
 use Prim.Native.Nat.{◌<◌}
 use mathlib.Core.Path.{◌≡◌, sym, ◌∙◌}
-use lib.ListN.{length, get_or, take, length-take}
+use lib.ListN.{get_or, take, length-take}
 use lib.Seq.{get_or-take}
 use Rattle.units.proofs.PlaceLaws.{padded-none}
 use Rattle.plan_search.specs.Search.{table_time}
@@ -22,11 +22,6 @@ pub loop-b-init : goal.loop-b-init
 loop-b-init c = let a = c.args in
     let none = front-none (table_time a.table.now) (take a.n a.f.buses) a.f.widths in
     rw (c.no_bus-list.ensures, none) (sym (padded-none bus_places no_bus))
-
-pub busy_of-requires : goal.busy_of-requires
-busy_of-requires c = let i = (goal.at.busy_of-requires c).In-loop-b in
-    let w = c.requires.1.wide c.loop-b.b (below i) in
-    rw (width_is i) (c.requires.0, w.0, w.1)
 
 pub loop-b-preserved : goal.loop-b-preserved
 loop-b-preserved c = let i = (goal.at.loop-b-preserved c).In-loop-b in

@@ -1,16 +1,12 @@
 -- `plan::entry::modules_of` meets its contract: what its invariant (Invariants.antt) leaves to show. Assumes nothing.
-use borrow.Author.Rules.{rules}
 use native.Mathlib.Omega.{arith}
-use Prim.Native.Nat.{ℕ, ◌+◌, ◌-◌, ◌*◌, ◌≤◌, ◌<◌}
+use Prim.Native.Nat.{◌<◌}
 use mathlib.Core.Path.{◌≡◌, sym, ◌∙◌}
-use lib.ListN.{length, get_or, take, length-take}
+use lib.ListN.{get_or, take, length-take}
 use lib.Seq.{get_or-take}
 use Rattle.units.proofs.PlaceLaws.{padded-none}
 use Rattle.plan_record.specs.Record.{module_places, no_placed}
-use Rattle.wrapper_fit.specs.Maxima.{width_max}
-use Rattle.plan_search.specs.Search.{row_places}
-use Rattle.plan.specs.Tables.{table_places}
-use Rattle.plan.proofs.EntryLaws.{cycles_of_lem, times-fewer, placed-none, placed_fill, placed-all}
+use Rattle.plan.proofs.EntryLaws.{cycles_of_lem, placed-none, placed_fill, placed-all}
 use Rattle.plan.proofs.entry.modules_of.Goals as goal
 use Rattle.plan.proofs.entry.modules_of.Goals.{In-loop-i}
 

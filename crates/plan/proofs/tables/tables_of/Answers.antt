@@ -1,15 +1,14 @@
 -- `plan::tables::tables_of` meets its contract: the numbers in use are those of the planned modules (`numbers_are`), each is the number of a module, so
 -- its times are answered, and they make the tables one row longer (`tables_more`). Assumes nothing.
-use Prim.Native.Nat.{ℕ, ◌<◌}
-use mathlib.Core.Path.{◌≡◌, sym, ap, ◌∙◌}
+use Prim.Native.Nat.{◌<◌}
+use mathlib.Core.Path.{◌≡◌, sym, ◌∙◌}
 use native.Mathlib.Omega.{arith}
 use lib.ListN.{length, get_or, take}
 use Rattle.std.specs.Prelude.{Ok}
 use Rattle.soc.specs.Planned.{planned_of}
 use Rattle.wrapper_scans.proofs.KeptLaws.{good-count}
-use Rattle.wrapper_times.specs.TimeAnswers.{module_times_answer, times_of}
+use Rattle.wrapper_times.specs.TimeAnswers.{module_times_answer}
 use Rattle.wrapper_times.proofs.PromisedTimes.{times-are}
-use Rattle.plan.specs.PlanAnswers.{planned_module}
 use Rattle.plan.proofs.TableLaws.{planned-number, numbers_are, tables_none, tables_more}
 use Rattle.plan.proofs.tables.tables_of.Goals as goal
 use Rattle.plan.proofs.tables.tables_of.Goals.{In-loop-k}

@@ -4,7 +4,6 @@ use Prim.Native.Nat.{ℕ, ◌+◌, ◌*◌, ◌<◌}
 use mathlib.Core.Path.{◌≡◌, refl, ◌∙◌}
 use mathlib.Core.List.{List}
 use native.Mathlib.Omega.{arith}
-use borrow.Author.Rules.{rules}
 use lib.Seq.{get_or-set_same, get_or-set_other}
 use lib.ListN.{length, length-set, get_or, set}
 use Rattle.plan_search.specs.Search.{row_places}
@@ -29,23 +28,8 @@ module _ {A : Type 0} {f : A → ℕ} {z : A} {at : ℕ} {xs : List A} {old : Li
         behind = λ i h. get_or-set_other new (at + j) i v 0 (λ e. omega arith) ∙ s.behind i (omega arith);
       }
 
-pub loop-j-init : goal.loop-j-init
-loop-j-init c = (stands-none (search rules), stands-none (search rules))
-
 pub loop-j-preserved : goal.loop-j-preserved
 loop-j-preserved c = let i = c.loop-j.invariant in
     let at = c.args.k * row_places + c.loop-j.j in
     let m : at < table_places = omega arith in
     (stands_more m i.0, stands_more m i.1)
-
-pub returns : goal.returns
-returns c = let i = c.loop-j.invariant in
-    let e : c.loop-j.j ≡ row_places = omega arith in
-    let x = rw e at i.0 in
-    let y = rw e at i.1 in
-    record {
-      cycles_here = x.here;
-      wires_here = y.here;
-      cycles_else = λ j. (x.front j, x.behind j);
-      wires_else = λ j. (y.front j, y.behind j);
-    }
