@@ -9,8 +9,12 @@ use borrow.Author.Tests.{leb-true, le-leb}
 use lib.ListN.{length, get_or, drop, length-take, length-drop}
 use lib.Seq.{get_or-take}
 use lib.Dec.{leb}
-use Rattle.units.specs.Refusals.{accepted}
-use Rattle.units.proofs.TestLaws.{and_both}
+use Rattle.std.specs.Prelude.{Result, Ok, Err}
+use Rattle.units.specs.Refusals.{number_of, refused}
+use Rattle.units.specs.declared.Fault.{Fault}
+use Rattle.units.specs.declared.Fault.TheVariants.{Width, Buses, NonePlanned, ManyPlanned, BadSoc, Capture}
+use Rattle.units.specs.declared.Refusal.{Refusal}
+use Rattle.units.proofs.TestLaws.{clash, and_both}
 use Rattle.soc.specs.Limits.{modules_max}
 use Rattle.soc.specs.Record.{no_module, modules_of}
 use Rattle.soc.specs.Rules.{good_soc}
@@ -23,10 +27,10 @@ use Rattle.wrapper_fit.specs.Maxima.{module_time_max, width_max, capture_max}
 use Rattle.wrapper_times.proofs.BestLaws.{time-wires}
 use Rattle.wrapper_times.proofs.PromisedTimes.{time-most, time-some}
 use Rattle.plan_record.specs.Record.{bus_places, module_places}
+use Rattle.plan_record.specs.declared.record.BusPlan.{BusPlan}
 use Rattle.plan_record.specs.Good.{ascending_from, good_plan}
 use Rattle.plan_record.proofs.RecordLaws.{Recordable, record_good}
-use Rattle.plan.specs.PlanAnswers.{limit_max, planned_max, planned_module, time_in, wires_in, best_for, record_of, refused_plan, plan_answer}
-use Rattle.plan.specs.declared.answer.PlanAnswer.{PlanAnswer}
+use Rattle.plan.specs.PlanAnswers.{limit_max, planned_max, planned_module, time_in, wires_in, best_for, record_of, plan_answer}
 use Rattle.plan.proofs.TableLaws.{planned-number}
 use Rattle.plan_rules.specs.Plans.{Plan, IsPlan, time_of}
 use Rattle.plan_rules.specs.First.{IsFirst}
@@ -126,7 +130,7 @@ module _ (c : ℕ) (first : 1 ≤ c) (last : c ≤ capture_max) (s : Soc) (W B :
   planner_good few most = plan-good (omega arith) (omega arith) (best_for c s W B) (best_for-first c s W B low limit).is_plan
 
 -- what the planner answers where it refuses nothing: the limits hold, and the plan is the best one's record
-pub record Answered (s : Soc) (W B c : ℕ) (a : PlanAnswer) : Type 0 where
+pub record Answered (s : Soc) (W B c : ℕ) (a : BusPlan) : Type 0 where
   pub good : good_soc s ≡ true
   pub low : 1 ≤ W
   pub narrow : W ≤ width_max
@@ -136,28 +140,29 @@ pub record Answered (s : Soc) (W B c : ℕ) (a : PlanAnswer) : Type 0 where
   pub last : c ≤ capture_max
   pub some : 1 ≤ length (planned_of s)
   pub most : length (planned_of s) ≤ planned_max
-  pub is : a.plan ≡ record_of c s W B (best_for c s W B)
+  pub is : a ≡ record_of c s W B (best_for c s W B)
 
-pub answered : (s : Soc) (W B c : ℕ) → (plan_answer s W B c).refusal.number ≡ 0 → Answered s W B c (plan_answer s W B c)
+-- what is said, by what each test says
+abbrev said_by : BusPlan → Bool → Bool → Bool → Bool → Bool → Bool → Result BusPlan Refusal
+said_by found v w x u y z =
+    let no : Fault → Result BusPlan Refusal = λ f. Err (refused f 0) in
+    cond v (cond w (cond x (cond u (cond y (cond z (Ok found) (no ManyPlanned)) (no NonePlanned)) (no Capture)) (no Buses)) (no Width)) (no BadSoc)
+
+pub answered : (s : Soc) (W B c : ℕ) {a : BusPlan} → plan_answer s W B c ≡ Ok a → Answered s W B c a
 unfolding plan_answer
-answered s W B c e =
+answered s W B c {a} e =
     go (good_soc s) (leb 1 W && leb W width_max) (leb 1 B && leb B limit_max) (leb 1 c && leb c capture_max) (leb 1 (length (planned_of s)))
     (leb (length (planned_of s)) planned_max) refl refl refl refl refl refl e
   where
-    found : PlanAnswer
-    found = record { refusal = accepted; plan = record_of c s W B (best_for c s W B) }
-
     go : (v w x u y z : Bool) → good_soc s ≡ v → (leb 1 W && leb W width_max) ≡ w → (leb 1 B && leb B limit_max) ≡ x
-        → (leb 1 c && leb c capture_max) ≡ u → leb 1 (length (planned_of s)) ≡ y → leb (length (planned_of s)) planned_max ≡ z →
-        let planned = cond y (cond z found (refused_plan 10)) (refused_plan 9) in
-        let a = cond v (cond w (cond x (cond u planned (refused_plan 16)) (refused_plan 8)) (refused_plan 7)) (refused_plan 14) in
-        a.refusal.number ≡ 0 → Answered s W B c a
-    go true true true true true true a b l k d e h =
+        → (leb 1 c && leb c capture_max) ≡ u → leb 1 (length (planned_of s)) ≡ y → leb (length (planned_of s)) planned_max ≡ z
+        → said_by (record_of c s W B (best_for c s W B)) v w x u y z ≡ Ok a → Answered s W B c a
+    go true true true true true true g b l k d e h =
         let w = and_both (leb 1 W) (leb W width_max) b in
         let l = and_both (leb 1 B) (leb B limit_max) l in
         let k = and_both (leb 1 c) (leb c capture_max) k in
         record {
-          good = a;
+          good = g;
           low = leb-true 1 W w.0;
           narrow = leb-true W width_max w.1;
           limit = leb-true 1 B l.0;
@@ -166,44 +171,40 @@ answered s W B c e =
           last = leb-true c capture_max k.1;
           some = leb-true 1 _ d;
           most = leb-true _ planned_max e;
-          is = refl;
+          is = cc;
         }
-    go true true true true true false a b l k d e h = let no : ⊥ = omega arith in absurd no
-    go true true true true false z a b l k d e h = let no : ⊥ = omega arith in absurd no
-    go true true true false y z a b l k d e h = let no : ⊥ = omega arith in absurd no
-    go true true false u y z a b l k d e h = let no : ⊥ = omega arith in absurd no
-    go true false x u y z a b l k d e h = let no : ⊥ = omega arith in absurd no
-    go false w x u y z a b l k d e h = let no : ⊥ = omega arith in absurd no
+    go true true true true true false g b l k d e h = clash cc
+    go true true true true false z g b l k d e h = clash cc
+    go true true true false y z g b l k d e h = clash cc
+    go true true false u y z g b l k d e h = clash cc
+    go true false x u y z g b l k d e h = clash cc
+    go false w x u y z g b l k d e h = clash cc
 
 -- an answer that is not refused is a good plan of a good record
-module _ (s : Soc) (W B c : ℕ) (a : PlanAnswer) (e : a ≡ plan_answer s W B c) (h : a.refusal.number ≡ 0) where
-  pub planner_answers_good : good_plan a.plan ≡ true
+module _ (s : Soc) (W B c : ℕ) {a : BusPlan} (e : plan_answer s W B c ≡ Ok a) where
+  pub planner_answers_good : good_plan a ≡ true
   planner_answers_good =
-      let r = answered s W B c (rw e at h) in
-      rw (e, r.is)
-      (planner_good c r.first r.last s W B r.good r.low r.narrow r.limit r.some r.few r.most)
+      let r = answered s W B c e in
+      rw r.is (planner_good c r.first r.last s W B r.good r.low r.narrow r.limit r.some r.few r.most)
 
   pub planner_accepts_good : good_soc s ≡ true
-  planner_accepts_good = (answered s W B c (rw e at h)).good
+  planner_accepts_good = (answered s W B c e).good
 
--- a refusal has no line
-pub answer_told : (s : Soc) (W B c : ℕ) → ((plan_answer s W B c).refusal.number ≤ 16) × ((plan_answer s W B c).refusal.line ≡ 0)
+-- each refusal is one of document 01 or 16, and has no line
+pub answer_told : (s : Soc) (W B c : ℕ) {r : Refusal} → plan_answer s W B c ≡ Err r → (number_of r.fault ≤ 16) × (r.line ≡ 0)
 unfolding plan_answer
-answer_told s W B c =
+answer_told s W B c {r} e =
     go (good_soc s) (leb 1 W && leb W width_max) (leb 1 B && leb B limit_max) (leb 1 c && leb c capture_max) (leb 1 (length (planned_of s)))
-    (leb (length (planned_of s)) planned_max)
+    (leb (length (planned_of s)) planned_max) e
   where
-    found : PlanAnswer
-    found = record { refusal = accepted; plan = record_of c s W B (best_for c s W B) }
+    told : (f : Fault) → number_of f ≤ 16 → ◌≡◌ {A = Result BusPlan Refusal} (Err (refused f 0)) (Err r) → (number_of r.fault ≤ 16) × (r.line ≡ 0)
+    told f h e = let is : r ≡ refused f 0 = cc in rw is (h, refl)
 
-    go : (v w x u y z : Bool) →
-        let planned = cond y (cond z found (refused_plan 10)) (refused_plan 9) in
-        let a = cond v (cond w (cond x (cond u planned (refused_plan 16)) (refused_plan 8)) (refused_plan 7)) (refused_plan 14) in
-        (a.refusal.number ≤ 16) × (a.refusal.line ≡ 0)
-    go true true true true true true = (omega arith, refl)
-    go true true true true true false = (omega arith, refl)
-    go true true true true false z = (omega arith, refl)
-    go true true true false y z = (omega arith, refl)
-    go true true false u y z = (omega arith, refl)
-    go true false x u y z = (omega arith, refl)
-    go false w x u y z = (omega arith, refl)
+    go : (v w x u y z : Bool) → said_by (record_of c s W B (best_for c s W B)) v w x u y z ≡ Err r → (number_of r.fault ≤ 16) × (r.line ≡ 0)
+    go true true true true true true e = clash cc
+    go true true true true true false e = told ManyPlanned (omega arith) e
+    go true true true true false z e = told NonePlanned (omega arith) e
+    go true true true false y z e = told Capture (omega arith) e
+    go true true false u y z e = told Buses (omega arith) e
+    go true false x u y z e = told Width (omega arith) e
+    go false w x u y z e = told BadSoc (omega arith) e

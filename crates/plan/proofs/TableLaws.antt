@@ -7,14 +7,19 @@ use mathlib.Core.Logic.{◌⊎◌, inl, inr, ⊎_elim}
 use mathlib.Core.List.{List, [], ◌∷◌, Memᴰ}
 use native.Mathlib.Omega.{arith}
 use borrow.Author.Count.{below_more}
-use lib.ListN.{length, get_or, replicate, length-take}
+use lib.ListN.{length, get_or, take, replicate, length-take}
+use Rattle.std.specs.Prelude.{Ok}
 use Rattle.soc.specs.Record.{modules_of}
-use Rattle.soc.specs.Planned.{is_planned, planned_from, planned_of}
+use Rattle.soc.specs.Planned.{is_planned, planned_from, planned_of, planned_is}
+use Rattle.soc.specs.declared.planned.Planned.{Planned}
+use Rattle.soc.specs.Limits.{modules_max}
+use Rattle.units.proofs.PlaceLaws.{padded-take}
 use Rattle.soc.specs.Rules.{good_soc}
 use Rattle.soc.specs.declared.record.Module.{Module}
 use Rattle.soc.specs.declared.record.Soc.{Soc}
 use Rattle.wrapper_fit.specs.Maxima.{width_max, capture_max}
 use Rattle.wrapper_times.specs.TimeAnswers.{module_times_answer}
+use Rattle.wrapper_times.specs.declared.times.Times.{Times}
 use Rattle.wrapper_times.proofs.BestLaws.{time-falls}
 use Rattle.wrapper_times.proofs.PromisedTimes.{time-most, times-at, wires-at, times-past}
 use Rattle.plan_rules.specs.Plans.{Plan, IsPlan, busy_from, busies, largest, time_of}
@@ -56,6 +61,10 @@ planned-number s i h =
     let b = planned_below 0 (modules_of s) i h in
     let l = length-take s.module_count s.modules in
     (omega arith, omega arith)
+
+-- and stand in the places in use
+pub numbers_are : (s : Soc) {p : Planned} → p ≡ planned_is (planned_of s) → take p.count p.numbers ≡ planned_of s
+numbers_are s e = rw e (padded-take modules_max 0 (planned_of s))
 
 -- a planned module's time is at most the limit, and does not rise with the width
 pub time-limit : (c : ℕ) (s : Soc) (i w : ℕ) → 1 ≤ c → c ≤ capture_max → good_soc s ≡ true → i < length (planned_of s) → 1 ≤ w
@@ -124,22 +133,22 @@ tables_none c s W =
 
 module _ (c : ℕ) (s : Soc) (W k : ℕ) {t r : Tables} (first : 1 ≤ c) (last : c ≤ capture_max) (good : good_soc s ≡ true)
     (h : k < length (planned_of s)) (low : 1 ≤ W) (high : W ≤ width_max)
-    (b : TimesStand t k (module_times_answer s (get_or (planned_of s) k 0) W c).times r) where
+    {times : Times} (e : module_times_answer s (get_or (planned_of s) k 0) W c ≡ Ok times) (b : TimesStand t k times r) where
   there : get_or (planned_of s) k 0 < s.module_count
   there = (planned-number s k h).0
 
   cycles_here : (w : ℕ) → 1 ≤ w → w ≤ W → get_or r.cycles (k * row_places + (w - 1)) 0 ≡ time_in c s k w
   unfolding time_in
   cycles_here w l m =
-      b.cycles_here (w - 1) (omega arith) ∙ ap (λ x. x.0) (times-at c first last s (get_or (planned_of s) k 0) good there W low high w l m)
+      b.cycles_here (w - 1) (omega arith) ∙ ap (λ x. x.0) (times-at c first last s (get_or (planned_of s) k 0) good there W low high e w l m)
 
   wires_here : (w : ℕ) → 1 ≤ w → w ≤ W → get_or r.wires (k * row_places + (w - 1)) 0 ≡ wires_in c s k w
   unfolding wires_in
   wires_here w l m =
-      b.wires_here (w - 1) (omega arith) ∙ ap (λ x. x.0) (wires-at c first last s (get_or (planned_of s) k 0) good there W low high w l m)
+      b.wires_here (w - 1) (omega arith) ∙ ap (λ x. x.0) (wires-at c first last s (get_or (planned_of s) k 0) good there W low high e w l m)
 
   past-here : (j : ℕ) → W ≤ j → j < row_places → get_or r.cycles (k * row_places + j) 0 ≡ 0
-  past-here j l m = b.cycles_here j m ∙ ap (λ x. x.0) (times-past c first last s (get_or (planned_of s) k 0) good there W low high j l)
+  past-here j l m = b.cycles_here j m ∙ ap (λ x. x.0) (times-past c first last s (get_or (planned_of s) k 0) good there W low high e j l)
 
   pub tables_more : TablesAre c s W k t → TablesAre c s W (k + 1) r
   tables_more a =

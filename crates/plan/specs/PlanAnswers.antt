@@ -1,7 +1,9 @@
 -- What the first planner answers (document 01, "The plan" and "Refusal numbers"; document 02, item 5): "Plan: 14, 7, 8, 9, 10.", where "c
 -- outside 1 to 4 is 16, after 8 for plans". "Every time, plan and bound reads with c", the capture cycles.
-use Rattle.std.specs.Prelude.{ℕ, cond, ◌&&◌, length, get_or, leb}
-use Rattle.units.specs.Refusals.{accepted, refused}
+use Rattle.std.specs.Prelude.{ℕ, cond, ◌&&◌, length, get_or, leb, Result, Ok, Err}
+use Rattle.units.specs.Refusals.{refused}
+use Rattle.units.specs.declared.Fault.TheVariants.{Width, Buses, NonePlanned, ManyPlanned, BadSoc, Capture}
+use Rattle.units.specs.declared.Refusal.{Refusal}
 use Rattle.soc.specs.Record.{no_module}
 use Rattle.soc.specs.Rules.{good_soc}
 use Rattle.soc.specs.Planned.{planned_of}
@@ -11,9 +13,8 @@ use Rattle.wrapper_fit.specs.Maxima.{width_max, capture_max}
 use Rattle.wrapper_times.specs.Times.{module_best}
 use Rattle.plan_rules.specs.Plans.{Plan}
 use Rattle.plan_rules.specs.Listed.{best_plan}
-use Rattle.plan_record.specs.Record.{no_plan, plan_record}
+use Rattle.plan_record.specs.Record.{plan_record}
 use Rattle.plan_record.specs.declared.record.BusPlan.{BusPlan}
-use Rattle.plan.specs.declared.answer.PlanAnswer.{PlanAnswer}
 
 -- "B outside 1 to 3" is 8
 abbrev pub limit_max : ℕ
@@ -42,10 +43,7 @@ best_for c s W B = best_plan (time_in c s) W B (length (planned_of s))
 abbrev pub record_of : ℕ → Soc → ℕ → ℕ → Plan → BusPlan
 record_of c s W B p = plan_record (planned_of s) (time_in c s) (wires_in c s) W B p
 
-abbrev pub refused_plan : ℕ → PlanAnswer
-refused_plan n = record { refusal = refused n 0; plan = no_plan }
-
-unfoldable pub plan_answer : Soc → ℕ → ℕ → ℕ → PlanAnswer
+unfoldable pub plan_answer : Soc → ℕ → ℕ → ℕ → Result BusPlan Refusal
 plan_answer s W B c =
     cond (good_soc s)
     (cond (leb 1 W && leb W width_max)
@@ -53,10 +51,10 @@ plan_answer s W B c =
     (cond (leb 1 c && leb c capture_max)
     (cond (leb 1 (length (planned_of s)))
     (cond (leb (length (planned_of s)) planned_max)
-    (record { refusal = accepted; plan = record_of c s W B (best_for c s W B) })
-    (refused_plan 10))
-    (refused_plan 9))
-    (refused_plan 16))
-    (refused_plan 8))
-    (refused_plan 7))
-    (refused_plan 14)
+    (Ok (record_of c s W B (best_for c s W B)))
+    (Err (refused ManyPlanned 0)))
+    (Err (refused NonePlanned 0)))
+    (Err (refused Capture 0)))
+    (Err (refused Buses 0)))
+    (Err (refused Width 0)))
+    (Err (refused BadSoc 0))

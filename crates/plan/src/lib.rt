@@ -1,12 +1,10 @@
 // The first planner (document 01, "The plan"): the first plan of least time.
 #![tactic(auto)]
 
-mod answer;
 mod entry;
 mod limits;
 mod tables;
 
-pub use answer::PlanAnswer;
 pub use entry::{plan, record_of};
 pub use limits::{LIMIT_MAX, PLANNED_MAX};
 pub use tables::{Tables, tables_of};

@@ -8,7 +8,7 @@ use super::limits::TABLE_PLACES;
 use plan_search::ROW_PLACES;
 use soc::{Planned, Soc};
 use units::{CaptureCycles, Wires};
-use wrapper_times::Times;
+use wrapper_times::{Times, module_times};
 
 // A row of places for each planned module, with a place for each width.
 #[derive(Clone, Copy)]
@@ -18,21 +18,15 @@ pub struct Tables {
 }
 
 // The tables with the times of the planned module k.
-fn with_times(t: Tables, k: usize, times: Times) -> Tables
+fn with_times(mut t: Tables, k: usize, times: Times) -> Tables
     requires { k < module_places }
     ensures { TimesStand t k times result }
 {
-    let mut cycles = t.cycles;
-    let mut wires = t.wires;
-    let mut j: usize = 0;
-    while j < ROW_PLACES {
-        let c = times.cycles[j];
-        let v = times.wires[j];
-        cycles[k * ROW_PLACES + j] = c.0;
-        wires[k * ROW_PLACES + j] = v.0;
-        j += 1;
+    for j in 0..ROW_PLACES {
+        t.cycles[k * ROW_PLACES + j] = times.cycles[j].0;
+        t.wires[k * ROW_PLACES + j] = times.wires[j].0;
     }
-    Tables { cycles, wires }
+    t
 }
 
 pub fn tables_of(s: Soc, p: Planned, w: Wires, capture: CaptureCycles) -> Tables
@@ -43,14 +37,9 @@ pub fn tables_of(s: Soc, p: Planned, w: Wires, capture: CaptureCycles) -> Tables
         cycles: [0u64; TABLE_PLACES],
         wires: [0u32; TABLE_PLACES],
     };
-    let n = p.count;
-    let mut k: usize = 0;
-    while k < n {
-        let number = p.numbers[k];
-        let read = wrapper_times::module_times(s, number as u32, w, capture);
-        let times = read.times;
+    for (k, number) in p.numbers[..p.count].iter().enumerate() {
+        let times = module_times(s, *number as u32, w, capture).unwrap();
         t = with_times(t, k, times);
-        k += 1;
     }
     t
 }

@@ -7,6 +7,9 @@ use mathlib.Core.List.{List, [], ◌∷◌}
 use native.Mathlib.Omega.{arith}
 use native.Mathlib.Nat.{add-mul, one-mul, mul-le-mul_right}
 use lib.Dec.{leb, ltb}
+use Rattle.std.specs.Prelude.{Ok}
+use Rattle.units.specs.declared.Fault.{Fault}
+use Rattle.units.specs.declared.Fault.TheVariants.{Width, NotThere, BadSoc}
 use Rattle.soc.specs.Record.{tests_of}
 use Rattle.soc.specs.Rules.{good_soc}
 use Rattle.soc.specs.declared.record.Test.{Test}
@@ -17,9 +20,11 @@ use Rattle.wrapper_scans.specs.TestTimes.{scan_in, scan_out, test_cycles, test_t
 use Rattle.wrapper_scans.specs.Asked.{module_at, asked_module}
 use Rattle.wrapper_times.specs.Times.{sum_times, figure, module_best}
 use Rattle.wrapper_times.specs.TimeAnswers.{module_time_answer}
+use Rattle.wrapper_times.specs.declared.asked.ModuleTime.{ModuleTime}
 use Rattle.wrapper_times.proofs.BestLaws.{time-at, time-wires, time-least}
 use Rattle.wrapper_layout.specs.LayoutAnswers.{layout_of, layout_answer}
 use Rattle.wrapper_layout.specs.Laid.{test_at}
+use Rattle.wrapper_layout.specs.declared.laid.WrapperLayout.{WrapperLayout}
 use Rattle.wrapper.proofs.WrapperAnswerLaws.{laid_out, timed}
 
 -- with one capture cycle, "a test of p patterns takes (1 + max(si, so)) × p + min(si, so) cycles"
@@ -28,9 +33,9 @@ unfolding test_cycles
 one-capture si so p = refl
 
 -- and "Layout and time: 14, 7, 13."
-pub one-capture-asked : {A : Type 0} (s : Soc) (m w : ℕ) (f : ℕ → A) (g : Module → A) →
-    let there = cond (ltb m s.module_count) (g (module_at s m)) (f 13) in
-    asked_module s m w 1 f g ≡ cond (good_soc s) (cond (leb 1 w && leb w width_max) there (f 7)) (f 14)
+pub one-capture-asked : {A : Type 0} (s : Soc) (m w : ℕ) (f : Fault → A) (g : Module → A) →
+    let there = cond (ltb m s.module_count) (g (module_at s m)) (f NotThere) in
+    asked_module s m w 1 f g ≡ cond (good_soc s) (cond (leb 1 w && leb w width_max) there (f Width)) (f BadSoc)
 unfolding asked_module
 one-capture-asked s m w f g = refl
 
@@ -82,42 +87,38 @@ module _ {c e : ℕ} (h : c ≤ e) (d : Module) where
       rw (← time-at e d w l) (omega (arith, time-least c d w l u b.0 b.1, figure_rises u))
 
 -- of the answers that are not refused: all but the cycles is the same at each number of capture cycles,
-pub answer_layout_same : (s : Soc) (m i w c e : ℕ) → (layout_answer s m i w c).refusal.number ≡ 0
-    → (layout_answer s m i w e).refusal.number ≡ 0 →
-    let l = layout_answer s m i w c in
-    layout_answer s m i w e
+pub answer_layout_same : (s : Soc) (m i w c e : ℕ) (a b : WrapperLayout) → layout_answer s m i w c ≡ Ok a → layout_answer s m i w e ≡ Ok b
+    → b
     ≡ record {
-      refusal = l.refusal;
-      flip_flops = l.flip_flops;
-      input_cells = l.input_cells;
-      output_cells = l.output_cells;
-      bidir_cells = l.bidir_cells;
-      chain_of = l.chain_of;
-      si = l.si;
-      so = l.so;
-      cycles = (layout_answer s m i w e).cycles;
+      flip_flops = a.flip_flops;
+      input_cells = a.input_cells;
+      output_cells = a.output_cells;
+      bidir_cells = a.bidir_cells;
+      chain_of = a.chain_of;
+      si = a.si;
+      so = a.so;
+      cycles = b.cycles;
     }
 unfolding layout_of
-answer_layout_same s m i w c e h k = rw ((laid_out s m i w c h).is, (laid_out s m i w e k).is)
+answer_layout_same s m i w c e a b h k = rw ((laid_out s m i w c a h).is, (laid_out s m i w e b k).is)
 
 -- a test with that layout takes its patterns more with one capture cycle more,
-pub answer-capture-more : (s : Soc) (m i w c : ℕ) → (layout_answer s m i w c).refusal.number ≡ 0
-    → (layout_answer s m i w (c + 1)).refusal.number ≡ 0
-    → (layout_answer s m i w (c + 1)).cycles.0 ≡ (layout_answer s m i w c).cycles.0 + (test_at (module_at s m) i).patterns
+pub answer-capture-more : (s : Soc) (m i w c : ℕ) (a b : WrapperLayout) → layout_answer s m i w c ≡ Ok a
+    → layout_answer s m i w (c + 1) ≡ Ok b → b.cycles.0 ≡ a.cycles.0 + (test_at (module_at s m) i).patterns
 unfolding layout_of
-answer-capture-more s m i w c h k =
-    rw ((laid_out s m i w c h).is, (laid_out s m i w (c + 1) k).is) (test-time-more c (module_at s m) w (test_at (module_at s m) i))
+answer-capture-more s m i w c a b h k =
+    rw ((laid_out s m i w c a h).is, (laid_out s m i w (c + 1) b k).is) (test-time-more c (module_at s m) w (test_at (module_at s m) i))
 
 -- and no time falls
 module _ (s : Soc) (m : ℕ) {c e : ℕ} (l : c ≤ e) where
-  pub answer-test_rises : (i w : ℕ) → (layout_answer s m i w c).refusal.number ≡ 0 → (layout_answer s m i w e).refusal.number ≡ 0
-      → (layout_answer s m i w c).cycles.0 ≤ (layout_answer s m i w e).cycles.0
+  pub answer-test_rises : (i w : ℕ) (a b : WrapperLayout) → layout_answer s m i w c ≡ Ok a → layout_answer s m i w e ≡ Ok b
+      → a.cycles.0 ≤ b.cycles.0
   unfolding layout_of
-  answer-test_rises i w h k =
-      rw ((laid_out s m i w c h).is, (laid_out s m i w e k).is) (test-time_rises l (module_at s m) w (test_at (module_at s m) i))
+  answer-test_rises i w a b h k =
+      rw ((laid_out s m i w c a h).is, (laid_out s m i w e b k).is) (test-time_rises l (module_at s m) w (test_at (module_at s m) i))
 
-  pub answer-time_rises : (w : ℕ) → (module_time_answer s m w c).refusal.number ≡ 0 → (module_time_answer s m w e).refusal.number ≡ 0
-      → (module_time_answer s m w c).cycles.0 ≤ (module_time_answer s m w e).cycles.0
-  answer-time_rises w h k =
-      let a = timed s m w c h in
-      rw (a.is, (timed s m w e k).is) (time_rises l (module_at s m) w a.asked.low)
+  pub answer-time_rises : (w : ℕ) (a b : ModuleTime) → module_time_answer s m w c ≡ Ok a → module_time_answer s m w e ≡ Ok b
+      → a.cycles.0 ≤ b.cycles.0
+  answer-time_rises w a b h k =
+      let t = timed s m w c a h in
+      rw (t.is, (timed s m w e b k).is) (time_rises l (module_at s m) w t.asked.low)

@@ -4,4 +4,4 @@
 
 pub use wrapper_fit::{CAPTURE_MAX, MODULE_TIME_MAX, WIDTH_MAX, WIDTH_PLACES};
 pub use wrapper_layout::{WrapperLayout, layout};
-pub use wrapper_times::{ModuleTime, ModuleTimes, Times, module_time, module_times};
+pub use wrapper_times::{ModuleTime, Times, module_time, module_times};

@@ -1,8 +1,9 @@
 -- What laws say of a layout (document 01, "The wrapper rule"; document 02, items 2 and 8): "for each wrapper chain, its flip-flops, input
 -- cells and output cells, and for each internal chain its wrapper chain from 1", bidirectional cells "as their own count", and the layout
 -- "with its si, so and cycles".
-use Rattle.std.specs.Prelude.{ℕ, suc, ◌+◌, ◌-◌, cond, List, [], ◌∷◌, eqb, get_or}
+use Rattle.std.specs.Prelude.{ℕ, suc, ◌+◌, ◌-◌, cond, List, [], ◌∷◌, eqb, get_or, Result, Ok, Err}
 use Rattle.units.specs.declared.FlipFlops.{FlipFlops}
+use Rattle.units.specs.declared.Refusal.{Refusal}
 use Rattle.soc.specs.Record.{no_test, tests_of}
 use Rattle.soc.specs.declared.record.Test.{Test}
 use Rattle.soc.specs.declared.record.Module.{Module}
@@ -35,12 +36,17 @@ scan_ins l = added l.flip_flops l.bidir_cells l.input_cells
 abbrev pub scan_outs : WrapperLayout → List ℕ
 scan_outs l = added l.flip_flops l.bidir_cells l.output_cells
 
+-- the cycles of a layout that is answered
+abbrev pub answered_cycles : Result WrapperLayout Refusal → ℕ
+answered_cycles (Ok l) = l.cycles.0
+answered_cycles (Err r) = 0
+
 -- what a client adds up: the cycles of the layouts that are answered for the tests with TamUse 1 of module m at width u and c capture
 -- cycles, where ts are the tests from number i on
 unfoldable pub layouts_from : Soc → ℕ → ℕ → ℕ → ℕ → List Test → ℕ
 layouts_from s m u c i [] = 0
 layouts_from s m u c i (t ∷ ts) =
-    cond t.tam_use ((layout_answer s m i u c).cycles.0 + layouts_from s m u c (suc i) ts) (layouts_from s m u c (suc i) ts)
+    cond t.tam_use (answered_cycles (layout_answer s m i u c) + layouts_from s m u c (suc i) ts) (layouts_from s m u c (suc i) ts)
 
 unfoldable pub layouts_cycles : Soc → ℕ → ℕ → ℕ → ℕ
 layouts_cycles s m u c = layouts_from s m u c 1 (tests_of (module_at s m))

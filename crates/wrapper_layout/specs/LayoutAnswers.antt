@@ -1,8 +1,9 @@
 -- What is answered for a module, one of its tests and a width (document 01, "The wrapper rule" and "Refusal numbers"; document 02, items 2
 -- and 8).
-use Rattle.std.specs.Prelude.{ℕ, ◌-◌, cond, ◌&&◌, List, [], ◌∷◌, map, get_or, replicate, leb}
-use Rattle.units.specs.Refusals.{accepted, refused}
-use Rattle.soc.specs.Limits.{chains_max}
+use Rattle.std.specs.Prelude.{ℕ, ◌-◌, cond, ◌&&◌, List, [], ◌∷◌, map, get_or, leb, Result, Ok}
+use Rattle.units.specs.declared.Fault.{Fault}
+use Rattle.units.specs.declared.Fault.TheVariants.{NotThere}
+use Rattle.units.specs.declared.Refusal.{Refusal}
 use Rattle.units.specs.Places.{padded}
 use Rattle.soc.specs.Record.{flip_flops, no_test}
 use Rattle.soc.specs.declared.record.Test.{Test}
@@ -13,12 +14,12 @@ use Rattle.wrapper_fit.specs.Maxima.{width_max}
 use Rattle.wrapper_fit.specs.Counts.{cycles}
 use Rattle.wrapper_scans.specs.Chains.{threaded}
 use Rattle.wrapper_scans.specs.TestTimes.{with_bidirs, scan_in, scan_out, test_time}
-use Rattle.wrapper_scans.specs.Asked.{asked_module}
+use Rattle.wrapper_scans.specs.Asked.{asked_module, refused_here}
 use Rattle.wrapper_layout.specs.declared.laid.WrapperLayout.{WrapperLayout}
 
 -- one of its tests, from 1: "test number not in the module" is 13
-unfoldable pub asked_test : {A : Type 0} → Module → ℕ → (ℕ → A) → (Test → A) → A
-asked_test d i refuses finds = cond (leb 1 i && leb i d.test_count) (finds (get_or d.tests (i - 1) no_test)) (refuses 13)
+unfoldable pub asked_test : {A : Type 0} → Module → ℕ → (Fault → A) → (Test → A) → A
+asked_test d i refuses finds = cond (leb 1 i && leb i d.test_count) (finds (get_or d.tests (i - 1) no_test)) (refuses NotThere)
 
 -- by how much lengths grew
 unfoldable pub gained : List ℕ → List ℕ → List ℕ
@@ -33,7 +34,6 @@ unfoldable pub layout_of : ℕ → Module → ℕ → Test → WrapperLayout
 layout_of c d k t =
     let l = threaded d t.scan_use k in
     record {
-      refusal = accepted;
       flip_flops = padded width_max (flip_flops 0) (map flip_flops l.lengths);
       input_cells = padded width_max 0 (gained (with_bidirs d l) (with_cells d.inputs (with_bidirs d l)));
       output_cells = padded width_max 0 (gained (with_bidirs d l) (with_cells d.outputs (with_bidirs d l)));
@@ -44,20 +44,6 @@ layout_of c d k t =
       cycles = cycles (test_time c d k t);
     }
 
-unfoldable pub no_layout : ℕ → WrapperLayout
-no_layout n =
-    record {
-      refusal = refused n 0;
-      flip_flops = replicate width_max (flip_flops 0);
-      input_cells = replicate width_max 0;
-      output_cells = replicate width_max 0;
-      bidir_cells = replicate width_max 0;
-      chain_of = replicate chains_max 0;
-      si = 0;
-      so = 0;
-      cycles = cycles 0;
-    }
-
 -- "it takes module, test, width and c and answers the layout with its si, so and cycles. Refusals: 14, 7, 16, 13."
-unfoldable pub layout_answer : Soc → ℕ → ℕ → ℕ → ℕ → WrapperLayout
-layout_answer s m i w c = asked_module s m w c no_layout λ d. asked_test d i no_layout (layout_of c d w)
+unfoldable pub layout_answer : Soc → ℕ → ℕ → ℕ → ℕ → Result WrapperLayout Refusal
+layout_answer s m i w c = asked_module s m w c refused_here λ d. asked_test d i refused_here λ t. Ok (layout_of c d w t)

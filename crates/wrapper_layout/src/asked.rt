@@ -3,25 +3,17 @@ ghost use Rattle.std.specs.Prelude.{◌≡◌, ◌≤◌};
 ghost use Rattle.wrapper_layout.specs.Held.{found_test};
 
 use soc::{Module, Test};
+use units::Fault;
 
-// The test that is asked for; or the refusal's number.
-#[derive(Clone, Copy)]
-pub enum AskedTest {
-    No(u8),
-    Is(Test),
-}
-
-pub(crate) fn asked_test(d: Module, i: u32) -> AskedTest
+// A module's test, from 1; or 13.
+#[tactic(auto, unfolding(crate::specs::Held::found_test, crate::specs::LayoutAnswers::asked_test))]
+pub(crate) fn asked_test(d: Module, i: u32) -> Result<Test, Fault>
     requires { d.test_count ≤ 8 }
     ensures { result ≡ found_test d i }
 {
-    if i < 1 {
-        return AskedTest::No(13);
+    let i = i as usize;
+    if !(1..=d.test_count).contains(&i) {
+        return Err(Fault::NotThere);
     }
-    let at = i as usize - 1;
-    if d.test_count <= at {
-        return AskedTest::No(13);
-    }
-    let t = d.tests[at];
-    AskedTest::Is(t)
+    Ok(d.tests[i - 1])
 }

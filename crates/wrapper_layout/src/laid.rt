@@ -6,9 +6,9 @@ ghost use Rattle.soc.specs.Record.{flip_flops};
 ghost use Rattle.wrapper_fit.specs.Fit.{longest, with_cells};
 ghost use Rattle.wrapper_fit.specs.Maxima.{width_max, capture_max};
 ghost use Rattle.wrapper_scans.specs.Scans.{Kept};
-ghost use Rattle.wrapper_layout.specs.LayoutAnswers.{gained, layout_of, no_layout, layout_answer};
+ghost use Rattle.wrapper_layout.specs.LayoutAnswers.{gained, layout_of, layout_answer};
 
-use super::asked::{AskedTest, asked_test};
+use super::asked::asked_test;
 use super::places::{add_cells, thread_chains};
 use soc::{CHAINS_MAX, Module, Soc, Test};
 use units::{CaptureCycles, Cycles, FlipFlops, Refusal, Wires};
@@ -20,7 +20,6 @@ use wrapper_scans::{asked_module, cycles_of, lengths_of, order_of, scan_at};
 // scan-out of that layout, and the test's cycles with them.
 #[derive(Clone, Copy)]
 pub struct WrapperLayout {
-    pub refusal: Refusal,
     pub flip_flops: [FlipFlops; WIDTH_PLACES],
     pub input_cells: [u64; WIDTH_PLACES],
     pub output_cells: [u64; WIDTH_PLACES],
@@ -29,22 +28,6 @@ pub struct WrapperLayout {
     pub si: u64,
     pub so: u64,
     pub cycles: Cycles,
-}
-
-fn no_layout(n: u8) -> WrapperLayout
-    ensures { result ≡ no_layout n }
-{
-    WrapperLayout {
-        refusal: Refusal::at(n, 0),
-        flip_flops: [FlipFlops(0); WIDTH_PLACES],
-        input_cells: [0u64; WIDTH_PLACES],
-        output_cells: [0u64; WIDTH_PLACES],
-        bidir_cells: [0u64; WIDTH_PLACES],
-        chain_of: [0usize; CHAINS_MAX],
-        si: 0,
-        so: 0,
-        cycles: Cycles(0),
-    }
 }
 
 // The lengths with n cells in their places in the first k wrapper chains.
@@ -99,7 +82,6 @@ fn layout_of(d: Module, t: Test, k: usize, capture: u32) -> WrapperLayout
     let scan = scan_at(d, lengths_of(d, t.scan_use), k);
     let cycles = cycles_of(scan, t.patterns, capture);
     WrapperLayout {
-        refusal: Refusal::none(),
         flip_flops: flip_flops_of(lengths),
         input_cells: gained_by(with_bidirs, scan_in),
         output_cells: gained_by(with_bidirs, scan_out),
@@ -112,16 +94,16 @@ fn layout_of(d: Module, t: Test, k: usize, capture: u32) -> WrapperLayout
 }
 
 // The layout of one test of a module at a width, which is used as it is, with its longest scan-in and scan-out and the test's cycles.
-pub fn layout(s: Soc, module: u32, test: u32, width: Wires, capture: CaptureCycles) -> WrapperLayout
+pub fn layout(
+    s: Soc,
+    module: u32,
+    test: u32,
+    width: Wires,
+    capture: CaptureCycles,
+) -> Result<WrapperLayout, Refusal>
     ensures { result ≡ layout_answer s «module» test width.0 capture.0 }
 {
-    let asked = asked_module(s, module, width, capture);
-    if asked.number != 0 {
-        return no_layout(asked.number);
-    }
-    let d = asked.module;
-    match asked_test(d, test) {
-        AskedTest::No(n) => no_layout(n),
-        AskedTest::Is(t) => layout_of(d, t, width.0 as usize, capture.0),
-    }
+    let d = asked_module(s, module, width, capture)?;
+    let t = asked_test(d, test)?;
+    Ok(layout_of(d, t, width.0 as usize, capture.0))
 }

@@ -7,6 +7,6 @@ mod chains;
 mod scans;
 
 // For the crates of times and layouts; none of it is for callers.
-pub use asked::{AskedModule, asked_module};
+pub use asked::asked_module;
 pub use chains::{Chain, ChainLengths, Order, lengths_of, order_of};
 pub use scans::{Scan, cycles_of, scan_at};

@@ -9,7 +9,7 @@ use borrow.Author.Tests.{le-leb, lt-ltb}
 use lib.Dec.{leb}
 use lib.ListN.{get_or}
 use lib.Seq.{get_or-take}
-use Rattle.units.specs.Refusals.{accepted}
+use Rattle.std.specs.Prelude.{Ok}
 use Rattle.units.proofs.TestLaws.{and_both}
 use Rattle.soc.specs.Limits.{level_max}
 use Rattle.units.specs.Places.{all_of, padded}
@@ -25,6 +25,8 @@ use Rattle.wrapper_scans.specs.Asked.{module_at, asked_module}
 use Rattle.wrapper_scans.proofs.KeptLaws.{good_parts, good-kept}
 use Rattle.wrapper_times.specs.Times.{Best, module_best}
 use Rattle.wrapper_times.specs.TimeAnswers.{module_time_of, module_time_answer, bests_from, cycles_in, wires_in, times_of, module_times_answer}
+use Rattle.wrapper_times.specs.declared.asked.ModuleTime.{ModuleTime}
+use Rattle.wrapper_times.specs.declared.times.Times.{Times}
 use Rattle.wrapper_times.proofs.BestLaws.{time-at, planned-least, good-patterns}
 use Rattle.wrapper_times.proofs.TimeLaws.{module_most}
 
@@ -95,44 +97,46 @@ module _ (c : ℕ) (first : 1 ≤ c) (last : c ≤ capture_max) (s : Soc) (m : �
 
   -- what is answered for widths up to W
   module _ (W : ℕ) (low : 1 ≤ W) (high : W ≤ width_max) where
-    times-are : module_times_answer s m W c ≡ record { refusal = accepted; times = times_of c (module_at s m) W }
+    pub times-are : module_times_answer s m W c ≡ Ok (times_of c (module_at s m) W)
     unfolding module_times_answer asked_module
     times-are =
         rw (good, le-leb 1 W low, le-leb W width_max high, le-leb 1 c first, le-leb c capture_max last, lt-ltb m s.module_count there)
 
-    pub times-accepted : (module_times_answer s m W c).refusal ≡ accepted
-    times-accepted = ap (λ a. a.refusal) times-are
-
-    -- at each width up to W the least figure, and 0 past W
-    pub times-at : (w : ℕ) → 1 ≤ w → w ≤ W
-        → get_or (module_times_answer s m W c).times.cycles (w - 1) (cycles 0) ≡ cycles (module_best c (module_at s m) w).cycles
-    unfolding times_of
-    times-at w h k = rw times-are (held_at cycles_in (cycles 0) c (module_at s m) W w h k)
-
-    pub wires-at : (w : ℕ) → 1 ≤ w → w ≤ W
-        → get_or (module_times_answer s m W c).times.wires (w - 1) (wires 0) ≡ wires (module_best c (module_at s m) w).wires
-    unfolding times_of
-    wires-at w h k = rw times-are (held_at wires_in (wires 0) c (module_at s m) W w h k)
-
-    pub times-past : (j : ℕ) → W ≤ j → get_or (module_times_answer s m W c).times.cycles j (cycles 0) ≡ cycles 0
-    unfolding times_of
-    times-past j h = rw times-are (held-past cycles_in (cycles 0) c (module_at s m) W j h)
-
-    pub wires-past : (j : ℕ) → W ≤ j → get_or (module_times_answer s m W c).times.wires j (wires 0) ≡ wires 0
-    unfolding times_of
-    wires-past j h = rw times-are (held-past wires_in (wires 0) c (module_at s m) W j h)
-
-    -- the same figures as those of one width alone
-    time_is : (w : ℕ) → 1 ≤ w → w ≤ W → module_time_answer s m w c ≡ module_time_of (module_best c (module_at s m) w)
+    -- and what is answered at one width alone
+    pub time-is : (w : ℕ) → 1 ≤ w → w ≤ W → module_time_answer s m w c ≡ Ok (module_time_of (module_best c (module_at s m) w))
     unfolding module_time_answer asked_module
-    time_is w h k =
+    time-is w h k =
         let n : w ≤ width_max = omega arith in
         rw (good, le-leb 1 w h, le-leb w width_max n, le-leb 1 c first, le-leb c capture_max last, lt-ltb m s.module_count there)
 
-    pub times-same : (w : ℕ) → 1 ≤ w → w ≤ W
-        → get_or (module_times_answer s m W c).times.cycles (w - 1) (cycles 0) ≡ (module_time_answer s m w c).cycles
-    times-same w h k = times-at w h k ∙ sym (ap (λ a. a.cycles) (time_is w h k))
+    module _ {t : Times} (e : module_times_answer s m W c ≡ Ok t) where
+      told : t ≡ times_of c (module_at s m) W
+      told = let f : Ok t ≡ Ok (times_of c (module_at s m) W) = sym e ∙ times-are in cc
 
-    pub wires-same : (w : ℕ) → 1 ≤ w → w ≤ W
-        → get_or (module_times_answer s m W c).times.wires (w - 1) (wires 0) ≡ (module_time_answer s m w c).wires
-    wires-same w h k = wires-at w h k ∙ sym (ap (λ a. a.wires) (time_is w h k))
+      -- at each width up to W the least figure, and 0 past W
+      pub times-at : (w : ℕ) → 1 ≤ w → w ≤ W → get_or t.cycles (w - 1) (cycles 0) ≡ cycles (module_best c (module_at s m) w).cycles
+      unfolding times_of
+      times-at w h k = rw told (held_at cycles_in (cycles 0) c (module_at s m) W w h k)
+
+      pub wires-at : (w : ℕ) → 1 ≤ w → w ≤ W → get_or t.wires (w - 1) (wires 0) ≡ wires (module_best c (module_at s m) w).wires
+      unfolding times_of
+      wires-at w h k = rw told (held_at wires_in (wires 0) c (module_at s m) W w h k)
+
+      pub times-past : (j : ℕ) → W ≤ j → get_or t.cycles j (cycles 0) ≡ cycles 0
+      unfolding times_of
+      times-past j h = rw told (held-past cycles_in (cycles 0) c (module_at s m) W j h)
+
+      pub wires-past : (j : ℕ) → W ≤ j → get_or t.wires j (wires 0) ≡ wires 0
+      unfolding times_of
+      wires-past j h = rw told (held-past wires_in (wires 0) c (module_at s m) W j h)
+
+      -- the same figures as those of one width alone
+      module _ (w : ℕ) (h : 1 ≤ w) (k : w ≤ W) {a : ModuleTime} (f : module_time_answer s m w c ≡ Ok a) where
+        told_at : a ≡ module_time_of (module_best c (module_at s m) w)
+        told_at = let g : Ok a ≡ Ok (module_time_of (module_best c (module_at s m) w)) = sym f ∙ time-is w h k in cc
+
+        pub times-same : get_or t.cycles (w - 1) (cycles 0) ≡ a.cycles
+        times-same = times-at w h k ∙ sym (ap (λ a. a.cycles) told_at)
+
+        pub wires-same : get_or t.wires (w - 1) (wires 0) ≡ a.wires
+        wires-same = wires-at w h k ∙ sym (ap (λ a. a.wires) told_at)

@@ -1,6 +1,6 @@
 -- What is answered for a module and a width (document 01, "The wrapper rule"; document 02, item 5).
-use Rattle.std.specs.Prelude.{ℕ, zero, suc, List, [], ◌∷◌, map, replicate}
-use Rattle.units.specs.Refusals.{accepted, refused}
+use Rattle.std.specs.Prelude.{ℕ, zero, suc, List, [], ◌∷◌, map, Result, Ok}
+use Rattle.units.specs.declared.Refusal.{Refusal}
 use Rattle.units.specs.declared.Wires.{Wires}
 use Rattle.units.specs.declared.Cycles.{Cycles}
 use Rattle.units.specs.Places.{padded}
@@ -8,20 +8,16 @@ use Rattle.soc.specs.declared.record.Module.{Module}
 use Rattle.soc.specs.declared.record.Soc.{Soc}
 use Rattle.wrapper_fit.specs.Maxima.{width_max}
 use Rattle.wrapper_fit.specs.Counts.{wires, cycles}
-use Rattle.wrapper_scans.specs.Asked.{asked_module}
+use Rattle.wrapper_scans.specs.Asked.{asked_module, refused_here}
 use Rattle.wrapper_times.specs.Times.{Best, module_best}
 use Rattle.wrapper_times.specs.declared.asked.ModuleTime.{ModuleTime}
-use Rattle.wrapper_times.specs.declared.asked.ModuleTimes.{ModuleTimes}
 use Rattle.wrapper_times.specs.declared.times.Times.{Times}
 
-abbrev pub no_module_time : ℕ → ModuleTime
-no_module_time n = record { refusal = refused n 0; cycles = cycles 0; wires = wires 0 }
-
 abbrev pub module_time_of : Best → ModuleTime
-module_time_of b = record { refusal = accepted; cycles = cycles b.cycles; wires = wires b.wires }
+module_time_of b = record { cycles = cycles b.cycles; wires = wires b.wires }
 
-unfoldable pub module_time_answer : Soc → ℕ → ℕ → ℕ → ModuleTime
-module_time_answer s m w c = asked_module s m w c no_module_time λ d. module_time_of (module_best c d w)
+unfoldable pub module_time_answer : Soc → ℕ → ℕ → ℕ → Result ModuleTime Refusal
+module_time_answer s m w c = asked_module s m w c refused_here λ d. Ok (module_time_of (module_best c d w))
 
 -- a module's times and wires at the widths 1 to w, where i of them are to come from width u on
 unfoldable pub bests_from : ℕ → Module → ℕ → ℕ → List Best
@@ -41,11 +37,5 @@ times_of c d w =
       wires = padded width_max (wires 0) (map wires_in (bests_from c d w 1));
     }
 
-abbrev pub no_times : Times
-no_times = record { cycles = replicate width_max (cycles 0); wires = replicate width_max (wires 0) }
-
-abbrev pub no_module_times : ℕ → ModuleTimes
-no_module_times n = record { refusal = refused n 0; times = no_times }
-
-unfoldable pub module_times_answer : Soc → ℕ → ℕ → ℕ → ModuleTimes
-module_times_answer s m w c = asked_module s m w c no_module_times λ d. record { refusal = accepted; times = times_of c d w }
+unfoldable pub module_times_answer : Soc → ℕ → ℕ → ℕ → Result Times Refusal
+module_times_answer s m w c = asked_module s m w c refused_here λ d. Ok (times_of c d w)

@@ -5,5 +5,5 @@
 mod asked;
 mod times;
 
-pub use asked::{ModuleTime, ModuleTimes, module_time, module_times};
+pub use asked::{ModuleTime, module_time, module_times};
 pub use times::Times;

@@ -1,6 +1,5 @@
 -- `plan::entry::buses_of` meets its contract. The loop's invariant: the list holds the records of the first b buses, and behind them no
--- bus. The measure is what is left of the buses. Assumes nothing.
-use Prim.Native.Nat.{◌-◌, ◌≤◌}
+-- bus. Assumes nothing.
 use mathlib.Core.Path.{◌≡◌}
 use lib.ListN.{take}
 use Rattle.units.specs.Places.{padded}
@@ -10,7 +9,4 @@ use Rattle.plan.proofs.EntryLaws.{bus_front}
 use Rattle.plan.proofs.entry.buses_of.Given as goal
 
 abbrev pub invariant-loop-b : goal.invariant-loop-b
-invariant-loop-b l = (l.b ≤ l.f.count) × (l.list ≡ padded bus_places no_bus (bus_front (table_time l.table) (take l.n l.f.buses) l.f.widths l.b))
-
-abbrev pub decreases-loop-b : goal.decreases-loop-b
-decreases-loop-b l = l.f.count - l.b
+invariant-loop-b l = l.list ≡ padded bus_places no_bus (bus_front (table_time l.table) (take l.n l.fn.f.buses) l.fn.f.widths l.b)

@@ -32,18 +32,6 @@ module _ (c : After-tables_of-t) where
   times = rw count
       (times-are c.tables_of-t.ensures (omega (arith, pre.captures)) (omega (arith, pre.capturing)) pre.good refl long pre.most)
 
-pub tables_of-t-requires : goal.tables_of-t-requires
-tables_of-t-requires c = let r = c.requires.0 in
-    record {
-      good = r.good;
-      numbers = r.numbers;
-      most = r.most;
-      low = r.low;
-      narrow = r.narrow;
-      captures = omega (arith, r.captures);
-      capturing = omega (arith, r.capturing);
-    }
-
 pub search-f-requires : goal.search-f-requires
 search-f-requires c = let r = c.requires in
     (table (goal.at.search-f-requires c).After-tables_of-t, r.0.low, r.0.narrow, r.2, omega (arith, r.3))

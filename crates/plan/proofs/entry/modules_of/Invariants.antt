@@ -1,6 +1,5 @@
 -- `plan::entry::modules_of` meets its contract. The loop's invariant: the list holds the first i placed modules, and behind them no
--- module. The measure is what is left of the modules. Assumes nothing.
-use Prim.Native.Nat.{◌-◌, ◌≤◌}
+-- module. Assumes nothing.
 use mathlib.Core.Path.{◌≡◌}
 use lib.ListN.{take}
 use Rattle.units.specs.Places.{padded}
@@ -9,7 +8,4 @@ use Rattle.plan.specs.Records.{placed_from}
 use Rattle.plan.proofs.entry.modules_of.Given as goal
 
 abbrev pub invariant-loop-i : goal.invariant-loop-i
-invariant-loop-i l = (l.i ≤ l.n) × (l.list ≡ padded module_places no_placed (placed_from l.p l.t l.f 0 (take l.i l.f.buses)))
-
-abbrev pub decreases-loop-i : goal.decreases-loop-i
-decreases-loop-i l = l.n - l.i
+invariant-loop-i l = l.list ≡ padded module_places no_placed (placed_from l.fn.p l.t l.f 0 (take l.i l.f.buses))

@@ -10,7 +10,6 @@ use Rattle.plan_search.specs.Search.{row_places}
 use Rattle.plan.specs.Tables.{table_places}
 use Rattle.plan.proofs.tables.with_times.Invariants.{Stands}
 use Rattle.plan.proofs.tables.with_times.Goals as goal
-use Rattle.plan.proofs.tables.with_times.Goals.{Start}
 
 module _ {A : Type 0} {f : A → ℕ} {z : A} {at : ℕ} {xs : List A} {old : List ℕ} where
   stands-none : length old ≡ table_places → Stands f z at 0 xs old old
@@ -29,30 +28,8 @@ module _ {A : Type 0} {f : A → ℕ} {z : A} {at : ℕ} {xs : List A} {old : Li
         behind = λ i h. get_or-set_other new (at + j) i v 0 (λ e. omega arith) ∙ s.behind i (omega arith);
       }
 
--- the tables have their places
-len-cycles : (c : Start) → length c.args.t.cycles ≡ table_places
-len-cycles c = c.well_formed.0.1.1.0.1.0.1
-
-len-wires : (c : Start) → length c.args.t.wires ≡ table_places
-len-wires c = c.well_formed.0.1.1.1.0.1.0.1
-
-pub loop-j-init : goal.loop-j-init
-loop-j-init c = (omega arith, c.requires, stands-none (len-cycles (goal.at.loop-j-init c).Start), stands-none (len-wires (goal.at.loop-j-init c).Start))
-
 pub loop-j-preserved : goal.loop-j-preserved
 loop-j-preserved c = let i = c.loop-j.invariant in
     let at = c.args.k * row_places + c.loop-j.j in
     let m : at < table_places = omega arith in
-    (omega arith, i.1, stands_more m i.2, stands_more m i.3)
-
-pub returns : goal.returns
-returns c = let i = c.loop-j.invariant in
-    let e : c.loop-j.j ≡ row_places = omega arith in
-    let x = rw e at i.2 in
-    let y = rw e at i.3 in
-    record {
-      cycles_here = x.here;
-      wires_here = y.here;
-      cycles_else = λ j. (x.front j, x.behind j);
-      wires_else = λ j. (y.front j, y.behind j);
-    }
+    (stands_more m i.0, stands_more m i.1)

@@ -1,12 +1,11 @@
 -- `plan::tables::with_times` meets its contract. The loop's invariant: the first `j` times and wires stand in the places of module `k`, and nothing
--- else has changed. The measure is what is left of the widths. Assumes nothing.
-use Prim.Native.Nat.{ℕ, ◌+◌, ◌-◌, ◌*◌, ◌≤◌, ◌<◌}
+-- else has changed. Assumes nothing.
+use Prim.Native.Nat.{ℕ, ◌+◌, ◌*◌, ◌≤◌, ◌<◌}
 use mathlib.Core.Path.{◌≡◌}
 use mathlib.Core.List.{List}
 use lib.ListN.{length, get_or}
 use Rattle.wrapper_fit.specs.Counts as counts
 use Rattle.plan_search.specs.Search.{row_places}
-use Rattle.plan_record.specs.Record.{module_places}
 use Rattle.plan.specs.Tables.{table_places}
 use Rattle.plan.proofs.tables.with_times.Given as goal
 
@@ -18,9 +17,5 @@ pub record Stands {A : Type 0} (f : A → ℕ) (z : A) (at j : ℕ) (xs : List A
   pub behind : (i : ℕ) → at + j ≤ i → get_or new i 0 ≡ get_or old i 0
 
 abbrev pub invariant-loop-j : goal.invariant-loop-j
-invariant-loop-j l = (l.j ≤ row_places) × (l.k < module_places)
-    × Stands (λ c. c.0) (counts.cycles 0) (l.k * row_places) l.j l.times.cycles l.initial.cycles l.cycles
-    × Stands (λ c. c.0) (counts.wires 0) (l.k * row_places) l.j l.times.wires l.initial.wires l.wires
-
-abbrev pub decreases-loop-j : goal.decreases-loop-j
-decreases-loop-j l = row_places - l.j
+invariant-loop-j l = Stands (λ c. c.0) (counts.cycles 0) (l.k * row_places) l.j l.times.cycles l.fn.t.cycles l.t.cycles
+    × Stands (λ c. c.0) (counts.wires 0) (l.k * row_places) l.j l.times.wires l.fn.t.wires l.t.wires

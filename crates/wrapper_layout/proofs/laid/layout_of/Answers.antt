@@ -108,7 +108,6 @@ unfolding layout_of
 returns c = let t = threads (goal.at.returns c).After-with_cells-with_bidirs in
     let d = c.args.d in
     let n = cells_length d.bidirs (chains t).lengths in
-    let e0 = c.none.ensures in
     let e1 = ap (λ c. c.places) (held t) in
     let e2 = c.flip_flops_of.ensures ∙ ap (map flip_flops) (lengths t) ∙ map-padded flip_flops width_max 0 (chains t).lengths in
     let e3 = c.gained_by.ensures
@@ -120,4 +119,4 @@ returns c = let t = threads (goal.at.returns c).After-with_cells-with_bidirs in
     let e7 = c.cycles_of-cycles.ensures
     ∙ ap (λ a. test_cycles c.args.capture a.si a.so c.args.t.patterns) (scanned (goal.at.returns c).After-scan_at-scan)
     ∙ scan-time c.args.capture d c.args.k c.args.t in
-    rw (e0, e1, e2, e3, e4, e5, ap (λ a. a.si) e6, ap (λ a. a.so) e6, e7)
+    rw (e1, e2, e3, e4, e5, ap (λ a. a.si) e6, ap (λ a. a.so) e6, e7)
