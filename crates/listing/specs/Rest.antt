@@ -5,7 +5,8 @@ use Rattle.fields.specs.Readers.{Reader, ◌>>=◌, give}
 use Rattle.fields.specs.WrittenLines.{written_lines}
 use Rattle.plan_record.specs.Record.{buses_of, modules_of}
 use Rattle.plan_record.specs.declared.record.BusPlan.{BusPlan}
-use Rattle.listing.specs.Asked.{Wanted, capture_number}
+use Rattle.listing.specs.Asked.{capture_number}
+use Rattle.listing.specs.declared.asked.Wanted.{Wanted}
 use Rattle.listing.specs.Listing.{bus_lines, module_lines, listing_max}
 
 -- what the line asks for, where W and B are read

@@ -21,17 +21,14 @@ fn put_form(buf: &mut [u8], at: usize, form: &[u8], figures: &[u64]) -> usize
 {
     let mut e = at;
     let mut k: usize = 0;
-    let mut i: usize = 0;
-    while i < form.len() {
-        let b = form[i];
-        if b == 35 {
+    for b in form {
+        if *b == b'#' {
             e = fields::put_number(&mut *buf, e, figures[k]);
             k += 1;
         } else {
-            buf[e] = b;
+            buf[e] = *b;
             e += 1;
         }
-        i += 1;
     }
     e
 }
@@ -41,7 +38,7 @@ pub(crate) fn put_refusal(buf: &mut [u8], at: usize, r: Refusal) -> usize
     requires { at + refusal_room ≤ length buf.old }
     ensures { Put (written_lines (refusal_fields r ∷ [])) at buf.old buf.new result × (length (written_lines (refusal_fields r ∷ [])) ≤ refusal_room) }
 {
-    let figures = [r.number as u64, r.line as u64];
+    let figures = [u8::from(r.fault) as u64, r.line as u64];
     put_form(&mut *buf, at, b"refused # line #\n", &figures)
 }
 
@@ -100,13 +97,10 @@ fn put_buses(buf: &mut [u8], at: usize, p: BusPlan) -> usize
     requires { (p.bus_count ≤ bus_places) × (at + bus_places * bus_room ≤ length buf.old) }
     ensures { Put (written_lines (bus_lines 1 (buses_of p))) at buf.old buf.new result × (length (written_lines (bus_lines 1 (buses_of p))) ≤ bus_places * bus_room) }
 {
-    let n = p.bus_count;
     let mut e = at;
-    let mut i: usize = 0;
-    while i < n {
+    for i in 0..p.bus_count {
         let b = p.buses[i];
         e = put_bus_line(&mut *buf, e, i as u64 + 1, b);
-        i += 1;
     }
     e
 }
@@ -115,13 +109,10 @@ fn put_modules(buf: &mut [u8], at: usize, p: BusPlan) -> usize
     requires { (p.module_count ≤ module_places) × (at + module_places * module_room ≤ length buf.old) }
     ensures { Put (written_lines (module_lines (modules_of p))) at buf.old buf.new result × (length (written_lines (module_lines (modules_of p))) ≤ module_places * module_room) }
 {
-    let n = p.module_count;
     let mut e = at;
-    let mut i: usize = 0;
-    while i < n {
+    for i in 0..p.module_count {
         let m = p.modules[i];
         e = put_module_line(&mut *buf, e, m);
-        i += 1;
     }
     e
 }

@@ -1,3 +1,4 @@
 pub mod Unique
 pub mod TestLaws
 pub mod PlaceLaws
+pub mod FaultLaws
