@@ -23,6 +23,10 @@ pub put-words : {n : ℕ} (vs : List ℕ) {at r : ℕ} {b0 b1 : List ℕ} → le
     → PutOf (word_length * n) (words vs) at b0 b1 r
 put-words vs l p = rw l at p
 
+-- how many bytes there are, said otherwise
+pub sized-put : {w b0 b1 : List ℕ} {n m at r : ℕ} → n ≡ m → PutOf n w at b0 b1 r → PutOf m w at b0 b1 r
+sized-put e p = record { put = p.put; long = p.long ∙ e }
+
 -- a part behind another
 pub then_put : {a w b0 b1 b2 : List ℕ} {n m at r s : ℕ} → at ≤ length b0 → PutOf n a at b0 b1 r → PutOf m w r b1 b2 s
     → PutOf (n + m) (a ++ w) at b0 b2 s

@@ -9,7 +9,7 @@ use lib.Dec.{T, leb}
 use lib.IntN.{ℤ, pos, negsuc, nat_abs, ◌+ℤ◌, ◌-ℤ◌}
 use lib.Signed.{lt_z, non_neg}
 use mir.Syntax.{w32, w64}
-use mir.Val.{to_z, of_z, Fits, SFits}
+use mir.Val.{to_z, of_z, bool_byte, Fits, SFits}
 use mir.Facts.{to_z-of_z, to_z_pos}
 use Rattle.c_forms.specs.Words.{signed_word, signed_in, flag_word, flag_in}
 use Rattle.c_forms.specs.Fit.{Fits4}
@@ -76,7 +76,25 @@ pub above_cast : (z : ℤ) → SFits w32 z → lt_z z (pos 0) ≡ false → T (n
 above_cast (pos n) f e = (Prim.tt, record { fits = let h : n < 2147483648 = f.sfits in omega arith })
 above_cast (negsuc n) f e = absurd (true≢false e)
 
+-- the bits of a signed number are its word, and the other way round
+signed-word : (z : ℤ) → SFits w32 z → of_z w32 z ≡ signed_word z
+unfolding signed_word
+signed-word (pos n) f = refl
+signed-word (negsuc n) f = let h : n < 2147483648 = f.sfits in omega arith
+
+pub word-back : (z : ℤ) → SFits w32 z → of_z w32 (to_z w32 (of_z w32 z)) ≡ signed_word z
+word-back z f = rw (to_z-of_z {w = w32} {z = z} f) (signed-word z f)
+
+pub signed-in : (w : ℕ) → to_z w32 w ≡ signed_in w
+unfolding signed_in
+signed-in w = let e : 4294967296 - suc w ≡ 4294967295 - w = omega arith in rw e
+
 -- a flag in its word
+pub flag-word : (f : Bool) → bool_byte f ≡ flag_word f
+unfolding flag_word
+flag-word false = refl
+flag-word true = refl
+
 pub flag_back : (f : Bool) → flag_in (flag_word f) ≡ f
 unfolding flag_word
 flag_back false = refl

@@ -8,8 +8,8 @@ returns c = rw (
   c.word_at.ensures,
   c.word_at-2.ensures,
   c.word_at-3.ensures,
-  c.buses_at.ensures,
+  c.read_each.ensures,
   c.word_at-4.ensures,
-  c.modules_at.ensures,
+  c.read_each-2.ensures,
   c.u64_at.ensures,
 )

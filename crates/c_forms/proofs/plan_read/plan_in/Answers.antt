@@ -5,10 +5,10 @@ use lib.ListN.{length}
 use Rattle.c_forms.specs.PlanForm.{plan_length, plan_in}
 use Rattle.c_forms.proofs.plan_read.plan_in.Goals as goal
 
-pub returns-then-b-ne-PLAN_BYTES : goal.returns-then-b-ne-PLAN_BYTES
+pub returns-then-b-eq-PLAN_BYTES : goal.returns-then-b-eq-PLAN_BYTES
 unfolding plan_in
-returns-then-b-ne-PLAN_BYTES c = rw (ne_eqb (length c.args.b.now) plan_length c.if-b-ne-PLAN_BYTES.true, c.no_plan.ensures)
+returns-then-b-eq-PLAN_BYTES c = rw (eq-eqb (length c.args.b.now) plan_length c.if-b-eq-PLAN_BYTES.true, c.plan_at.ensures)
 
-pub returns : goal.returns
+pub returns-else-b-eq-PLAN_BYTES : goal.returns-else-b-eq-PLAN_BYTES
 unfolding plan_in
-returns c = rw (eq-eqb (length c.args.b.now) plan_length c.if-b-ne-PLAN_BYTES.false, c.plan_at.ensures)
+returns-else-b-eq-PLAN_BYTES c = rw (ne_eqb (length c.args.b.now) plan_length c.if-b-eq-PLAN_BYTES.false, c.no_plan.ensures)

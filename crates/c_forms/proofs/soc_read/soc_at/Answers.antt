@@ -10,5 +10,5 @@ returns c = rw (
   c.word_at-2.ensures,
   c.word_at-3.ensures,
   c.word_at-4.ensures,
-  c.modules_at.ensures,
+  c.read_each.ensures,
 )

@@ -6,19 +6,20 @@ use mathlib.Core.Bool.{true, false}
 use lib.ListN.{length}
 use Rattle.c_forms.specs.SocForm.{soc_length, soc_flags, soc_in}
 use Rattle.c_forms.proofs.soc_read.soc_in.Goals as goal
+use Rattle.c_forms.proofs.soc_read.soc_in.Goals.{else-b-eq-SOC_BYTES-via-then-b-eq-SOC_BYTES+else-are_soc_flags, else-b-eq-SOC_BYTES-via-else-b-eq-SOC_BYTES}
 
-pub returns-then-b-ne-SOC_BYTES : goal.returns-then-b-ne-SOC_BYTES
+pub returns-then-are_soc_flags : goal.returns-then-are_soc_flags
 unfolding soc_in
-returns-then-b-ne-SOC_BYTES c = rw (ne_eqb (length c.args.b.now) soc_length c.if-b-ne-SOC_BYTES.true, c.no_soc.ensures)
+returns-then-are_soc_flags c = let b = c.args.b.now in
+    let t : soc_flags b ≡ true = sym c.are_soc_flags.ensures ∙ c.if-are_soc_flags.true in
+    rw (eq-eqb (length b) soc_length c.if-b-eq-SOC_BYTES.true, t, c.soc_at.ensures)
 
-pub returns-then-not-are_soc_flags : goal.returns-then-not-are_soc_flags
+pub returns-else-b-eq-SOC_BYTES : goal.returns-else-b-eq-SOC_BYTES
 unfolding soc_in
-returns-then-not-are_soc_flags c = let b = c.args.b.now in
-    let t : soc_flags b ≡ false = sym c.are_soc_flags.ensures ∙ c.if-not-are_soc_flags.true in
-    rw (eq-eqb (length b) soc_length c.if-b-ne-SOC_BYTES.false, t, c.no_soc-then-not-are_soc_flags.ensures)
-
-pub returns : goal.returns
-unfolding soc_in
-returns c = let b = c.args.b.now in
-    let t : soc_flags b ≡ true = sym c.are_soc_flags.ensures ∙ c.if-not-are_soc_flags.false in
-    rw (eq-eqb (length b) soc_length c.if-b-ne-SOC_BYTES.false, t, c.soc_at.ensures)
+returns-else-b-eq-SOC_BYTES c = let b = c.args.b.now in
+    elim c.else-b-eq-SOC_BYTES.branch [
+      | else-b-eq-SOC_BYTES-via-then-b-eq-SOC_BYTES+else-are_soc_flags w ↦
+          let t : soc_flags b ≡ false = sym w.are_soc_flags.ensures ∙ w.if-are_soc_flags.false in
+          rw (eq-eqb (length b) soc_length w.if-b-eq-SOC_BYTES.true, t, c.no_soc.ensures)
+      | else-b-eq-SOC_BYTES-via-else-b-eq-SOC_BYTES w ↦ rw (ne_eqb (length b) soc_length w.if-b-eq-SOC_BYTES.false, c.no_soc.ensures)
+    ]
