@@ -27,9 +27,9 @@ impl Form for Found {
 
     fn put(self, buf: &mut [u8], at: usize) -> usize {
         let w = [u64::from(self.finished), u64::from(self.known)];
-        let a = put_each(&mut *buf, at, &w);
-        let b = little_endian::put_u64(&mut *buf, a, self.tries);
-        self.plan.put(&mut *buf, b)
+        let a = put_each(buf, at, &w);
+        let b = little_endian::put_u64(buf, a, self.tries);
+        self.plan.put(buf, b)
     }
 }
 
@@ -42,5 +42,5 @@ pub fn budget_bytes(finished: bool, known: bool, tries: u64, p: BusPlan, buf: &m
         tries,
         plan: p,
     };
-    put_front(f, &mut *buf)
+    put_front(f, buf)
 }

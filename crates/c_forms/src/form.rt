@@ -36,7 +36,7 @@ pub(crate) fn put_each<T: Form>(buf: &mut [u8], at: usize, list: &[T]) -> usize
 {
     let mut end = at;
     for x in list {
-        end = x.put(&mut *buf, end);
+        end = x.put(buf, end);
     }
     end
 }
@@ -60,5 +60,5 @@ pub(crate) fn put_front<T: Form>(x: T, buf: &mut [u8]) -> usize
     if buf.len() < T::BYTES {
         return 0;
     }
-    x.put(&mut *buf, 0)
+    x.put(buf, 0)
 }

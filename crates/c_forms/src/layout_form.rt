@@ -18,19 +18,19 @@ impl Form for WrapperLayout {
     ghost bytes = { layout_bytes };
 
     fn put(self, buf: &mut [u8], at: usize) -> usize {
-        let a = put_each(&mut *buf, at, &self.flip_flops);
-        let b = put_each(&mut *buf, a, &self.input_cells);
-        let c = put_each(&mut *buf, b, &self.output_cells);
-        let d = put_each(&mut *buf, c, &self.bidir_cells);
-        let e = put_each(&mut *buf, d, &self.chain_of);
-        let f = little_endian::put_u64(&mut *buf, e, self.si);
-        let g = little_endian::put_u64(&mut *buf, f, self.so);
-        little_endian::put_u64(&mut *buf, g, self.cycles.0)
+        let a = put_each(buf, at, &self.flip_flops);
+        let b = put_each(buf, a, &self.input_cells);
+        let c = put_each(buf, b, &self.output_cells);
+        let d = put_each(buf, c, &self.bidir_cells);
+        let e = put_each(buf, d, &self.chain_of);
+        let f = little_endian::put_u64(buf, e, self.si);
+        let g = little_endian::put_u64(buf, f, self.so);
+        little_endian::put_u64(buf, g, self.cycles.0)
     }
 }
 
 pub fn layout_bytes(l: WrapperLayout, buf: &mut [u8]) -> usize
     ensures { PutFront layout_length (layout_bytes l) buf.old buf.new result }
 {
-    put_front(l, &mut *buf)
+    put_front(l, buf)
 }

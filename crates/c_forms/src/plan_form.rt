@@ -33,8 +33,8 @@ impl Form for Bus {
     ghost bytes = { bus_bytes };
 
     fn put(self, buf: &mut [u8], at: usize) -> usize {
-        let a = little_endian::put_u32(&mut *buf, at, self.width.0 as u64);
-        little_endian::put_u64(&mut *buf, a, self.busy.0)
+        let a = little_endian::put_u32(buf, at, self.width.0 as u64);
+        little_endian::put_u64(buf, a, self.busy.0)
     }
 }
 
@@ -47,9 +47,9 @@ impl Form for PlacedModule {
 
     fn put(self, buf: &mut [u8], at: usize) -> usize {
         let w = [self.number as u64, self.bus as u64, self.wires.0 as u64];
-        let a = put_each(&mut *buf, at, &w);
-        let b = little_endian::put_u64(&mut *buf, a, self.cycles.0);
-        little_endian::put_u64(&mut *buf, b, self.start.0)
+        let a = put_each(buf, at, &w);
+        let b = little_endian::put_u64(buf, a, self.cycles.0);
+        little_endian::put_u64(buf, b, self.start.0)
     }
 }
 
@@ -67,15 +67,15 @@ impl Form for BusPlan {
             self.bus_count as u64,
             self.module_count as u64,
         ];
-        let a = put_each(&mut *buf, at, &w);
-        let b = little_endian::put_u64(&mut *buf, a, self.time.0);
-        let c = put_each(&mut *buf, b, &self.buses);
-        put_each(&mut *buf, c, &self.modules)
+        let a = put_each(buf, at, &w);
+        let b = little_endian::put_u64(buf, a, self.time.0);
+        let c = put_each(buf, b, &self.buses);
+        put_each(buf, c, &self.modules)
     }
 }
 
 pub fn plan_bytes(p: BusPlan, buf: &mut [u8]) -> usize
     ensures { PutFront plan_length (plan_bytes p) buf.old buf.new result }
 {
-    put_front(p, &mut *buf)
+    put_front(p, buf)
 }

@@ -1,9 +1,6 @@
 // A SOC record put into a lent buffer as its bytes. Without the room nothing is put, and the answer is 0.
 ghost use Rattle.c_forms.specs.Words.{word_length, PutFront};
-ghost use Rattle.c_forms.specs.SocForm.{test_length, module_length, modules_from, soc_length};
-ghost use Rattle.c_forms.specs.SocForm.{test_bytes, length_bytes, module_bytes, head_bytes, soc_bytes};
-ghost use Rattle.std.specs.Prelude.{◌+◌, ◌≤◌, length};
-ghost use Rattle.c_forms.specs.Words.{PutOf};
+ghost use Rattle.c_forms.specs.SocForm.{test_length, module_length, soc_length, test_bytes, length_bytes, module_bytes, soc_bytes};
 
 use super::form::{Form, put_each, put_front};
 use super::word::WORD_BYTES;
@@ -11,15 +8,15 @@ use fields::NAME_MAX;
 use soc::{CHAINS_MAX, MODULES_MAX, Module, Soc, TESTS_MAX, Test};
 use units::FlipFlops;
 
-// In a module, where its chains begin, its position and its tests.
+// How many bytes a test has.
+pub(crate) const TEST_BYTES: usize = WORD_BYTES * 4;
+
+// In a module, where its chains begin, its position and its tests, and how many bytes it has.
 pub(crate) const CHAINS_FROM: usize = WORD_BYTES * 5;
 
 pub(crate) const POSITION_FROM: usize = CHAINS_FROM + WORD_BYTES * CHAINS_MAX;
 
 pub(crate) const TESTS_FROM: usize = POSITION_FROM + WORD_BYTES * 3;
-
-// How many bytes a test has, and a module.
-pub(crate) const TEST_BYTES: usize = WORD_BYTES * 4;
 
 pub(crate) const MODULE_BYTES: usize = TESTS_FROM + TEST_BYTES * TESTS_MAX;
 
@@ -44,7 +41,7 @@ impl Form for Test {
             self.patterns as u64,
             self.power.cast_unsigned() as u64,
         ];
-        put_each(&mut *buf, at, &w)
+        put_each(buf, at, &w)
     }
 }
 
@@ -56,7 +53,7 @@ impl Form for FlipFlops {
     ghost bytes = { length_bytes };
 
     fn put(self, buf: &mut [u8], at: usize) -> usize {
-        little_endian::put_u32(&mut *buf, at, self.0 as u64)
+        little_endian::put_u32(buf, at, self.0 as u64)
     }
 }
 
@@ -80,21 +77,11 @@ impl Form for Module {
             self.y.cast_unsigned() as u64,
             self.test_count as u64,
         ];
-        let a = put_each(&mut *buf, at, &shape);
-        let b = put_each(&mut *buf, a, &self.chains);
-        let c = put_each(&mut *buf, b, &position);
-        put_each(&mut *buf, c, &self.tests)
+        let a = put_each(buf, at, &shape);
+        let b = put_each(buf, a, &self.chains);
+        let c = put_each(buf, b, &position);
+        put_each(buf, c, &self.tests)
     }
-}
-
-fn put_head(buf: &mut [u8], at: usize, s: Soc) -> usize
-    requires { at + modules_from ≤ length buf.old }
-    ensures { PutOf modules_from (head_bytes s) at buf.old buf.new result }
-{
-    let options = [u64::from(s.power), u64::from(s.xy), s.module_count as u64];
-    let a = s.name_len.put(&mut *buf, at);
-    let b = buffer::put_bytes(&mut *buf, a, &s.name);
-    put_each(&mut *buf, b, &options)
 }
 
 impl Form for Soc {
@@ -105,13 +92,20 @@ impl Form for Soc {
     ghost bytes = { soc_bytes };
 
     fn put(self, buf: &mut [u8], at: usize) -> usize {
-        let a = put_head(&mut *buf, at, self);
-        put_each(&mut *buf, a, &self.modules)
+        let options = [
+            u64::from(self.power),
+            u64::from(self.xy),
+            self.module_count as u64,
+        ];
+        let a = self.name_len.put(buf, at);
+        let b = buffer::put_bytes(buf, a, &self.name);
+        let c = put_each(buf, b, &options);
+        put_each(buf, c, &self.modules)
     }
 }
 
 pub fn soc_bytes(s: Soc, buf: &mut [u8]) -> usize
     ensures { PutFront soc_length (soc_bytes s) buf.old buf.new result }
 {
-    put_front(s, &mut *buf)
+    put_front(s, buf)
 }

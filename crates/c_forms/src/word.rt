@@ -26,7 +26,7 @@ impl Form for u64 {
     ghost bytes = { word };
 
     fn put(self, buf: &mut [u8], at: usize) -> usize {
-        little_endian::put_u32(&mut *buf, at, self)
+        little_endian::put_u32(buf, at, self)
     }
 }
 
@@ -38,6 +38,6 @@ impl Form for usize {
     ghost bytes = { word };
 
     fn put(self, buf: &mut [u8], at: usize) -> usize {
-        little_endian::put_u32(&mut *buf, at, self as u64)
+        little_endian::put_u32(buf, at, self as u64)
     }
 }

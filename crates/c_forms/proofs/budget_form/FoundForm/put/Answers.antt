@@ -13,7 +13,7 @@ spent : (k : After-put_u64-b) → let f = k.args.self in
     PutOf found_from (spent_bytes f.finished f.known f.tries) k.args.at k.args.buf.now k.put_u64-b.new.buf k.put_u64-b.result
 unfolding spent_bytes
 spent c = let f = c.args.self in
-    let flags = rw (c.from.ensures, flag-word f.finished, c.from-2.ensures, flag-word f.known) at c.put_each-a.ensures in
+    let flags = rw (c.from.ensures, flag-word, c.from-2.ensures, flag-word) at c.put_each-a.ensures in
     next-put (long f.tries) (little-length _ _) (omega arith) flags c.put_u64-b.ensures
 
 pub put-requires : goal.put-requires

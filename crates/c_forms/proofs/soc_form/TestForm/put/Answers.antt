@@ -9,9 +9,9 @@ unfolding test_bytes
 returns c = let t = c.args.self in
     rw (
       c.from.ensures,
-      flag-word t.scan_use,
+      flag-word,
       c.from-2.ensures,
-      flag-word t.tam_use,
+      flag-word,
       c.cast_unsigned.ensures,
       word-back t.power (record { sfits = search rules }),
     ) at c.put_each.ensures
