@@ -1,17 +1,14 @@
 -- Laws of records put by parts (`PutOf`): a part behind another, and a whole record at the front of a lent buffer that has the room. Assumes
 -- nothing.
-use Prim.Native.Nat.{ℕ, ◌+◌, ◌*◌, ◌≤◌, ◌<◌}
+use Prim.Native.Nat.{ℕ, ◌+◌, ◌≤◌}
 use mathlib.Core.Path.{◌≡◌, ◌∙◌}
 use mathlib.Core.List.{List, ◌++◌}
 use native.Mathlib.Omega.{arith}
-use borrow.Author.Tests.{le-leb, lt-leb}
-use lib.ListN.{length, get_or, length-append}
-use Rattle.buffer.specs.Puts.{put_end, put_in, put_at, Put}
-use Rattle.little_endian.specs.Rows.{each}
-use Rattle.little_endian.proofs.LittleLaws.{little-length}
+use borrow.Author.Tests.{le-leb}
+use lib.ListN.{length, length-append}
+use Rattle.buffer.specs.Puts.{put_end, put_in, put_at}
 use Rattle.buffer.proofs.PutLaws.{put_is, put-kept, put_then}
-use Rattle.little_endian.proofs.RowLaws.{Run, run_more, run-all}
-use Rattle.c_forms.specs.Words.{word_length, word, words, PutOf, PutWords, PutFront}
+use Rattle.c_forms.specs.Words.{PutOf, PutFront}
 
 -- a part that there is room for
 pub first-put : {w b0 b1 : List ℕ} {m at r : ℕ} → length w ≡ m → at + m ≤ length b0 → (r ≡ put_end w at b0) × (b1 ≡ put_in w at b0)
