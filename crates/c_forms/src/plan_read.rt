@@ -33,6 +33,7 @@ impl ReadBack for PlacedModule {
     }
 }
 
+#[tactic(auto, unfolding(crate::specs::PlanForm::plan_at))]
 fn plan_at(b: &[u8]) -> BusPlan
     requires { plan_length ≤ length b.now }
     ensures { result ≡ plan_at b.now }
@@ -48,6 +49,7 @@ fn plan_at(b: &[u8]) -> BusPlan
     }
 }
 
+#[tactic(auto, unfolding(crate::specs::PlanForm::plan_in))]
 pub fn plan_in(b: &[u8]) -> BusPlan
     ensures { result ≡ plan_in b.now }
 {

@@ -66,6 +66,7 @@ fn name_at(b: &[u8]) -> [u8; NAME_MAX]
     name
 }
 
+#[tactic(auto, unfolding(crate::specs::SocForm::soc_at))]
 fn soc_at(b: &[u8]) -> Soc
     requires { soc_length ≤ length b.now }
     ensures { result ≡ soc_at b.now }
@@ -103,6 +104,7 @@ fn are_soc_flags(b: &[u8]) -> bool
         && (0..MODULES_MAX).all(|i| are_module_flags(b, MODULES_FROM + MODULE_BYTES * i))
 }
 
+#[tactic(auto, unfolding(crate::specs::SocForm::soc_in))]
 pub fn soc_in(b: &[u8]) -> Soc
     ensures { result ≡ soc_in b.now }
 {
