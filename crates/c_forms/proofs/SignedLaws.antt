@@ -18,6 +18,10 @@ pub signed-in : (w : ℕ) → to_z w32 w ≡ signed_in w
 unfolding signed_in
 signed-in w = let e : 4294967296 - suc w ≡ 4294967295 - w = omega arith in rw e
 
+-- and one that is held
+pub held_in : (w : ℕ) (z : ℤ) → SFits w32 z → z ≡ to_z w32 w → to_z w32 (of_z w32 z) ≡ signed_in w
+held_in w z f e = to_z-of_z {w = w32} {z = z} f ∙ e ∙ signed-in w
+
 -- the word of a number
 signed-word : (z : ℤ) → SFits w32 z → of_z w32 z ≡ signed_word z
 unfolding signed_word

@@ -33,7 +33,7 @@ impl Form for Bus {
     ghost bytes = { bus_bytes };
 
     fn put(self, buf: &mut [u8], at: usize) -> usize {
-        let a = little_endian::put_u32(buf, at, self.width.0 as u64);
+        let a = u64::from(self.width.0).put(buf, at);
         little_endian::put_u64(buf, a, self.busy.0)
     }
 }

@@ -52,8 +52,9 @@ impl Form for FlipFlops {
 
     ghost bytes = { length_bytes };
 
+    #[tactic(auto, unfolding(crate::specs::SocForm::length_bytes))]
     fn put(self, buf: &mut [u8], at: usize) -> usize {
-        little_endian::put_u32(buf, at, self.0 as u64)
+        u64::from(self.0).put(buf, at)
     }
 }
 

@@ -19,6 +19,7 @@ use units::FlipFlops;
 impl ReadBack for Test {
     ghost value_at = { test_at };
 
+    #[tactic(auto, using(crate::proofs::SignedLaws::held_in))]
     fn read(b: &[u8], at: usize) -> Test {
         Test {
             scan_use: word_at(b, at, 0) == 1,
@@ -40,6 +41,7 @@ impl ReadBack for FlipFlops {
 impl ReadBack for Module {
     ghost value_at = { module_at };
 
+    #[tactic(auto, using(crate::proofs::SignedLaws::held_in))]
     fn read(b: &[u8], at: usize) -> Module {
         let position = at + POSITION_FROM;
         Module {

@@ -38,6 +38,6 @@ impl Form for usize {
     ghost bytes = { word };
 
     fn put(self, buf: &mut [u8], at: usize) -> usize {
-        little_endian::put_u32(buf, at, self as u64)
+        (self as u64).put(buf, at)
     }
 }
