@@ -30,7 +30,7 @@ len-file c = file-length c.args.p (whole (goal.at.Else-not-is_good_plan c).Start
 pub returns-then-not-is_good_plan : goal.returns-then-not-is_good_plan
 returns-then-not-is_good_plan c = let bad = sym c.is_good_plan.ensures ∙ c.if-not-is_good_plan.true in
     let w = write_bad c.args.p c.args.buf.now bad in
-    (c.refused_write.ensures ∙ w.0, w.1)
+    (rw c.at.ensures w.0, w.1)
 
 pub overflow_mul-n : goal.overflow_mul-n
 overflow_mul-n c = let g = good-figures c.args.p (good (goal.at.overflow_mul-n c).Else-not-is_good_plan) in omega arith
@@ -46,7 +46,7 @@ overflow_add-n-2 c = let g = good-figures c.args.p (good (goal.at.overflow_add-n
 
 pub returns-then-buf-n : goal.returns-then-buf-n
 returns-then-buf-n c = let w = write_short c.args.p c.args.buf.now (good (goal.at.returns-then-buf-n c).Else-not-is_good_plan) (omega (arith, len-file (goal.at.returns-then-buf-n c).Else-not-is_good_plan, c.if-buf-n.true)) in
-    (c.refused_write-then-buf-n.ensures ∙ w.0, w.1)
+    (rw c.at-then-buf-n.ensures w.0, w.1)
 
 pub put_file-requires : goal.put_file-requires
 put_file-requires c = (good-small c.args.p (good (goal.at.put_file-requires c).Else-not-is_good_plan), c.if-buf-n.false)
@@ -54,4 +54,4 @@ put_file-requires c = (good-small c.args.p (good (goal.at.put_file-requires c).E
 pub returns : goal.returns
 returns c = let room = c.if-buf-n.false in
     let w = write_whole c.args.p c.args.buf.now (good (goal.at.returns c).Else-not-is_good_plan) (omega (arith, len-file (goal.at.returns c).Else-not-is_good_plan, room)) in
-    (rw (c.none.ensures, ← len-file (goal.at.returns c).Else-not-is_good_plan) w.0, c.put_file.ensures ∙ w.1)
+    (rw (← len-file (goal.at.returns c).Else-not-is_good_plan) w.0, c.put_file.ensures ∙ w.1)
