@@ -5,7 +5,6 @@ use mathlib.Core.List.{List, [], ◌∷◌, ◌++◌}
 use mathlib.Core.Logic.{◌⊎◌, inl, inr, ⊎_elim}
 use native.Mathlib.Omega.{arith}
 use native.Mathlib.Nat.{pow-succ'}
-use native.Mathlib.Numerals.{add-one}
 use Rattle.std.specs.Int.{to_le_bytes, from_le_bytes, bytes_low_first}
 use Rattle.std.proofs.Common.{w64}
 use Rattle.std.proofs.Math.Nat.{div-one, div-div-eq-div-mul}
@@ -46,10 +45,7 @@ pub number-none : (f : List ℕ) (at : ℕ) → number_at 0 f at ≡ 0
 unfolding number
 number-none f at = refl
 
-pub number_two : (f : List ℕ) (at : ℕ) → number_at 2 f at ≡ byte f at + 256 * byte f (at + 1)
-number_two f at = let e : at + 1 ≡ suc at = add-one at in rw (number_step 1 f at, number_step 0 f (suc at), number-none, e) (omega arith)
-
--- the number in four bytes from a place on, as the code puts it together
+-- the number in four bytes from a place on
 abbrev pub four : List ℕ → ℕ → ℕ
 four f at = byte f at + 256 * (byte f (at + 1) + 256 * (byte f (at + 2) + 256 * byte f (at + 3)))
 

@@ -9,7 +9,7 @@ use native.Mathlib.Numerals.{add-one}
 use native.Mathlib.Omega.{arith}
 use borrow.Author.Tests.{le-leb, lt-leb}
 use borrow.Rule.Slice.PartMut.{put_mid}
-use lib.ListN.{length, get_or, length-append, length-drop}
+use lib.ListN.{length, get_or, length-append}
 use lib.Seq.{length-take-le}
 use Rattle.std.specs.Prelude.{Ok, Err}
 use Rattle.units.specs.Refusals.{refused}
@@ -19,11 +19,11 @@ use Rattle.little_endian.specs.Rows.{each}
 use Rattle.buffer.specs.Puts.{put_front, put_end, put_in, put_at, Put}
 use Rattle.little_endian.proofs.LittleLaws.{little-length}
 use Rattle.little_endian.proofs.RowLaws.{each-length, Run, run_more, run-all}
-use Rattle.buffer.proofs.PutLaws.{part_from, part-rest, part_in, put_is, put-kept, due_all, due-room, due-next, due-put}
+use Rattle.buffer.proofs.PutLaws.{part_from, part_in, put_is, put-kept, due_all, due-room, due-next, due-put}
 use Rattle.plan_record.specs.declared.record.Bus.{Bus}
 use Rattle.plan_record.specs.declared.record.PlacedModule.{PlacedModule}
 use Rattle.plan_record.specs.declared.record.BusPlan.{BusPlan}
-use Rattle.plan_record.specs.Record.{buses_of, modules_of, no_bus, no_placed}
+use Rattle.plan_record.specs.Record.{bus_places, module_places, buses_of, modules_of, no_bus, no_placed}
 use Rattle.plan_record.specs.Good.{good_plan}
 use Rattle.plan_record.specs.Whole.{Whole}
 use Rattle.plan_record.proofs.GoodPlanLaws.{good-figures}
@@ -31,9 +31,6 @@ use Rattle.plan_file.specs.Bytes.{module_stride, bus_stride, trailer_length, fil
 use Rattle.plan_file.specs.Bytes.{module_bytes, bus_bytes, trailer_bytes, file_bytes}
 use Rattle.plan_file.specs.Puts.{SmallTrailer, Small}
 use Rattle.plan_file.specs.Files.{write_answer, write_leaves}
-
-pub part_room : (at n : ℕ) (b : List ℕ) → n + at ≤ length b → n ≤ length (part_from at b)
-part_room at n b h = rw part-rest (simp length-drop (omega arith))
 
 -- with the room, at the front of a buffer
 module _ (w o b : List ℕ) where
@@ -149,6 +146,9 @@ good-small p e =
       width = λ b h. omega (arith, g.width b h);
     }
 
+pub good_counts : (p : BusPlan) → good_plan p ≡ true → (p.module_count ≤ module_places) × (p.bus_count ≤ bus_places)
+good_counts p e = let g = good-figures p e in (g.modules_high, g.buses_high)
+
 -- the file of a good plan
 module _ (p : BusPlan) (w : Whole p) (good : good_plan p ≡ true) where
   pub file-length : length (file_bytes p) ≡ file_length p.module_count p.bus_count
@@ -159,10 +159,6 @@ module _ (p : BusPlan) (w : Whole p) (good : good_plan p ≡ true) where
 
 -- what the writer answers, and what it leaves
 module _ (p : BusPlan) (buf : List ℕ) where
-  pub write_bad : good_plan p ≡ false → (Err (refused BadPlan 0) ≡ write_answer p buf) × (buf ≡ write_leaves p buf)
-  unfolding write_answer write_leaves
-  write_bad e = (rw e, rw e)
-
   module _ (e : good_plan p ≡ true) where
     pub write_short : length buf < length (file_bytes p) → (Err (refused ShortBuffer 0) ≡ write_answer p buf) × (buf ≡ write_leaves p buf)
     unfolding write_answer write_leaves

@@ -15,11 +15,12 @@ pub(crate) fn put_trailer(b: &mut [u8], p: BusPlan)
     ensures { b.new ≡ put_front (trailer_bytes p) b.old }
 {
     let buses = MODULE_STRIDE * p.module_count;
+    let [low, high] = (buses as u16).to_le_bytes();
     let w = [
         0,
         0,
-        (buses % 256) as u8,
-        (buses / 256 % 256) as u8,
+        low,
+        high,
         p.wires.0 as u8,
         p.limit as u8,
         p.bus_count as u8,
