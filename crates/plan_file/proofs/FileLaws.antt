@@ -2,7 +2,7 @@
 -- of a file, and what the writer answers. Assumes nothing.
 use Prim.Native.Nat.{ℕ, ◌+◌, ◌-◌, ◌*◌, ◌<◌, ◌≤◌}
 use mathlib.Core.Path.{◌≡◌, refl, ◌∙◌}
-use mathlib.Core.Bool.{true, false}
+use mathlib.Core.Bool.{true}
 use mathlib.Core.List.{List, ◌++◌, append_assoc}
 use native.Mathlib.Nat.{mul-suc}
 use native.Mathlib.Numerals.{add-one}
@@ -13,7 +13,7 @@ use lib.ListN.{length, get_or, length-append}
 use lib.Seq.{length-take-le}
 use Rattle.std.specs.Prelude.{Ok, Err}
 use Rattle.units.specs.Refusals.{refused}
-use Rattle.units.specs.declared.Fault.TheVariants.{ShortBuffer, BadPlan}
+use Rattle.units.specs.declared.Fault.TheVariants.{ShortBuffer}
 use Rattle.little_endian.specs.Little.{little}
 use Rattle.little_endian.specs.Rows.{each}
 use Rattle.buffer.specs.Puts.{put_front, put_end, put_in, put_at, Put}
