@@ -146,8 +146,8 @@ good-small p e =
       width = λ b h. omega (arith, g.width b h);
     }
 
-pub good_counts : (p : BusPlan) → good_plan p ≡ true → (p.module_count ≤ module_places) × (p.bus_count ≤ bus_places)
-good_counts p e = let g = good-figures p e in (g.modules_high, g.buses_high)
+pub counts_fit : (p : BusPlan) → good_plan p ≡ true → (p.module_count ≤ module_places) × (p.bus_count ≤ bus_places)
+counts_fit p e = let g = good-figures p e in (g.modules_high, g.buses_high)
 
 -- the file of a good plan
 module _ (p : BusPlan) (w : Whole p) (good : good_plan p ≡ true) where

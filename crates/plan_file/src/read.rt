@@ -2,7 +2,6 @@
 ghost use Rattle.std.specs.Prelude.{◌≡◌, true, false, MatchOption};
 ghost use Rattle.plan_file.specs.Files.{trailer, module_count, bus_count, plan_in, good_length, good_offsets, good_file, read_answer};
 
-use super::record::figure_at;
 use super::rows::{are_zero, read_records};
 use super::strides::{BUS_STRIDE, MODULE_STRIDE, TRAILER};
 use little_endian::{number_at, u64_at};
@@ -32,8 +31,8 @@ fn file_in(bytes: &[u8]) -> Option<File<'_>>
         return None;
     }
     let at = bytes.len() - TRAILER;
-    let modules = figure_at(bytes, at + 7);
-    let buses = figure_at(bytes, at + 6);
+    let modules = usize::from(bytes[at + 7]);
+    let buses = usize::from(bytes[at + 6]);
     if modules <= MODULE_PLACES
         && buses <= BUS_PLACES
         && bytes.len() == MODULE_STRIDE * modules + BUS_STRIDE * buses + TRAILER
@@ -55,8 +54,8 @@ impl File<'_> {
         ensures { result ≡ plan_in self.entry.bytes.now }
     {
         BusPlan {
-            wires: Wires(figure_at(self.bytes, self.at + 4) as u32),
-            limit: figure_at(self.bytes, self.at + 5) as u32,
+            wires: Wires(u32::from(self.bytes[self.at + 4])),
+            limit: u32::from(self.bytes[self.at + 5]),
             bus_count: self.buses,
             buses: read_records(self.bytes, MODULE_STRIDE * self.modules, self.buses),
             module_count: self.modules,

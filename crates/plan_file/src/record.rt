@@ -1,8 +1,7 @@
-// The two kinds of records of a plan file, of modules and of buses: each read at its place, its zero bytes looked at, and put at the front of
-// the part that it is handed.
-ghost use Rattle.std.specs.Prelude.{◌≡◌, ◌+◌, ◌≤◌, ◌<◌, ℕ, Bool, List, length};
+// The two kinds of records of a plan file, of modules and of buses: each read at its place, its zero bytes looked at, and put at the front
+// of the part that it is handed.
+ghost use Rattle.std.specs.Prelude.{◌≡◌, ◌+◌, ◌≤◌, ℕ, Bool, List, length};
 ghost use Rattle.buffer.specs.Puts.{put_front};
-ghost use Rattle.little_endian.specs.Little.{byte};
 ghost use Rattle.plan_record.specs.Record.{no_bus, no_placed};
 ghost use Rattle.plan_file.specs.Bytes.{module_stride, bus_stride, module_bytes, bus_bytes};
 ghost use Rattle.plan_file.specs.Files.{module_at, bus_at, zero_module, zero_bus};
@@ -48,14 +47,6 @@ pub(crate) trait Record: Copy {
         ensures { result ≡ nothing };
 }
 
-// The figure in the byte at a place.
-pub(crate) fn figure_at(f: &[u8], at: usize) -> usize
-    requires { at < length f.now }
-    ensures { (result ≡ byte f.now at) × (result < 256) }
-{
-    usize::from(f[at])
-}
-
 // Number, bus, wires, zero, cycles, start.
 impl Record for PlacedModule {
     ghost STRIDE = { module_stride };
@@ -81,9 +72,9 @@ impl Record for PlacedModule {
 
     fn read(f: &[u8], at: usize) -> PlacedModule {
         PlacedModule {
-            number: figure_at(f, at),
-            bus: figure_at(f, at + 1),
-            wires: Wires(figure_at(f, at + 2) as u32),
+            number: usize::from(f[at]),
+            bus: usize::from(f[at + 1]),
+            wires: Wires(u32::from(f[at + 2])),
             cycles: Cycles(u64_at(f, at + 4)),
             start: Cycles(u64_at(f, at + 12)),
         }
@@ -123,7 +114,7 @@ impl Record for Bus {
 
     fn read(f: &[u8], at: usize) -> Bus {
         Bus {
-            width: Wires(figure_at(f, at) as u32),
+            width: Wires(u32::from(f[at])),
             busy: Cycles(u64_at(f, at + 4)),
         }
     }

@@ -9,7 +9,8 @@ use std::array;
 
 // Each gets the part that starts at its offset.
 pub(crate) fn put_records<R: Record>(b: &mut [u8], list: &[R])
-    requires { (R.STRIDE * length list.now ≤ length b.old) × ((i : ℕ) (z : R) → i < length list.now → R.Small (get_or list.now i z)) }
+    requires room { R.STRIDE * length list.now ≤ length b.old }
+    requires small { (i : ℕ) (z : R) → i < length list.now → R.Small (get_or list.now i z) }
     ensures { b.new ≡ put_front (each R.bytes list.now) b.old }
 {
     for (i, x) in list.iter().enumerate() {

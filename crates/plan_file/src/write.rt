@@ -24,7 +24,7 @@ fn put_file(b: &mut [u8], p: BusPlan)
     put_trailer(&mut b[trailer..], p);
 }
 
-#[tactic(auto, using(crate::proofs::FileLaws::good_counts), unfolding(crate::specs::Files::write_answer, crate::specs::Files::write_leaves))]
+#[tactic(auto, using(crate::proofs::FileLaws::counts_fit), unfolding(crate::specs::Files::write_answer, crate::specs::Files::write_leaves))]
 pub fn write_plan(p: BusPlan, buf: &mut [u8]) -> Result<usize, Refusal>
     ensures { (result ≡ write_answer p buf.old) × (buf.new ≡ write_leaves p buf.old) }
 {

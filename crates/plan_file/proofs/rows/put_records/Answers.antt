@@ -22,4 +22,4 @@ loop-i-preserved g c = let k = g.R.Record.STRIDE in
     (rw c.STRIDE.ensures at c.put.ensures.0))
 
 pub returns : goal.returns
-returns g c = run-front c.loop-i.invariant (length c.args.list.now) refl (omega arith) c.requires.0
+returns g c = run-front c.loop-i.invariant (length c.args.list.now) refl (omega arith) c.requires.room
