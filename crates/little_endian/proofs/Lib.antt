@@ -1,3 +1,4 @@
 pub mod LittleLaws
 pub mod RowLaws
 pub mod StandLaws
+pub mod MadeLaws

@@ -1,13 +1,16 @@
 -- Laws of numbers in little-endian bytes: read byte by byte, and that bytes and number say each other. Assumes nothing.
-use Prim.Native.Nat.{ℕ, zero, suc, ◌+◌, ◌*◌, ◌/◌, ◌%◌, ◌^◌, ◌≤◌, ◌<◌}
+use Prim.Native.Nat.{ℕ, zero, suc, ◌+◌, ◌*◌, ◌/◌, ◌%◌, ◌^◌, ◌-◌, ◌≤◌, ◌<◌, min}
 use mathlib.Core.Path.{◌≡◌, refl, ap, sym, ◌∙◌}
 use mathlib.Core.List.{List, [], ◌∷◌, ◌++◌}
 use mathlib.Core.Logic.{◌⊎◌, inl, inr, ⊎_elim}
 use native.Mathlib.Omega.{arith}
 use native.Mathlib.Nat.{pow-succ'}
-use native.Mathlib.Numerals.{add-one}
-use lib.ListN.{length, take, drop, length-drop, drop_of_length-le}
-use lib.Seq.{drop-cons, length-take-le, take-add, drop-drop, get_or-take, get_or-drop}
+use Rattle.std.specs.Int.{to_le_bytes, from_le_bytes, bytes_low_first}
+use Rattle.std.proofs.Common.{w64}
+use Rattle.std.proofs.Math.Nat.{div-one, div-div-eq-div-mul}
+use Rattle.std.proofs.lemmas.List.{take_min, drop-replicate}
+use lib.ListN.{length, replicate, take, drop, length-append, length-replicate, length-take, length-drop, drop_of_length-le}
+use lib.Seq.{take_all, drop-cons, length-take-le, take-add, drop-drop, get_or-take, get_or-drop}
 use Rattle.little_endian.specs.Little.{little, number, byte, number_at}
 
 -- what is taken of nothing, and a byte behind the end
@@ -42,10 +45,7 @@ pub number-none : (f : List ℕ) (at : ℕ) → number_at 0 f at ≡ 0
 unfolding number
 number-none f at = refl
 
-pub number_two : (f : List ℕ) (at : ℕ) → number_at 2 f at ≡ byte f at + 256 * byte f (at + 1)
-number_two f at = let e : at + 1 ≡ suc at = add-one at in rw (number_step 1 f at, number_step 0 f (suc at), number-none, e) (omega arith)
-
--- the number in four bytes from a place on, as the code puts it together
+-- the number in four bytes from a place on
 abbrev pub four : List ℕ → ℕ → ℕ
 four f at = byte f at + 256 * (byte f (at + 1) + 256 * (byte f (at + 2) + 256 * byte f (at + 3)))
 
@@ -116,28 +116,83 @@ part_join f n m at = rw (take-add n m (drop at f), drop-drop n at f)
 pub part-number : (f : List ℕ) (n at : ℕ) → at + n ≤ length f → AreBytes f → little n (number_at n f at) ≡ take n (drop at f)
 part-number f n at h b = little-number n (take n (drop at f)) (part_length f n at h) (part_bytes f n at h b)
 
-part_step : (f : List ℕ) (n at : ℕ) → at < length f → take (suc n) (drop at f) ≡ byte f at ∷ take n (drop (suc at) f)
-part_step f n at h = rw (drop-cons f at 0 h)
-
--- the bytes of a number, as the code puts them
-abbrev bytes4 : ℕ → List ℕ → List ℕ
-bytes4 v l = v % 256 ∷ v / 256 % 256 ∷ v / 65536 % 256 ∷ v / 16777216 % 256 ∷ l
-
-bytes-more : (n v : ℕ) → little (suc (suc (suc (suc n)))) v ≡ bytes4 v (little n (v / 4294967296))
+-- a number's lowest bytes, as the library has them
+little_take : (n m v : ℕ) → take n (little (n + m) v) ≡ little n v
 unfolding little
-bytes-more n v =
-    let a : v / 256 / 256 ≡ v / 65536 = omega arith in
-    let b : v / 256 / 256 / 256 ≡ v / 16777216 = omega arith in
-    let d : v / 256 / 256 / 256 / 256 ≡ v / 4294967296 = omega arith in
-    rw (d, b, a)
+little_take zero m v = refl
+little_take (suc n) m v = let e : suc n + m ≡ suc (n + m) = omega arith in rw e (ap (λ l. v % 256 ∷ l) (little_take n m (v / 256)))
 
-pub little-four : (v : ℕ) → little 4 v ≡ bytes4 v []
+low-first : (i k v : ℕ) → bytes_low_first i k v ≡ little k (v / 256 ^ i)
 unfolding little
-little-four v = bytes-more 0 v
+low-first i zero v = refl
+low-first zero (suc k) v =
+    let a : v / 256 ^ 0 ≡ v = div-one v in
+    let e : v / 256 ^ 1 ≡ v / 256 = refl in
+    rw (a, low-first 1 k v)
+low-first (suc i) (suc k) v =
+    let p : 256 ^ suc i * 256 ≡ 256 ^ suc (suc i) = omega (arith, pow-succ' 256 (suc i)) in
+    let a : v / 256 ^ suc i / 256 ≡ v / 256 ^ suc (suc i) = rw (← p) (div-div-eq-div-mul v (256 ^ suc i) 256) in
+    rw (a, low-first (suc (suc i)) k v)
 
-pub little_eight : (v : ℕ) → little 8 v ≡ bytes4 v (v / 4294967296 % 256 ∷ v / 1099511627776 % 256 ∷ v / 281474976710656 % 256 ∷ v / 72057594037927936 % 256 ∷ [])
-little_eight v =
-    let a : v / 4294967296 / 256 ≡ v / 1099511627776 = omega arith in
-    let b : v / 4294967296 / 65536 ≡ v / 281474976710656 = omega arith in
-    let d : v / 4294967296 / 16777216 ≡ v / 72057594037927936 = omega arith in
-    rw (bytes-more 4 v, little-four (v / 4294967296), a, b, d)
+pub little_lowest : (n v : ℕ) → n ≤ 8 → take n (to_le_bytes w64 v) ≡ little n v
+little_lowest n v h =
+    let e : n + (8 - n) ≡ 8 = omega arith in
+    let l : little 8 v ≡ to_le_bytes w64 v = sym (low-first 0 8 v ∙ ap (little 8) (div-one v)) in
+    rw (e, l) at (little_take n (8 - n) v)
+
+-- zeros behind bytes leave their number
+number_zeros : (k : ℕ) → number (replicate k 0) ≡ 0
+unfolding number
+number_zeros zero = refl
+number_zeros (suc k) = rw (number_zeros k) refl
+
+number_padded : (bs : List ℕ) (k : ℕ) → number (bs ++ replicate k 0) ≡ number bs
+unfolding number
+number_padded [] k = number_zeros k
+number_padded (x ∷ bs) k = rw (number_padded bs k) refl
+
+-- no more than so many bytes make fewer than 256 of that power
+number_most : (n : ℕ) (bs : List ℕ) → AreBytes bs → length bs ≤ n → number bs < 256 ^ n
+unfolding number
+number_most zero [] b h = omega arith
+number_most zero (x ∷ bs) b h = absurd (omega arith)
+number_most (suc n) [] b h = omega (arith, pow-succ' 256 n, number_most n [] b (omega arith))
+number_most (suc n) (x ∷ bs) b h =
+    let y : x < 256 = b 0 (omega arith) in
+    omega (arith, y, pow-succ' 256 n, number_most n bs (λ i k. b (suc i) (omega arith)) (omega arith))
+
+-- the number of eight bytes, as the library has it
+eight : (w : List ℕ) → length w ≡ 8 → from_le_bytes w64 w ≡ number w
+eight w e =
+    let t : take 8 w ≡ w = take_all 8 w (omega arith) in
+    let n : number_at 8 w 0 ≡ number w = ap number t in
+    omega (arith, n, number_eight w 0, number-four w 0, number-four w 4)
+
+-- what is left of b behind a place, as a slice from no further than its end on
+rest-drop : (m at : ℕ) (b : List ℕ) → m ≡ min at (length b) → take (length b - m) (drop m b) ≡ drop at b
+rest-drop m at b e =
+    take_all (length b - m) (drop m b) (simp length-drop (omega arith))
+    ∙ ⊎_elim
+    (λ h. let k : m ≡ at = omega arith in rw k)
+    (λ h. let k : length b ≤ m = omega arith in drop_of_length-le b k ∙ sym (drop_of_length-le b h))
+    (below_or at (length b))
+
+-- of the bytes of b from a place on, n at the front of eight zeros: their number is n bytes' number there
+pub number_read : (n k m at : ℕ) (b w : List ℕ) → n ≤ 8 → m ≡ min at (length b)
+    → let rest = take (length b - m) (drop m b) in
+    k ≡ min n (length rest) → w ≡ take k rest → from_le_bytes w64 (w ++ drop k (replicate 8 0)) ≡ number_at n b at
+number_read n k m at b w h e f g =
+    let rest = take (length b - m) (drop m b) in
+    let d : rest ≡ drop at b = rest-drop m at b e in
+    let t : w ≡ take n (drop at b) = g ∙ ap (λ i. take i rest) f ∙ take_min n rest ∙ ap (take n) d in
+    let z : drop {A = ℕ} k (replicate 8 0) ≡ replicate (8 - k) 0 = drop-replicate k 8 0 in
+    let l : length w ≡ k = ap length g ∙ length-take-le k rest (omega arith) in
+    let o : length (w ++ replicate (8 - k) 0) ≡ 8 = simp (length-append, length-replicate) (omega arith) in
+    rw z (eight (w ++ replicate (8 - k) 0) o ∙ number_padded w (8 - k) ∙ ap number t)
+
+pub number_fits : (n at : ℕ) (b : List ℕ) → AreBytes b → number_at n b at < 256 ^ n
+number_fits n at b h =
+    let l : length (take n (drop at b)) ≡ min n (length b - at) = rw length-take (rw length-drop refl) in
+    number_most n (take n (drop at b))
+    (λ i k. let j : i < n = omega arith in rw (get_or-take, get_or-drop) (h (at + i) (omega arith)))
+    (omega arith)

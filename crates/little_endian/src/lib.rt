@@ -4,4 +4,4 @@
 
 mod little;
 
-pub use little::{put_u32, put_u64, u32_at, u64_at};
+pub use little::{number_at, put_u32, put_u64, u32_at, u64_at};

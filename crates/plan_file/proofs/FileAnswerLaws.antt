@@ -5,23 +5,23 @@ use mathlib.Core.Path.{◌≡◌, refl}
 use mathlib.Core.Bool.{Bool, true, false, cond}
 use mathlib.Core.List.{List}
 use native.Mathlib.Omega.{arith}
-use Rattle.units.specs.Refusals.{accepted}
+use Rattle.std.specs.Prelude.{Ok, Err, IfErr}
+use Rattle.units.specs.Refusals.{number_of, refused}
+use Rattle.units.specs.declared.Fault.TheVariants.{BadPlan}
 use Rattle.buffer.proofs.WriterAnswerLaws.{Fits, unless_fits}
 use Rattle.plan_record.specs.Good.{good_plan}
 use Rattle.plan_record.specs.declared.record.BusPlan.{BusPlan}
 use Rattle.plan_file.specs.Bytes.{file_bytes}
-use Rattle.plan_file.specs.Files.{write_answer, plan_in, good_file, refused_read, read_answer}
+use Rattle.plan_file.specs.Files.{write_answer, plan_in, good_file, read_answer}
 
 pub write_fits : (p : BusPlan) (buf : List ℕ) → Fits buf (write_answer p buf)
 unfolding write_answer
-write_fits p buf = unless_fits 12 (file_bytes p) buf (omega arith) (good_plan p)
+write_fits p buf = unless_fits BadPlan (file_bytes p) buf (omega arith) (good_plan p)
 
-pub read_told : (f : List ℕ) → ((read_answer f).refusal.number ≤ 14) × ((read_answer f).refusal.line ≡ 0)
+pub read_told : (f : List ℕ) → IfErr (read_answer f) (λ r. (number_of r.fault ≤ 14) × (r.line ≡ 0))
 unfolding read_answer
 read_told f = go (good_file f)
   where
-    go : (t : Bool) →
-        let a = cond t (record { refusal = accepted; plan = plan_in f }) refused_read in
-        (a.refusal.number ≤ 14) × (a.refusal.line ≡ 0)
-    go true = (omega arith, refl)
+    go : (t : Bool) → IfErr (cond t (Ok (plan_in f)) (Err (refused BadPlan 0))) (λ r. (number_of r.fault ≤ 14) × (r.line ≡ 0))
+    go true = tt
     go false = (omega arith, refl)

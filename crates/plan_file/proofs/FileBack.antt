@@ -8,7 +8,7 @@ use borrow.Author.Tests.{le-leb, eq-eqb, eqb-true}
 use native.Mathlib.Omega.{arith}
 use lib.ListN.{length, get_or, length-append, take, drop}
 use lib.Seq.{get_or-take, take_all, take-add}
-use Rattle.units.specs.Refusals.{accepted}
+use Rattle.std.specs.Prelude.{Ok}
 use Rattle.units.specs.Places.{padded}
 use Rattle.units.proofs.TestLaws.{and_holds, and_both}
 use Rattle.units.proofs.PlaceLaws.{padded-take}
@@ -234,5 +234,5 @@ module _ (p : BusPlan) (w : Whole p) (e : good_plan p ≡ true) where
       (and_holds g (and_holds x (and_holds y (and_holds (eq-eqb _ _ t.first) (eq-eqb _ _ o)))))
 
   -- the file of a good plan is read to that plan
-  pub file_back : read_answer file ≡ record { refusal = accepted; plan = p }
+  pub file_back : read_answer file ≡ Ok p
   file_back = rw plan_back at (sym (answer-accepted file file-good))

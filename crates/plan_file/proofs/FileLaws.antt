@@ -2,27 +2,28 @@
 -- of a file, and what the writer answers. Assumes nothing.
 use Prim.Native.Nat.{ℕ, ◌+◌, ◌-◌, ◌*◌, ◌<◌, ◌≤◌}
 use mathlib.Core.Path.{◌≡◌, refl, ◌∙◌}
-use mathlib.Core.Bool.{true, false}
+use mathlib.Core.Bool.{true}
 use mathlib.Core.List.{List, ◌++◌, append_assoc}
 use native.Mathlib.Nat.{mul-suc}
 use native.Mathlib.Numerals.{add-one}
 use native.Mathlib.Omega.{arith}
 use borrow.Author.Tests.{le-leb, lt-leb}
 use borrow.Rule.Slice.PartMut.{put_mid}
-use lib.ListN.{length, get_or, length-append, length-drop}
+use lib.ListN.{length, get_or, length-append}
 use lib.Seq.{length-take-le}
-use Rattle.units.specs.Refusals.{accepted}
+use Rattle.std.specs.Prelude.{Ok, Err}
+use Rattle.units.specs.Refusals.{refused}
+use Rattle.units.specs.declared.Fault.TheVariants.{ShortBuffer}
 use Rattle.little_endian.specs.Little.{little}
 use Rattle.little_endian.specs.Rows.{each}
 use Rattle.buffer.specs.Puts.{put_front, put_end, put_in, put_at, Put}
-use Rattle.buffer.specs.WriterAnswers.{refused_write}
 use Rattle.little_endian.proofs.LittleLaws.{little-length}
 use Rattle.little_endian.proofs.RowLaws.{each-length, Run, run_more, run-all}
-use Rattle.buffer.proofs.PutLaws.{part_from, part-rest, part_in, put_is, put-kept, due_all, due-room, due-next, due-put}
+use Rattle.buffer.proofs.PutLaws.{part_from, part_in, put_is, put-kept, due_all, due-room, due-next, due-put}
 use Rattle.plan_record.specs.declared.record.Bus.{Bus}
 use Rattle.plan_record.specs.declared.record.PlacedModule.{PlacedModule}
 use Rattle.plan_record.specs.declared.record.BusPlan.{BusPlan}
-use Rattle.plan_record.specs.Record.{buses_of, modules_of, no_bus, no_placed}
+use Rattle.plan_record.specs.Record.{bus_places, module_places, buses_of, modules_of, no_bus, no_placed}
 use Rattle.plan_record.specs.Good.{good_plan}
 use Rattle.plan_record.specs.Whole.{Whole}
 use Rattle.plan_record.proofs.GoodPlanLaws.{good-figures}
@@ -30,9 +31,6 @@ use Rattle.plan_file.specs.Bytes.{module_stride, bus_stride, trailer_length, fil
 use Rattle.plan_file.specs.Bytes.{module_bytes, bus_bytes, trailer_bytes, file_bytes}
 use Rattle.plan_file.specs.Puts.{SmallTrailer, Small}
 use Rattle.plan_file.specs.Files.{write_answer, write_leaves}
-
-pub part_room : (at n : ℕ) (b : List ℕ) → n + at ≤ length b → n ≤ length (part_from at b)
-part_room at n b h = rw part-rest (simp length-drop (omega arith))
 
 -- with the room, at the front of a buffer
 module _ (w o b : List ℕ) where
@@ -71,12 +69,12 @@ put-numbers w v u o {g = g} {r = r} h p q s =
 
 -- elements of k bytes each, put one behind the other into parts that were lent
 module _ {A : Type 0} {f : A → List ℕ} {k : ℕ} {l : List A} {o : List ℕ} {i : ℕ} {b : List ℕ} (run : Run f k l 0 o i b (k * i)) where
-  pub run_lent : {x : A} {q : List ℕ} (z : A) → ((y : A) → length (f y) ≡ k) → i < length l → get_or l i z ≡ x → k * (i + 1) ≤ length b
+  pub run_lent : {x : A} {q : List ℕ} (z : A) → length (f x) ≡ k → i < length l → get_or l i z ≡ x → k * (i + 1) ≤ length b
       → q ≡ put_front (f x) (part_from (k * i) b) → Run f k l 0 o (i + 1) (put_mid (k * i) (length b - k * i) b q) (k * (i + 1))
   run_lent {x} {q} z long h v room g =
       let e : k * (i + 1) ≡ k * i + k = rw add-one (mul-suc k i) in
-      let p = put_lent (f x) (k * i) (k * (i + 1)) b q (omega (arith, long x)) room g in
-      run_more f k l z h (omega arith) run (put-kept p (omega (arith, long x))) (long (get_or l i z)) (rw v p)
+      let p = put_lent (f x) (k * i) (k * (i + 1)) b q (omega (arith, long)) room g in
+      run_more f k l z h (omega arith) run (put-kept p (omega (arith, long))) (rw v long) (rw v p)
 
   pub run-front : (n : ℕ) → length l ≡ n → i ≡ n → k * n ≤ length o → b ≡ put_front (each f l) o
   run-front n h e room = let a = run-all f k l n h e run in put_front_lem (each f l) o b (omega (arith, a.1)) a.0
@@ -148,6 +146,9 @@ good-small p e =
       width = λ b h. omega (arith, g.width b h);
     }
 
+pub counts_fit : (p : BusPlan) → good_plan p ≡ true → (p.module_count ≤ module_places) × (p.bus_count ≤ bus_places)
+counts_fit p e = let g = good-figures p e in (g.modules_high, g.buses_high)
+
 -- the file of a good plan
 module _ (p : BusPlan) (w : Whole p) (good : good_plan p ≡ true) where
   pub file-length : length (file_bytes p) ≡ file_length p.module_count p.bus_count
@@ -158,16 +159,12 @@ module _ (p : BusPlan) (w : Whole p) (good : good_plan p ≡ true) where
 
 -- what the writer answers, and what it leaves
 module _ (p : BusPlan) (buf : List ℕ) where
-  pub write_bad : good_plan p ≡ false → (refused_write 12 ≡ write_answer p buf) × (buf ≡ write_leaves p buf)
-  unfolding write_answer write_leaves
-  write_bad e = (rw e, rw e)
-
   module _ (e : good_plan p ≡ true) where
-    pub write_short : length buf < length (file_bytes p) → (refused_write 11 ≡ write_answer p buf) × (buf ≡ write_leaves p buf)
+    pub write_short : length buf < length (file_bytes p) → (Err (refused ShortBuffer 0) ≡ write_answer p buf) × (buf ≡ write_leaves p buf)
     unfolding write_answer write_leaves
     write_short h = let l = lt-leb (length (file_bytes p)) (length buf) h in (rw (e, l), rw (e, l))
 
     pub write_whole : length (file_bytes p) ≤ length buf
-        → (record { refusal = accepted; len = length (file_bytes p) } ≡ write_answer p buf) × (put_front (file_bytes p) buf ≡ write_leaves p buf)
+        → (Ok (length (file_bytes p)) ≡ write_answer p buf) × (put_front (file_bytes p) buf ≡ write_leaves p buf)
     unfolding write_answer write_leaves
     write_whole h = let l = le-leb (length (file_bytes p)) (length buf) h in (rw (e, l), rw e)

@@ -5,11 +5,13 @@ use mathlib.Core.Bool.{true, false}
 use mathlib.Core.List.{List}
 use borrow.Author.Tests.{leb-true, eqb-true}
 use lib.ListN.{length}
-use Rattle.units.specs.Refusals.{accepted}
+use Rattle.std.specs.Prelude.{Ok, Err}
+use Rattle.units.specs.Refusals.{refused}
+use Rattle.units.specs.declared.Fault.TheVariants.{BadPlan}
 use Rattle.units.proofs.TestLaws.{and_both}
 use Rattle.plan_record.specs.Record.{bus_places, module_places}
 use Rattle.plan_file.specs.Bytes.{trailer_length, file_length}
-use Rattle.plan_file.specs.Files.{module_count, bus_count, good_length, plan_in, good_file, refused_read, read_answer}
+use Rattle.plan_file.specs.Files.{module_count, bus_count, good_length, plan_in, good_file, read_answer}
 
 -- what a good length says
 pub record Fitting (f : List ℕ) : Type 0 where
@@ -32,10 +34,10 @@ length-fits f e =
     }
 
 -- what the reader answers
-pub answer-refused : (f : List ℕ) → good_file f ≡ false → refused_read ≡ read_answer f
+pub answer-refused : (f : List ℕ) → good_file f ≡ false → Err (refused BadPlan 0) ≡ read_answer f
 unfolding read_answer
 answer-refused f e = rw e
 
-pub answer-accepted : (f : List ℕ) → good_file f ≡ true → record { refusal = accepted; plan = plan_in f } ≡ read_answer f
+pub answer-accepted : (f : List ℕ) → good_file f ≡ true → Ok (plan_in f) ≡ read_answer f
 unfolding read_answer
 answer-accepted f e = rw e

@@ -1,24 +1,24 @@
 -- Plan files written and read (document 01, "The plan file" and "Refusal numbers"; document 02, item 1): "Plan file writer: 12, 11."
-use Rattle.std.specs.Prelude.{ℕ, ◌+◌, ◌-◌, ◌*◌, Bool, cond, ◌&&◌, List, length, leb, eqb}
-use Rattle.units.specs.Refusals.{accepted, refused}
+use Rattle.std.specs.Prelude.{ℕ, ◌+◌, ◌-◌, ◌*◌, Bool, cond, ◌&&◌, List, length, leb, eqb, Result, Ok, Err}
+use Rattle.units.specs.Refusals.{refused}
+use Rattle.units.specs.declared.Fault.TheVariants.{BadPlan}
+use Rattle.units.specs.declared.Refusal.{Refusal}
 use Rattle.units.specs.Places.{all_of, padded}
 use Rattle.little_endian.specs.Little.{byte, number_at}
 use Rattle.little_endian.specs.Rows.{rows}
 use Rattle.buffer.specs.Puts.{put_front}
-use Rattle.buffer.specs.WriterAnswers.{refused_write, written}
-use Rattle.buffer.specs.declared.written.Written.{Written}
+use Rattle.buffer.specs.WriterAnswers.{written}
 use Rattle.wrapper_fit.specs.Counts.{wires, cycles}
-use Rattle.plan_record.specs.Record.{bus_places, module_places, no_bus, no_placed, no_plan}
+use Rattle.plan_record.specs.Record.{bus_places, module_places, no_bus, no_placed}
 use Rattle.plan_record.specs.declared.record.Bus.{Bus}
 use Rattle.plan_record.specs.declared.record.PlacedModule.{PlacedModule}
 use Rattle.plan_record.specs.declared.record.BusPlan.{BusPlan}
 use Rattle.plan_record.specs.Good.{good_plan}
 use Rattle.plan_file.specs.Bytes.{module_stride, bus_stride, trailer_length, file_length, file_bytes}
-use Rattle.plan_file.specs.declared.read.FileRead.{FileRead}
 
--- what the writer answers, and what the lent buffer then holds
-unfoldable pub write_answer : BusPlan → List ℕ → Written
-write_answer p buf = cond (good_plan p) (written (file_bytes p) buf) (refused_write 12)
+-- what the writer answers, which is how many bytes were written, and what the lent buffer then holds
+unfoldable pub write_answer : BusPlan → List ℕ → Result ℕ Refusal
+write_answer p buf = cond (good_plan p) (written (file_bytes p) buf) (Err (refused BadPlan 0))
 
 unfoldable pub write_leaves : BusPlan → List ℕ → List ℕ
 write_leaves p buf = cond (good_plan p) (put_front (file_bytes p) buf) buf
@@ -95,8 +95,6 @@ good_file f =
     good_length f
     && (good_plan (plan_in f) && (zero_modules f (module_count f) && (zero_buses f (bus_count f) (bus_offset f) && good_offsets f)))
 
-abbrev pub refused_read : FileRead
-refused_read = record { refusal = refused 12 0; plan = no_plan }
-
-unfoldable pub read_answer : List ℕ → FileRead
-read_answer f = cond (good_file f) (record { refusal = accepted; plan = plan_in f }) refused_read
+-- what the reader answers
+unfoldable pub read_answer : List ℕ → Result BusPlan Refusal
+read_answer f = cond (good_file f) (Ok (plan_in f)) (Err (refused BadPlan 0))

@@ -4,8 +4,10 @@
 
 mod put;
 mod read;
+mod record;
+mod rows;
 mod strides;
 mod write;
 
-pub use read::{FileRead, read_plan};
+pub use read::read_plan;
 pub use write::write_plan;

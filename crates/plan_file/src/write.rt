@@ -1,48 +1,16 @@
 // A plan record written to its file, at the front of a lent buffer; or the refusal: 12, then 11.
-ghost use Rattle.std.specs.Prelude.{◌≡◌, ◌*◌, ◌≤◌, length};
+ghost use Rattle.std.specs.Prelude.{◌≡◌, ◌≤◌, length};
 ghost use Rattle.buffer.specs.Puts.{put_front};
-ghost use Rattle.little_endian.specs.Rows.{each};
-ghost use Rattle.plan_record.specs.Record.{buses_of, modules_of};
-ghost use Rattle.plan_file.specs.Bytes.{module_stride, bus_stride, file_length, module_bytes, bus_bytes, file_bytes};
+ghost use Rattle.plan_file.specs.Bytes.{file_length, file_bytes};
 ghost use Rattle.plan_file.specs.Puts.{Small};
 ghost use Rattle.plan_file.specs.Files.{write_answer, write_leaves};
 
-use super::put::{put_bus, put_module, put_trailer};
+use super::put::put_trailer;
+use super::rows::put_records;
 use super::strides::{BUS_STRIDE, MODULE_STRIDE, TRAILER};
-use buffer::{Written, refused_write};
 use plan_good::is_good_plan;
 use plan_record::BusPlan;
-use units::Refusal;
-
-// The records of the modules, ascending: each writer gets the part that starts at its offset.
-fn put_modules(b: &mut [u8], p: BusPlan)
-    requires { Small p × (module_stride * p.module_count ≤ length b.old) }
-    ensures { b.new ≡ put_front (each module_bytes (modules_of p)) b.old }
-{
-    let n = p.module_count;
-    let mut i: usize = 0;
-    while i < n {
-        let m = p.modules[i];
-        let at = MODULE_STRIDE * i;
-        put_module(&mut b[at..], m);
-        i += 1;
-    }
-}
-
-// The records of the buses.
-fn put_buses(b: &mut [u8], p: BusPlan)
-    requires { Small p × (bus_stride * p.bus_count ≤ length b.old) }
-    ensures { b.new ≡ put_front (each bus_bytes (buses_of p)) b.old }
-{
-    let n = p.bus_count;
-    let mut i: usize = 0;
-    while i < n {
-        let x = p.buses[i];
-        let at = BUS_STRIDE * i;
-        put_bus(&mut b[at..], x);
-        i += 1;
-    }
-}
+use units::{Fault, Refusal};
 
 // The trailer is written last, at the end of the part used.
 fn put_file(b: &mut [u8], p: BusPlan)
@@ -51,24 +19,22 @@ fn put_file(b: &mut [u8], p: BusPlan)
 {
     let buses = MODULE_STRIDE * p.module_count;
     let trailer = buses + BUS_STRIDE * p.bus_count;
-    put_modules(&mut *b, p);
-    put_buses(&mut b[buses..], p);
+    put_records(&mut *b, &p.modules[..p.module_count]);
+    put_records(&mut b[buses..], &p.buses[..p.bus_count]);
     put_trailer(&mut b[trailer..], p);
 }
 
-pub fn write_plan(p: BusPlan, buf: &mut [u8]) -> Written
+#[tactic(auto, using(crate::proofs::FileLaws::counts_fit), unfolding(crate::specs::Files::write_answer, crate::specs::Files::write_leaves))]
+pub fn write_plan(p: BusPlan, buf: &mut [u8]) -> Result<usize, Refusal>
     ensures { (result ≡ write_answer p buf.old) × (buf.new ≡ write_leaves p buf.old) }
 {
     if !is_good_plan(p) {
-        return refused_write(12);
+        return Err(Refusal::at(Fault::BadPlan, 0));
     }
     let n = MODULE_STRIDE * p.module_count + BUS_STRIDE * p.bus_count + TRAILER;
     if buf.len() < n {
-        return refused_write(11);
+        return Err(Refusal::at(Fault::ShortBuffer, 0));
     }
     put_file(&mut *buf, p);
-    Written {
-        refusal: Refusal::none(),
-        len: n,
-    }
+    Ok(n)
 }

@@ -11,4 +11,4 @@ unfolding trailer_bytes little
 returns c = let p = c.args.p in
     let o = module_stride * p.module_count in
     let w : List ℕ = 0 ∷ 0 ∷ o % 256 ∷ o / 256 % 256 ∷ p.wires.0 ∷ p.limit ∷ p.bus_count ∷ p.module_count ∷ [] in
-    put-number w p.time.0 c.args.b.now c.requires.0 c.put_bytes-at.ensures c.put_u64.ensures
+    put-number w p.time.0 c.args.b.now c.requires.0 (rw c.to_le_bytes.ensures at c.put_bytes-at.ensures) c.put_u64.ensures

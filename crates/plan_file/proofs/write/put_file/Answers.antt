@@ -13,8 +13,8 @@ whole c = record {
 }
 
 pub returns : goal.returns
-returns c = let a = c.put_modules in
-    let b = c.put_buses in
+returns c = let a = c.put_records in
+    let b = c.put_records-2 in
     let d = c.put_trailer in
     file-put c.args.p (whole (goal.at.returns c).Start) c.requires.0.trailer c.args.b.now a.new.b b.new.b d.new.b
     c.requires.1 a.ensures b.ensures d.ensures
