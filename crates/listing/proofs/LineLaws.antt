@@ -6,6 +6,7 @@ use mathlib.Core.List.{List, [], ◌∷◌, ◌++◌, append_assoc}
 use native.Mathlib.Omega.{arith}
 use lib.ListN.{length, get_or, take, length-append, length-take}
 use lib.Seq.{length-take-le}
+use Rattle.units.specs.Refusals.{number_of}
 use Rattle.units.specs.declared.Refusal.{Refusal}
 use Rattle.fields.specs.Bytes.{bytes, lf}
 use Rattle.fields.specs.Names.{name_max}

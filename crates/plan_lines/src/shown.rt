@@ -5,8 +5,8 @@ ghost use Rattle.plan_record.specs.Record.{bus_places, module_places};
 ghost use Rattle.listing.specs.Listing.{shown, show_answer, show_leaves};
 ghost use Rattle.listing.specs.Room.{plan_room};
 
-use buffer::Written;
 use plan_record::BusPlan;
+use units::{Fault, Refusal};
 
 // The lines of a plan record, without the name.
 fn put_shown(buf: &mut [u8], p: BusPlan) -> usize
@@ -18,13 +18,13 @@ fn put_shown(buf: &mut [u8], p: BusPlan) -> usize
 }
 
 // A plan record's lines, without the name that it does not hold.
-pub fn show(p: BusPlan, buf: &mut [u8]) -> Written
+pub fn show(p: BusPlan, buf: &mut [u8]) -> Result<usize, Refusal>
     ensures { (result ≡ show_answer p buf.old) × (buf.new ≡ show_leaves p buf.old) }
 {
     if !plan_good::is_good_plan(p) {
-        return buffer::refused_write(12);
+        return Err(Refusal::at(Fault::BadPlan, 0));
     }
     let mut form = [0u8; listing::LISTING_MAX];
     let n = put_shown(&mut form, p);
-    buffer::write(&mut *buf, &form[..n])
+    buffer::write(buf, &form[..n])
 }

@@ -23,22 +23,21 @@ more c = buses-more c.loop-i.i c.args.p.buses no_bus (omega (arith, len (goal.at
 
 pub loop-i-init : goal.loop-i-init
 unfolding bus_lines written_lines
-loop-i-init c = (omega arith, refl, put-none _ _, omega arith)
+loop-i-init c = (refl, put-none _ _, omega arith)
 
 pub put_bus_line-e-requires : goal.put_bus_line-e-requires
-put_bus_line-e-requires c = omega (arith, c.loop-i.invariant.2.behind, c.loop-i.invariant.3, c.requires.0, c.requires.1)
+put_bus_line-e-requires c = omega (arith, c.loop-i.invariant.1.behind, c.loop-i.invariant.2, c.requires.0, c.requires.1)
 
 pub loop-i-preserved : goal.loop-i-preserved
 loop-i-preserved c = (
-  omega arith,
-  c.put_bus_line-e.auto.buf ∙ c.loop-i.invariant.1,
-  rw (more (goal.at.loop-i-preserved c).In-loop-i) (put_then (omega (arith, c.requires.1)) c.loop-i.invariant.2 c.put_bus_line-e.ensures.0),
-  rw (more (goal.at.loop-i-preserved c).In-loop-i, length-append) (omega (arith, c.loop-i.invariant.3, c.put_bus_line-e.ensures.1)),
+  c.put_bus_line-e.auto.buf ∙ c.loop-i.invariant.0,
+  rw (more (goal.at.loop-i-preserved c).In-loop-i) (put_then (omega (arith, c.requires.1)) c.loop-i.invariant.1 c.put_bus_line-e.ensures.0),
+  rw (more (goal.at.loop-i-preserved c).In-loop-i, length-append) (omega (arith, c.loop-i.invariant.2, c.put_bus_line-e.ensures.1)),
 )
 
 pub shape_of-buf : goal.shape_of-buf
-shape_of-buf c = c.loop-i.invariant.1
+shape_of-buf c = c.loop-i.invariant.0
 
 pub returns : goal.returns
 returns c = let e : c.loop-i.i ≡ c.args.p.bus_count = omega arith in
-    (rw (← e) c.loop-i.invariant.2, rw (← e) (omega (arith, c.loop-i.invariant.3, c.requires.0)))
+    (rw (← e) c.loop-i.invariant.1, rw (← e) (omega (arith, c.loop-i.invariant.2, c.requires.0)))

@@ -23,7 +23,7 @@ good c = sym c.is_good_plan.ensures ∙ c.if-not-is_good_plan.false
 pub returns-then-not-is_good_plan : goal.returns-then-not-is_good_plan
 unfolding show_answer show_leaves
 returns-then-not-is_good_plan c = let e : good_plan c.args.p ≡ false = sym c.is_good_plan.ensures ∙ c.if-not-is_good_plan.true in
-    (c.refused_write.ensures ∙ simp e, simp e)
+    (rw c.at.ensures (simp e), simp e)
 
 pub put_shown-n-requires : goal.put_shown-n-requires
 put_shown-n-requires c = let f = good-figures _ (good (goal.at.put_shown-n-requires c).Else-not-is_good_plan) in
