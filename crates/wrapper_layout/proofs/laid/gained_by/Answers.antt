@@ -1,8 +1,8 @@
 -- `wrapper_layout::laid::gained_by` meets its contract: what its invariant (Invariants.antt) leaves to show. Assumes nothing.
 use borrow.Author.Rules.{rules}
 use native.Mathlib.Omega.{arith}
-use Prim.Native.Nat.{◌-◌, ◌<◌}
-use mathlib.Core.Path.{◌≡◌, refl, sym, ap, ◌∙◌}
+use Prim.Native.Nat.{◌<◌}
+use mathlib.Core.Path.{◌≡◌, sym, ap, ◌∙◌}
 use lib.ListN.{length, get_or, set, replicate}
 use Rattle.wrapper_scans.proofs.ChainLaws.{over-set, over-end}
 use Rattle.wrapper_layout.specs.LayoutAnswers.{gained}

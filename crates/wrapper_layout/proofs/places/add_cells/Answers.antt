@@ -1,11 +1,10 @@
 -- `wrapper_layout::places::add_cells` meets its contract: what its invariant (Invariants.antt) leaves to show. Assumes nothing.
 use native.Mathlib.Omega.{arith}
 use Prim.Native.Nat.{ℕ, suc, ◌+◌, ◌-◌, ◌≤◌, ◌<◌}
-use mathlib.Core.Path.{◌≡◌, refl, sym, ap, ◌∙◌}
+use mathlib.Core.Path.{◌≡◌, sym, ◌∙◌}
 use mathlib.Core.List.{List}
-use lib.ListN.{length}
 use Rattle.wrapper_fit.specs.Fit.{placed, with_cells}
-use Rattle.wrapper_fit.proofs.FitLaws.{placed-length, longest-placed}
+use Rattle.wrapper_fit.proofs.FitLaws.{longest-placed}
 use Rattle.wrapper_layout.proofs.places.add_cells.Goals as goal
 
 cells-start : (n : ℕ) (l : List ℕ) → with_cells n l ≡ with_cells (n - 0) l

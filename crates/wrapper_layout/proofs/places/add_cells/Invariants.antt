@@ -2,7 +2,6 @@
 -- the present ones, of which the longest grew by at most one each turn. The measure is what is left of `n`. Assumes nothing.
 use Prim.Native.Nat.{◌+◌, ◌-◌, ◌≤◌}
 use mathlib.Core.Path.{◌≡◌}
-use lib.ListN.{length}
 use Rattle.wrapper_fit.specs.Fit.{longest, with_cells}
 use Rattle.wrapper_layout.proofs.places.add_cells.Given as goal
 
