@@ -4,22 +4,18 @@ ghost use Rattle.soc.specs.Limits.{position_max};
 ghost use Rattle.units.specs.Places.{all_of};
 ghost use Rattle.soc.specs.Rules.{up_to, good_length, spare_length, good_position, level_rule, good_terminals, good_chains, good_tests, good_module, spare_module};
 
-use super::test_rules::{are_good_tests, are_spare_tests, is_none, is_not_given};
-use super::{CHAINS_MAX, LENGTH_MAX, LEVEL_MAX, Module, POSITION_MAX, TERMINALS_MAX, TESTS_MAX};
+use super::test_rules::{are_good_tests, are_spare_tests};
+use super::{
+    CHAINS_MAX, LENGTH_MAX, LEVEL_MAX, Module, NOT_GIVEN, POSITION_MAX, TERMINALS_MAX, TESTS_MAX,
+};
 use units::FlipFlops;
-
-// 0 to 1,000,000.
-fn is_position(z: i32) -> bool
-    ensures { result ≡ up_to position_max z }
-{
-    (0..=POSITION_MAX).contains(&z)
-}
 
 #[tactic(auto, unfolding(crate::specs::Rules::good_position))]
 fn is_good_position(option: bool, x: i32, y: i32) -> bool
     ensures { result ≡ good_position option x y }
 {
-    is_not_given(x) && is_not_given(y) || option && is_position(x) && is_position(y)
+    let limits = 0..=POSITION_MAX;
+    x == NOT_GIVEN && y == NOT_GIVEN || option && limits.contains(&x) && limits.contains(&y)
 }
 
 #[tactic(auto, unfolding(units::specs::Places::all_of))]
@@ -100,8 +96,8 @@ impl Module {
             && self.bidirs == 0
             && self.chain_count == 0
             && are_spare_lengths(&self.chains)
-            && is_none(self.x)
-            && is_none(self.y)
+            && self.x == 0
+            && self.y == 0
             && self.test_count == 0
             && are_spare_tests(&self.tests)
     }

@@ -5,7 +5,7 @@ ghost use Rattle.soc.specs.Planned.{is_planned, planned_of, planned_is};
 use super::{MODULES_MAX, Module, Soc};
 
 // The numbers of the planned modules, ascending; spare places are 0.
-#[derive(Clone, Copy)]
+#[derive(Clone, Copy, PartialEq, Eq)]
 pub struct Planned {
     pub count: usize,
     pub numbers: [usize; MODULES_MAX],

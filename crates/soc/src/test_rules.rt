@@ -6,30 +6,11 @@ ghost use Rattle.soc.specs.Rules.{none_z, is_not_given, up_to, good_power, pins_
 
 use super::{NOT_GIVEN, PATTERNS_MAX, POWER_MAX, Test};
 
-pub(crate) fn is_not_given(z: i32) -> bool
-    ensures { result ≡ is_not_given z }
-{
-    z == NOT_GIVEN
-}
-
-pub(crate) fn is_none(z: i32) -> bool
-    ensures { result ≡ none_z z }
-{
-    z == 0
-}
-
-// 0 to 16,777,215.
-fn is_power(z: i32) -> bool
-    ensures { result ≡ up_to power_max z }
-{
-    (0..=POWER_MAX).contains(&z)
-}
-
 #[tactic(auto, unfolding(crate::specs::Rules::good_power))]
 fn is_good_power(option: bool, w: i32) -> bool
     ensures { result ≡ good_power option w }
 {
-    is_not_given(w) || option && is_power(w)
+    w == NOT_GIVEN || option && (0..=POWER_MAX).contains(&w)
 }
 
 // The terminals of module 0 are the SOC's pins: none of its tests has TamUse 1.
@@ -55,7 +36,7 @@ impl Test {
     fn is_spare(&self) -> bool
         ensures { result ≡ spare_test self.now }
     {
-        !self.scan_use && !self.tam_use && self.patterns == 0 && is_none(self.power)
+        !self.scan_use && !self.tam_use && self.patterns == 0 && self.power == 0
     }
 }
 
