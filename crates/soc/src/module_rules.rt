@@ -18,14 +18,12 @@ fn is_good_position(option: bool, x: i32, y: i32) -> bool
     x == NOT_GIVEN && y == NOT_GIVEN || option && limits.contains(&x) && limits.contains(&y)
 }
 
-#[tactic(auto, unfolding(units::specs::Places::all_of))]
 fn are_good_lengths(lengths: &[FlipFlops]) -> bool
     ensures { result ≡ all_of good_length lengths.now }
 {
     lengths.iter().all(|f| (1..=LENGTH_MAX).contains(&f.0))
 }
 
-#[tactic(auto, unfolding(units::specs::Places::all_of))]
 fn are_spare_lengths(lengths: &[FlipFlops]) -> bool
     ensures { result ≡ all_of spare_length lengths.now }
 {

@@ -21,14 +21,12 @@ fn are_good_modules(power: bool, xy: bool, modules: &[Module]) -> bool
     true
 }
 
-#[tactic(auto, unfolding(units::specs::Places::all_of))]
 fn are_spare_modules(modules: &[Module]) -> bool
     ensures { result ≡ all_of spare_module modules.now }
 {
     modules.iter().all(Module::is_spare)
 }
 
-#[tactic(auto, unfolding(units::specs::Places::all_of))]
 fn are_spare_bytes(bytes: &[u8]) -> bool
     ensures { result ≡ all_of none bytes.now }
 {

@@ -40,14 +40,12 @@ impl Test {
     }
 }
 
-#[tactic(auto, unfolding(units::specs::Places::all_of))]
 pub(crate) fn are_good_tests(m: usize, power: bool, tests: &[Test]) -> bool
     ensures { result ≡ all_of (good_test m power) tests.now }
 {
     tests.iter().all(|t| t.is_good(m, power))
 }
 
-#[tactic(auto, unfolding(units::specs::Places::all_of))]
 pub(crate) fn are_spare_tests(tests: &[Test]) -> bool
     ensures { result ≡ all_of spare_test tests.now }
 {
