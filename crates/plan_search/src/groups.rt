@@ -45,11 +45,7 @@ fn keep_widths(widths: &[u32], found: &mut [u32])
         length widths.now ∷ widths.now ++ drop (length widths.now + 1) found.old }
 {
     found[0] = widths.len() as u32;
-    let mut i: usize = 0;
-    while i < widths.len() {
-        found[i + 1] = widths[i];
-        i += 1;
-    }
+    found[1..widths.len() + 1].copy_from_slice(widths);
 }
 
 // The smaller of best and the least time on buses of these widths; if that is less, they are kept.
