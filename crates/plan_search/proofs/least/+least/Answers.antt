@@ -118,9 +118,6 @@ returns-then-r-enough t c =
           c.time_at-t.ensures refl c.larger-next.ensures c.least-r.ensures.loads_unchanged c.least-r.ensures.reaches c.if-r-enough.true;
     }
 
-pub overflow_add-b : goal.overflow_add-b
-overflow_add-b t c = omega (arith, c.loop-b-test.true, c.requires.0.widths.few)
-
 pub loop-b-preserved : goal.loop-b-preserved
 loop-b-preserved t c =
     left-tried c.requires.0 c.requires.1 c.requires.2 (less t (goal.at.loop-b-preserved t c).In-loop-b) c.loop-b.invariant c.loop-b-test.true
