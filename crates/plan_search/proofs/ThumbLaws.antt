@@ -1,13 +1,13 @@
 -- Laws of the rule of thumb: the loads of some placement of the first modules, and buses of equal width with one that has the rest. Assumes
 -- nothing.
-use Prim.Native.Nat.{ℕ, suc, ◌+◌, ◌-◌, ◌*◌, ◌/◌, ◌≤◌, ◌<◌, max}
+use Prim.Native.Nat.{ℕ, suc, ◌+◌, ◌-◌, ◌*◌, ◌≤◌, ◌<◌, max}
 use mathlib.Core.Path.{◌≡◌, refl, sym, ap, ◌∙◌}
 use mathlib.Core.List.{List, [], ◌∷◌, ◌++◌, Memᴰ}
 use mathlib.Core.Logic.{⊎_elim}
 use native.Mathlib.Omega.{arith}
-use native.Mathlib.Nat.{eq-or-lt_of_le, suc-mul, mul_comm, le-div_iff_mul-le}
+use native.Mathlib.Nat.{eq-or-lt_of_le}
 use lib.ListN.{length, get_or, take, set, replicate, length-append, length-set, get_or-append}
-use lib.ListN.{length-replicate, get_or-replicate}
+use lib.ListN.{length-replicate}
 use lib.Seq.{take-suc-set, take-set-lt, get_or-take, get_or_at, length-take-le}
 use Rattle.plan_rules.specs.Plans.{largest, time_of}
 use Rattle.plan_rules.specs.Listed.{placements, plan}
@@ -16,13 +16,9 @@ use Rattle.plan_rules.specs.Widths.{even}
 use Rattle.plan_rules.proofs.BusyLaws.{length-busies, busies-none, busies-one, busies-most, largest-zeros, largest-set}
 use Rattle.plan_rules.proofs.ListedLaws.{Placed, placements_sound, placements_complete}
 use Rattle.plan_rules.proofs.WiderLaws.{even-plan}
-use Rattle.plan_search.specs.Search.{search_buses, row_places, time_bound, table_time, TimeIn, IsTable}
+use Rattle.plan_search.specs.Search.{search_buses, row_places, time_bound, table_time}
 use Rattle.plan_search.specs.Thumb.{AreBuses, Partly, Placeable}
 use Rattle.plan_search.proofs.LentLaws.{take-replicate}
-
--- a module's time on a bus stands in the table
-pub bus-time : (t ws : List ℕ) (i b n : ℕ) → IsTable t n → AreBuses ws → i < n → b < length ws → TimeIn t i (get_or ws b 0)
-bus-time t ws i b n o u h k = let w = u.wide b k in record { low = w.0; high = w.1; entry = omega (arith, o.long) }
 
 module _ (t ws : List ℕ) (i : ℕ) (loads : List ℕ) (p : Partly t ws i loads) where
   pub partly_length : length loads ≡ length ws
@@ -32,15 +28,6 @@ module _ (t ws : List ℕ) (i : ℕ) (loads : List ℕ) (p : Partly t ws i loads
   partly_most h b =
       let l = (placements_sound i (length ws) p.buses p.listed).placed in
       rw p.loads_are (rw l at (busies-most (table_time t) time_bound h 1 b ws p.buses))
-
--- a table of more modules is one of fewer
-pub table-fewer : (t : List ℕ) (n m : ℕ) → IsTable t n → m ≤ n → IsTable t m
-table-fewer t n m o h = record {
-  few = omega (arith, o.few);
-  long = omega (arith, o.long);
-  times = o.times;
-  falls = λ i v w k. o.falls i v w (omega arith);
-}
 
 -- the first i of n modules are placed: the loads are in the front of an array, and the largest of them is beside it
 pub record Thumbed (t ws : List ℕ) (n i : ℕ) (loads : List ℕ) (top : ℕ) : Type 0 where
@@ -129,36 +116,8 @@ module _ (t ws : List ℕ) (n i : ℕ) (loads : List ℕ) (top : ℕ) where
 even-length : (c w W : ℕ) → length (even c w W) ≡ suc c
 even-length c w W = simp (length-append, length-replicate) (omega arith)
 
--- buses of equal width and one that has the rest are within a table's places
-module _ (k w W : ℕ) (low : 1 ≤ w) (fits : suc k * w ≤ W) where
-  even-wide : (b : ℕ) → b < suc k → (1 ≤ get_or (even k w W) b 0) × (get_or (even k w W) b 0 ≤ W)
-  even-wide b h =
-      let m : b ≤ k = omega arith in
-      let f = suc-mul k w in
-      let t : w ≤ W = omega arith in
-      ⊎_elim
-      (λ e. rw (get_or_at (replicate k w) (W - k * w) [] 0 b (length-replicate k w ∙ sym e)) (omega arith, omega arith))
-      (λ l.
-      let a = get_or-append (replicate k w) ((W - k * w) ∷ []) 0 b (omega (arith, length-replicate k w)) in
-      let g : get_or (even k w W) b 0 ≡ w = a ∙ get_or-replicate k b w 0 l in
-      rw g (low, t))
-      (eq-or-lt_of_le m)
-
-  even-buses : suc k ≤ search_buses → W ≤ row_places → AreBuses (even k w W)
-  even-buses few top =
-      let e = even-length k w W in
-      record { some = omega arith; few = omega arith; wide = λ b h. let u = even-wide b (omega arith) in (u.0, omega (arith, u.1)) }
-
-  -- a placement on them has the time of a plan
-  even-reached : (t : List ℕ) (B n r : ℕ) → suc k ≤ B → Placeable t (even k w W) n r → Reached (table_time t) W B n r
-  even-reached t B n r b p = record {
-    reached = plan (even k w W) p.buses;
-    is_plan = even-plan k w W B n p.buses low fits b (rw (even-length k w W) at p.listed);
-    takes = p.takes;
-  }
-
--- c of the widths, where the last of them has the rest
-module _ {c w W : ℕ} (some : 1 ≤ c) (few : c ≤ search_buses) (low : 1 ≤ w) (fits : c * w ≤ W) (top : W ≤ row_places) where
+-- c buses of equal width, where the last has the rest: a placement on them has the time of a plan
+module _ {c w W : ℕ} (some : 1 ≤ c) (few : c ≤ search_buses) (low : 1 ≤ w) (fits : c * w ≤ W) where
   abbrev evened : List ℕ
   evened = take c (set (replicate search_buses w) (c - 1) (W - (c - 1) * w))
 
@@ -170,34 +129,12 @@ module _ {c w W : ℕ} (some : 1 ≤ c) (few : c ≤ search_buses) (low : 1 ≤ 
       ∙ take-suc-set (replicate search_buses w) (c - 1) (W - (c - 1) * w) k
       ∙ ap (λ (l : List ℕ). l ++ (W - (c - 1) * w) ∷ []) (take-replicate (c - 1) search_buses w (omega arith))
 
-  last_fits : suc (c - 1) * w ≤ W
-  last_fits = let e : suc (c - 1) ≡ c = omega arith in rw e fits
-
-  pub evened-buses : AreBuses evened
-  evened-buses = rw evened-is (even-buses (c - 1) w W low last_fits (omega arith) top)
-
   pub evened-reached : (t : List ℕ) (n r : ℕ) → Placeable t evened n r → Reached (table_time t) W c n r
-  evened-reached t n r p = even-reached (c - 1) w W low last_fits t c n r (omega arith) (rw evened-is at p)
-
--- a width of at most an equal share
-pub share-fits : (c w W : ℕ) → 1 ≤ c → w ≤ W / c → c * w ≤ W
-share-fits c w W some h = let p : 0 < c = some in omega (arith, (le-div_iff_mul-le p).0 h, mul_comm w c)
-
--- with a larger limit the same plan is one
-pub reached-more : (t : List ℕ) (W B C n r : ℕ) → B ≤ C → Reached (table_time t) W B n r → Reached (table_time t) W C n r
-reached-more t W B C n r h p =
-    let q = p.is_plan in
-    record {
-      reached = p.reached;
-      is_plan = record {
-        some = q.some;
-        limit = omega (arith, q.limit);
-        wide = q.wide;
-        rising = q.rising;
-        wires = q.wires;
-        placed = q.placed;
-        low = q.low;
-        high = q.high;
-      };
-      takes = p.takes;
-    }
+  evened-reached t n r p =
+      let e : suc (c - 1) ≡ c = omega arith in
+      let q = rw evened-is at p in
+      record {
+        reached = plan (even (c - 1) w W) q.buses;
+        is_plan = even-plan (c - 1) w W c n q.buses low (rw e fits) (omega arith) (rw (even-length (c - 1) w W) at q.listed);
+        takes = q.takes;
+      }
