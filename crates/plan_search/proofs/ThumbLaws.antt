@@ -16,7 +16,7 @@ use Rattle.plan_rules.specs.Widths.{even}
 use Rattle.plan_rules.proofs.BusyLaws.{length-busies, busies-none, busies-one, busies-most, largest-zeros, largest-set}
 use Rattle.plan_rules.proofs.ListedLaws.{Placed, placements_sound, placements_complete}
 use Rattle.plan_rules.proofs.WiderLaws.{even-plan}
-use Rattle.plan_search.specs.Search.{search_buses, row_places, time_bound, table_time}
+use Rattle.plan_search.specs.Search.{search_buses, time_bound, table_time}
 use Rattle.plan_search.specs.Thumb.{AreBuses, Partly, Placeable}
 use Rattle.plan_search.proofs.LentLaws.{take-replicate}
 
