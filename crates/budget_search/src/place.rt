@@ -29,11 +29,7 @@ fn put(from: &[u32], to: &mut [u32; BEST_PLACES], at: usize)
     ensures { (to.new ≡ take at to.old ++
         (from.now ++ drop (at + length from.now) to.old)) × (length to.new ≡ best_places) }
 {
-    let mut i: usize = 0;
-    while i < from.len() {
-        to[at + i] = from[i];
-        i += 1;
-    }
+    to[at..at + from.len()].copy_from_slice(from);
 }
 
 // The plan becomes the best: the count of its buses, their widths, the bus numbers.

@@ -2,9 +2,8 @@
 use native.Mathlib.Omega.{arith}
 use mathlib.Core.Path.{◌≡◌, sym, ap, ◌∙◌}
 use lib.ListN.{length, length-set}
-use Rattle.plan_search.proofs.CopyLaws.{over}
 use Rattle.budget_search.specs.Steps.{buses_at, plan_in}
-use Rattle.budget_search.proofs.KeptLaws.{kept, plan-kept, rooms-kept}
+use Rattle.budget_search.proofs.KeptLaws.{kept, over, plan-kept, rooms-kept}
 use Rattle.budget_search.proofs.place.keep_plan.Goals as goal
 
 pub put-requires : goal.put-requires
