@@ -42,12 +42,6 @@ returns-then-is_stopped t c =
       refl,
     )
 
-pub overflow_sub-due : goal.overflow_sub-due
-overflow_sub-due t c = omega (arith, c.requires.4.at_most)
-
-pub overflow_cast-due : goal.overflow_cast-due
-overflow_cast-due t c = omega (arith, c.requires.4.few)
-
 pub overflow_mul-low : goal.overflow_mul-low
 overflow_mul-low t c =
     let a = c.args in
@@ -62,12 +56,6 @@ returns-then-left-low t c =
       c.requires.3,
       refl,
     )
-
-pub offset_bounds-widths-at : goal.offset_bounds-widths-at
-offset_bounds-widths-at t c = omega (arith, c.requires.4.at_most, c.requires.4.few)
-
-pub bounds-widths-at : goal.bounds-widths-at
-bounds-widths-at t c = omega (arith, c.requires.4.at_most)
 
 pub placed_on-requires : goal.placed_on-requires
 placed_on-requires t c = (
@@ -91,18 +79,6 @@ returns-then-due-eq1 t c =
       take-set-le a.at a.widths.now a.at a.left.0 (omega arith),
     )
 
-pub offset_bounds-widths-at-2 : goal.offset_bounds-widths-at-2
-offset_bounds-widths-at-2 t c = omega (arith, c.requires.4.at_most, c.requires.4.few)
-
-pub bounds-widths-at-2 : goal.bounds-widths-at-2
-bounds-widths-at-2 t c = omega (arith, c.requires.4.at_most)
-
-pub overflow_add-at : goal.overflow_add-at
-overflow_add-at t c = omega (arith, c.requires.4.at_most, c.requires.4.few)
-
-pub overflow_sub-left : goal.overflow_sub-left
-overflow_sub-left t c = fits t (goal.at.overflow_sub-left t c).Else-left-low
-
 pub over_lists-r-requires : goal.over_lists-r-requires
 over_lists-r-requires t c =
     let a = c.args in
@@ -111,9 +87,6 @@ over_lists-r-requires t c =
     let m : (length (set a.widths.now a.at a.low.0) - (a.at + 1)) * 66 + (65 - a.low.0) < t = omega (arith, n, l) in
     let f = fits t (goal.at.over_lists-r-requires t c).Else-left-low in
     (m, (c.requires.0, c.requires.1, c.requires.2, c.requires.3, begun-next c.requires.4 l f))
-
-pub overflow_add-low : goal.overflow_add-low
-overflow_add-low t c = omega (arith, c.requires.4.low_most)
 
 -- the next width is more, by omega, so that a wrong one is met where the lists are told
 pub over_lists-requires : goal.over_lists-requires
@@ -133,11 +106,6 @@ over_lists-requires t c =
         begun_more c.requires.4 n e (omega arith) (omega (arith, f, w)),
       ),
     )
-
-pub shape_of-widths : goal.shape_of-widths
-shape_of-widths t c =
-    let a = c.args in
-    c.over_lists.auto.widths ∙ c.over_lists-r.auto.widths ∙ length-set a.widths.now a.at a.low.0
 
 pub returns : goal.returns
 returns t c =

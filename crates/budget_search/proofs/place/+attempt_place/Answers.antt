@@ -5,7 +5,7 @@ use mathlib.Core.Path.{◌≡◌, sym, ap, ◌∙◌}
 use lib.ListN.{length, get_or, set, length-set}
 use Rattle.plan_search.specs.Search.{table_time}
 use Rattle.budget_rules.specs.Tries.{busy_with}
-use Rattle.budget_search.proofs.PlaceLaws.{left_ready, placed-reached, placed-kept, time_in_lem, busy-most, left-start}
+use Rattle.budget_search.proofs.PlaceLaws.{left_ready, placed-reached, placed-kept, busy-most, left-start}
 use Rattle.budget_search.proofs.PlaceLaws.{ready_next, attempt_halted, attempt_dropped, attempt_on, left-tried, left_end}
 use Rattle.budget_search.proofs.place.+attempt_place.Goals as goal
 use Rattle.budget_search.proofs.place.+attempt_place.Goals.{attempt-After-time_at-t}
@@ -22,9 +22,6 @@ attempt-returns-then-budget-s t c =
     attempt_halted c.requires.ready c.requires.i_in_bounds.0 c.args.b c.requires.i_in_bounds.1 c.args.s
     (omega arith) c.halt.ensures
 
-pub attempt-time_at-t-requires : goal.attempt-time_at-t-requires
-attempt-time_at-t-requires t c = time_in_lem c.requires.ready c.requires.i_in_bounds.0 c.args.b c.requires.i_in_bounds.1
-
 pub attempt-overflow_add-busy : goal.attempt-overflow_add-busy
 attempt-overflow_add-busy t c =
     let m = busy-most c.requires.ready c.requires.i_in_bounds.0 c.args.b in
@@ -35,29 +32,12 @@ attempt-returns-then-is_reached t c =
     attempt_dropped c.requires.ready c.requires.i_in_bounds.0 c.args.b c.requires.i_in_bounds.1 c.args.s (omega arith)
     c.count-spent.ensures (busy-is t (goal.at.attempt-returns-then-is_reached t c).After-time_at-t) (sym c.if-is_reached.true ∙ c.is_reached.ensures)
 
-pub attempt-overflow_cast-buses : goal.attempt-overflow_cast-buses
-attempt-overflow_cast-buses t c = omega (arith, c.requires.ready.widths.few, c.requires.i_in_bounds.1)
-
 pub attempt-place-r-requires : goal.attempt-place-r-requires
 attempt-place-r-requires t c =
     let a = c.args in
     let n : length (set a.buses.now a.i (a.b + 1)) ≡ length a.buses.now = length-set a.buses.now a.i (a.b + 1) in
     let f : (length (set a.buses.now a.i (a.b + 1)) - (a.i + 1)) * 2 + 1 < t = omega (arith, n, c.requires.i_in_bounds.0) in
     (f, ready_next c.requires.ready c.requires.i_in_bounds.0 a.b c.requires.i_in_bounds.1 (busy-is t (goal.at.attempt-place-r-requires t c).After-time_at-t) c.max.ensures)
-
-pub attempt-offset_bounds-loads-b-3 : goal.attempt-offset_bounds-loads-b-3
-attempt-offset_bounds-loads-b-3 t c = omega (arith, c.requires.ready.widths.few, c.requires.i_in_bounds.1)
-
-pub attempt-bounds-loads-b-3 : goal.attempt-bounds-loads-b-3
-attempt-bounds-loads-b-3 t c = rw (c.place-r.ensures.loads_same, length-set) (omega (arith, c.requires.ready.room, c.requires.i_in_bounds.1))
-
-pub attempt-shape_of-loads : goal.attempt-shape_of-loads
-attempt-shape_of-loads t c =
-    let a = c.args in
-    simp length-set (ap length c.place-r.ensures.loads_same ∙ length-set a.loads.now a.b (get_or a.loads.now a.b 0 + c.time_at-t.result.0))
-
-pub attempt-shape_of-buses : goal.attempt-shape_of-buses
-attempt-shape_of-buses t c = c.place-r.auto.buses ∙ length-set c.args.buses.now c.args.i (c.args.b + 1)
 
 -- the try was gone on with
 pub attempt-returns : goal.attempt-returns
@@ -68,9 +48,6 @@ attempt-returns t c =
 
 pub place-returns-then-is_reached : goal.place-returns-then-is_reached
 place-returns-then-is_reached t c = placed-reached c.requires c.args.s c.if-i-buses.true (sym c.if-is_reached.true ∙ c.is_reached.ensures)
-
-pub place-keep_plan-requires : goal.place-keep_plan-requires
-place-keep_plan-requires t c = (c.requires.widths.few, c.requires.table.few, c.requires.rooms)
 
 pub place-returns-then-i-buses : goal.place-returns-then-i-buses
 place-returns-then-i-buses t c =
