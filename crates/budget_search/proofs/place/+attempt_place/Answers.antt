@@ -5,8 +5,8 @@ use mathlib.Core.Path.{◌≡◌, sym, ap, ◌∙◌}
 use lib.ListN.{length, get_or, set, length-set}
 use Rattle.plan_search.specs.Search.{table_time}
 use Rattle.budget_rules.specs.Tries.{busy_with}
-use Rattle.budget_search.proofs.PlaceLaws.{left_ready, placed-reached, placed-kept, busy-most, left-start}
-use Rattle.budget_search.proofs.PlaceLaws.{ready_next, attempt_halted, attempt_dropped, attempt_on, left-tried, left_end}
+use Rattle.budget_search.proofs.PlaceLaws.{placed-reached, placed-kept, left-start}
+use Rattle.budget_search.proofs.PlaceLaws.{ready_next, attempt_dropped, attempt_on, left-tried, left_end}
 use Rattle.budget_search.proofs.place.+attempt_place.Goals as goal
 use Rattle.budget_search.proofs.place.+attempt_place.Goals.{attempt-After-time_at-t}
 
@@ -16,16 +16,6 @@ busy-is : (t : ℕ) (c : attempt-After-time_at-t t)
     get_or a.loads.now a.b 0 + c.time_at-t.result.0
     ≡ busy_with (table_time a.table.now) a.widths.now a.i a.loads.now a.b
 busy-is t c = let a = c.args in ap (λ x. get_or a.loads.now a.b 0 + x) c.time_at-t.ensures
-
-pub attempt-returns-then-budget-s : goal.attempt-returns-then-budget-s
-attempt-returns-then-budget-s t c =
-    attempt_halted c.requires.ready c.requires.i_in_bounds.0 c.args.b c.requires.i_in_bounds.1 c.args.s
-    (omega arith) c.halt.ensures
-
-pub attempt-overflow_add-busy : goal.attempt-overflow_add-busy
-attempt-overflow_add-busy t c =
-    let m = busy-most c.requires.ready c.requires.i_in_bounds.0 c.args.b in
-    omega (arith, m, c.time_at-t.ensures, c.requires.ready.table.few, c.requires.i_in_bounds.0)
 
 pub attempt-returns-then-is_reached : goal.attempt-returns-then-is_reached
 attempt-returns-then-is_reached t c =
@@ -56,14 +46,6 @@ place-returns-then-i-buses t c =
 
 pub place-loop-bus-init : goal.place-loop-bus-init
 place-loop-bus-init t c = left-start c.requires (omega (arith, c.requires.upto, c.if-i-buses.false)) c.args.s
-
-pub place-attempt-r-requires : goal.place-attempt-r-requires
-place-attempt-r-requires t c =
-    let l = c.loop-bus in
-    let v = l.invariant in
-    let h : c.args.i < length l.buses = omega (arith, v.buses_length, c.requires.upto, c.if-i-buses.false) in
-    let f : (length l.buses - c.args.i) * 2 < t = omega (arith, v.buses_length) in
-    (f, (left_ready v c.requires, (h, omega arith)))
 
 pub place-loop-bus-preserved : goal.place-loop-bus-preserved
 place-loop-bus-preserved t c = left-tried c.loop-bus.invariant (omega arith) c.attempt-r.ensures c.attempt-r.auto.buses
