@@ -41,6 +41,7 @@ fn over_counts(
         best: NO_TIME,
         tries: 0,
     };
+    // `1..=most` is no plainer: the loop then has a second way out, whose answer only a name of the prover's own could give.
     for c in 1..most + 1 {
         r = over_lists(
             table,

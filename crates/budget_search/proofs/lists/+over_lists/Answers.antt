@@ -1,6 +1,6 @@
 -- `lists::over_lists` meets its contract: what its invariant (Invariants.antt) leaves to show. Assumes nothing.
 use native.Mathlib.Omega.{arith}
-use Prim.Native.Nat.{ℕ, suc, ◌-◌, ◌≤◌, ◌<◌}
+use Prim.Native.Nat.{ℕ, ◌-◌, ◌≤◌}
 use mathlib.Core.Path.{refl, sym, ap, ◌∙◌}
 use mathlib.Core.List.{List, ◌++◌, map}
 use lib.ListN.{length, take, set, length-set}
@@ -21,10 +21,6 @@ fits : (t : ℕ) (c : Else-left-low t) → c.args.low.0 ≤ c.args.left.0
 fits t c =
     let a = c.args in
     low_fits a.low.0 (length a.widths.now - a.at) a.left.0 (omega (arith, c.requires.4.at_most)) (omega (arith, c.if-left-low.false))
-
--- a width behind this one is to be set too
-less : (t : ℕ) (c : Else-due-eq1 t) → suc c.args.at < length c.args.widths.now
-less t c = omega (arith, c.requires.4.at_most, c.if-due-eq1.false)
 
 -- the lists that are left
 abbrev left-lists : (t : ℕ) → Start t → List (List ℕ)
