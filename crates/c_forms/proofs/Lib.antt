@@ -1,4 +1,5 @@
 pub mod LengthLaws
+pub mod MadeLaws
 pub mod ModuleBack
 pub mod PlanBack
 pub mod PlanFits

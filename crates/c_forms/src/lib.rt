@@ -3,6 +3,7 @@
 #![tactic(auto)]
 
 mod budget_form;
+mod form;
 mod layout_form;
 mod plan_form;
 mod plan_read;

@@ -1,12 +1,9 @@
 // A plan record put into a lent buffer as its bytes. Without the room nothing is put, and the answer is 0.
-ghost use Rattle.std.specs.Prelude.{◌+◌, ◌*◌, ◌≤◌, length};
-ghost use Rattle.little_endian.specs.Rows.{each};
-ghost use Rattle.plan_record.specs.Record.{bus_places, module_places};
-ghost use Rattle.c_forms.specs.Words.{PutOf, PutFront};
-ghost use Rattle.c_forms.specs.PlanForm.{bus_stride, placed_stride, buses_from, plan_length};
-ghost use Rattle.c_forms.specs.PlanForm.{bus_bytes, placed_bytes, count_bytes, plan_bytes};
+ghost use Rattle.c_forms.specs.Words.{PutFront};
+ghost use Rattle.c_forms.specs.PlanForm.{bus_stride, placed_stride, plan_length, bus_bytes, placed_bytes, plan_bytes};
 
-use super::word::{LONG_BYTES, WORD_BYTES, put_words};
+use super::form::{Form, put_each, put_front};
+use super::word::{LONG_BYTES, WORD_BYTES};
 use plan_record::{BUS_PLACES, Bus, BusPlan, MODULE_PLACES, PlacedModule};
 
 // How many bytes a bus has.
@@ -28,73 +25,57 @@ pub(crate) const PLACED_FROM: usize = BUSES_FROM + BUS_STRIDE * BUS_PLACES;
 
 pub const PLAN_BYTES: usize = PLACED_FROM + PLACED_STRIDE * MODULE_PLACES;
 
-fn put_bus(buf: &mut [u8], at: usize, b: Bus) -> usize
-    requires { at + bus_stride ≤ length buf.old }
-    ensures { PutOf bus_stride (bus_bytes b) at buf.old buf.new result }
-{
-    let a = little_endian::put_u32(&mut *buf, at, b.width.0 as u64);
-    little_endian::put_u64(&mut *buf, a, b.busy.0)
-}
+impl Form for Bus {
+    ghost BYTES = { bus_stride };
 
-pub(crate) fn put_buses(buf: &mut [u8], at: usize, p: BusPlan) -> usize
-    requires { at + bus_stride * bus_places ≤ length buf.old }
-    ensures { PutOf (bus_stride * bus_places) (each bus_bytes p.buses) at buf.old buf.new result }
-{
-    let mut e = at;
-    let mut i: usize = 0;
-    while i < BUS_PLACES {
-        let b = p.buses[i];
-        e = put_bus(&mut *buf, e, b);
-        i += 1;
+    const BYTES: usize = BUS_STRIDE;
+
+    ghost bytes = { bus_bytes };
+
+    fn put(self, buf: &mut [u8], at: usize) -> usize {
+        let a = u64::from(self.width.0).put(buf, at);
+        little_endian::put_u64(buf, a, self.busy.0)
     }
-    e
 }
 
-fn put_placed(buf: &mut [u8], at: usize, m: PlacedModule) -> usize
-    requires { at + placed_stride ≤ length buf.old }
-    ensures { PutOf placed_stride (placed_bytes m) at buf.old buf.new result }
-{
-    let w = [m.number as u64, m.bus as u64, m.wires.0 as u64];
-    let a = put_words(&mut *buf, at, &w);
-    let b = little_endian::put_u64(&mut *buf, a, m.cycles.0);
-    little_endian::put_u64(&mut *buf, b, m.start.0)
-}
+impl Form for PlacedModule {
+    ghost BYTES = { placed_stride };
 
-pub(crate) fn put_modules(buf: &mut [u8], at: usize, p: BusPlan) -> usize
-    requires { at + placed_stride * module_places ≤ length buf.old }
-    ensures { PutOf (placed_stride * module_places) (each placed_bytes p.modules) at buf.old buf.new result }
-{
-    let mut e = at;
-    let mut i: usize = 0;
-    while i < MODULE_PLACES {
-        let m = p.modules[i];
-        e = put_placed(&mut *buf, e, m);
-        i += 1;
+    const BYTES: usize = PLACED_STRIDE;
+
+    ghost bytes = { placed_bytes };
+
+    fn put(self, buf: &mut [u8], at: usize) -> usize {
+        let w = [self.number as u64, self.bus as u64, self.wires.0 as u64];
+        let a = put_each(buf, at, &w);
+        let b = little_endian::put_u64(buf, a, self.cycles.0);
+        little_endian::put_u64(buf, b, self.start.0)
     }
-    e
 }
 
-pub(crate) fn put_counts(buf: &mut [u8], at: usize, p: BusPlan) -> usize
-    requires { at + buses_from ≤ length buf.old }
-    ensures { PutOf buses_from (count_bytes p) at buf.old buf.new result }
-{
-    let w = [
-        p.wires.0 as u64,
-        p.limit as u64,
-        p.bus_count as u64,
-        p.module_count as u64,
-    ];
-    let a = put_words(&mut *buf, at, &w);
-    little_endian::put_u64(&mut *buf, a, p.time.0)
+impl Form for BusPlan {
+    ghost BYTES = { plan_length };
+
+    const BYTES: usize = PLAN_BYTES;
+
+    ghost bytes = { plan_bytes };
+
+    fn put(self, buf: &mut [u8], at: usize) -> usize {
+        let w = [
+            self.wires.0 as u64,
+            self.limit as u64,
+            self.bus_count as u64,
+            self.module_count as u64,
+        ];
+        let a = put_each(buf, at, &w);
+        let b = little_endian::put_u64(buf, a, self.time.0);
+        let c = put_each(buf, b, &self.buses);
+        put_each(buf, c, &self.modules)
+    }
 }
 
 pub fn plan_bytes(p: BusPlan, buf: &mut [u8]) -> usize
     ensures { PutFront plan_length (plan_bytes p) buf.old buf.new result }
 {
-    if buf.len() < PLAN_BYTES {
-        return 0;
-    }
-    let a = put_counts(&mut *buf, 0, p);
-    let b = put_buses(&mut *buf, a, p);
-    put_modules(&mut *buf, b, p)
+    put_front(p, buf)
 }

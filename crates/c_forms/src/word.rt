@@ -1,6 +1,8 @@
-// Words of records in bytes: read from a place on, and put at a place; signed numbers and flags in them.
+// Words of records in bytes: read from a place on, and put at a place.
 ghost use Rattle.std.specs.Prelude.{◌≡◌, ◌+◌, ◌*◌, ◌≤◌, length};
-ghost use Rattle.c_forms.specs.Words.{word_length, word_at, signed_word, signed_in, flag_word, PutWords};
+ghost use Rattle.c_forms.specs.Words.{word_length, word, word_at};
+
+use super::form::Form;
 
 // How many bytes a word has, and a long one.
 pub(crate) const WORD_BYTES: usize = 4;
@@ -15,40 +17,27 @@ pub(crate) fn word_at(b: &[u8], at: usize, i: usize) -> u32
     little_endian::u32_at(b, at + WORD_BYTES * i)
 }
 
-pub(crate) fn signed_in(w: u32) -> i32
-    ensures { result ≡ signed_in w }
-{
-    if w < 2147483648 {
-        return w as i32;
+// A number in a word: its lowest 4 bytes.
+impl Form for u64 {
+    ghost BYTES = { word_length };
+
+    const BYTES: usize = WORD_BYTES;
+
+    ghost bytes = { word };
+
+    fn put(self, buf: &mut [u8], at: usize) -> usize {
+        little_endian::put_u32(buf, at, self)
     }
-    (w as i64 - 4294967296) as i32
 }
 
-pub(crate) fn signed_word(z: i32) -> u64
-    ensures { result ≡ signed_word z }
-{
-    if z < 0 {
-        return (z as i64 + 4294967296) as u64;
-    }
-    z as u64
-}
+impl Form for usize {
+    ghost BYTES = { word_length };
 
-pub(crate) fn flag_word(f: bool) -> u64
-    ensures { result ≡ flag_word f }
-{
-    if f { 1 } else { 0 }
-}
+    const BYTES: usize = WORD_BYTES;
 
-// The lowest 4 bytes of each number.
-pub(crate) fn put_words(buf: &mut [u8], at: usize, list: &[u64]) -> usize
-    requires { at + word_length * length list.now ≤ length buf.old }
-    ensures { PutWords list.now at buf.old buf.new result }
-{
-    let mut e = at;
-    let mut i: usize = 0;
-    while i < list.len() {
-        e = little_endian::put_u32(&mut *buf, e, list[i]);
-        i += 1;
+    ghost bytes = { word };
+
+    fn put(self, buf: &mut [u8], at: usize) -> usize {
+        (self as u64).put(buf, at)
     }
-    e
 }

@@ -1,34 +1,24 @@
--- `c_forms::soc_read::are_soc_flags` meets its contract: what its invariant (Invariants.antt) leaves to show. Assumes nothing.
-use native.Mathlib.Omega.{arith}
-use mathlib.Core.Path.{sym, ◌∙◌}
+-- `c_forms::soc_read::are_soc_flags` meets its contract: its tests are those of `soc_flags`, of the options and of each module. Assumes
+-- nothing.
+use borrow.Author.Rules.{rules}
+use Prim.Native.Nat.{◌+◌, ◌*◌}
+use mathlib.Core.Path.{refl, sym, ◌∙◌}
+use Rattle.std.proofs.lemmas.Iterator.{YieldsList-from_range}
+use Rattle.std.proofs.lemmas.Iterator.Search.{all_from_yields_List}
 use Rattle.units.proofs.TestLaws.{and_stops, and_goes}
-use Rattle.little_endian.proofs.RowLaws.{all-rows_step, all-rows_fails, all-rows-end}
 use Rattle.soc.specs.Limits.{modules_max}
 use Rattle.c_forms.specs.SocForm.{module_length, modules_from, module_flags, soc_flags}
+use Rattle.c_forms.proofs.MadeLaws.{tested_rows}
 use Rattle.c_forms.proofs.soc_read.are_soc_flags.Goals as goal
 
-pub returns-then-not-are_flags : goal.returns-then-not-are_flags
+pub returns-then-are_flags : goal.returns-then-are_flags
 unfolding soc_flags
-returns-then-not-are_flags c = sym (and_stops _ _ (sym c.are_flags.ensures ∙ c.if-not-are_flags.true))
+returns-then-are_flags c = let b = c.args.b.now in
+    all_from_yields_List (λ i. module_flags b (modules_from + module_length * i)) _ _ _ c.all.ensures.ran
+    (YieldsList-from_range 0 modules_max modules_max refl refl) (λ x t q k. search rules)
+    ∙ tested_rows (module_flags b) module_length modules_from modules_max
+    ∙ sym (and_goes _ _ (sym c.are_flags.ensures ∙ c.if-are_flags.true))
 
-pub loop-i-init : goal.loop-i-init
+pub returns-else-are_flags : goal.returns-else-are_flags
 unfolding soc_flags
-loop-i-init c = (omega arith, and_goes _ _ (sym c.are_flags.ensures ∙ c.if-not-are_flags.false))
-
-pub returns-then-not-are_module_flags : goal.returns-then-not-are_module_flags
-returns-then-not-are_module_flags c = let b = c.args.b.now in
-    sym (c.loop-i.invariant.1
-    ∙ all-rows_fails (module_flags b) module_length modules_max c.loop-i.i modules_from (omega arith)
-    (sym c.are_module_flags.ensures ∙ c.if-not-are_module_flags.true))
-
-pub loop-i-preserved : goal.loop-i-preserved
-loop-i-preserved c = let b = c.args.b.now in (
-  omega arith,
-  c.loop-i.invariant.1
-      ∙ all-rows_step (module_flags b) module_length modules_max c.loop-i.i modules_from (omega arith)
-      (sym c.are_module_flags.ensures ∙ c.if-not-are_module_flags.false),
-)
-
-pub returns : goal.returns
-returns c = let b = c.args.b.now in
-    sym (c.loop-i.invariant.1 ∙ all-rows-end (module_flags b) module_length modules_max c.loop-i.i _ (omega arith))
+returns-else-are_flags c = c.if-are_flags.false ∙ sym (and_stops _ _ (sym c.are_flags.ensures ∙ c.if-are_flags.false))
