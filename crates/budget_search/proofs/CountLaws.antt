@@ -13,7 +13,6 @@ use Rattle.budget_search.specs.declared.steps.Progress.{Progress}
 use Rattle.budget_search.specs.Steps.{buses_max, no_time, held_in}
 use Rattle.plan_search.specs.Search.{table_time}
 use Rattle.budget_search.specs.Place.{Rooms}
-use Rattle.budget_search.specs.Lists.{Begun}
 use Rattle.budget_search.specs.Within.{Limits}
 
 module _ (t : List ℕ) (W B n budget : ℕ) where
@@ -48,21 +47,11 @@ module _ (t : List ℕ) (W B n budget : ℕ) where
     counted-last h = let z : most + 1 - c ≡ 0 = omega arith in sym (s.is ∙ rw z)
 
     module _ (l : Limits t W B n budget) (h : c ≤ most) where
-      pub few : c ≤ buses_max
+      few : c ≤ buses_max
       few = omega (arith, s.most_is, l.limit)
 
       lent : length (take c widths) ≡ c
       lent = length-take-le c widths (omega (arith, s.widths_room, few))
-
-      pub begun_all : Begun 0 1 W (take c widths)
-      begun_all = record {
-        at_most = omega (arith, lent, s.from);
-        few = omega (arith, lent, few);
-        front = record { few = omega arith; wide = λ b k. absurd (omega arith) };
-        some = omega arith;
-        low_most = omega arith;
-        narrow = l.narrow;
-      }
 
       counts_step : (q : Sought)
           → on_counts (table_time t) W budget n (most + 1 - c) c q

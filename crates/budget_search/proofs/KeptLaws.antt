@@ -1,14 +1,20 @@
 -- Laws of the buffer of the best plan where a plan was put into it. Assumes nothing.
-use Prim.Native.Nat.{ℕ, ◌+◌, ◌-◌, ◌≤◌}
+use Prim.Native.Nat.{ℕ, ◌+◌, ◌-◌, ◌≤◌, ◌<◌}
 use mathlib.Core.Path.{◌≡◌, sym, ap, ◌∙◌}
 use mathlib.Core.List.{List, [], ◌∷◌, ◌++◌}
 use native.Mathlib.Omega.{arith}
-use lib.ListN.{length, take, drop, set, length-append, length-drop}
+use lib.ListN.{length, get_or, replicate, take, drop, set, length-append, length-drop}
 use lib.Seq.{take-take, take-append_seam, take-append-le, drop-append_seam, length-take-le}
+use Rattle.std.proofs.lemmas.List.{drop-replicate, take_more}
+use Rattle.units.specs.Places.{padded}
+use Rattle.units.proofs.PlaceLaws.{padded-set}
 use Rattle.plan_rules.specs.Listed.{plan}
-use Rattle.plan_search.proofs.CopyLaws.{over}
 use Rattle.budget_search.specs.Steps.{buses_max, buses_at, best_places, plan_in}
 use Rattle.budget_search.specs.Place.{Rooms}
+
+-- numbers were put over those of a list from a place on
+abbrev pub over : List ℕ → List ℕ → ℕ → List ℕ
+over from to at = take at to ++ (from ++ drop (at + length from) to)
 
 -- the count, the widths and the bus numbers were put
 abbrev pub counted : List ℕ → List ℕ → List ℕ
@@ -47,3 +53,17 @@ module _ (ws bs : List ℕ) (few : length ws ≤ buses_max) where
   pub rooms-kept : (best : List ℕ) → length best ≡ best_places → length (kept ws bs best) ≡ length best → Rooms (kept ws bs best)
   rooms-kept [] e f = absurd (omega arith)
   rooms-kept (x ∷ xs) e f = record { places = f ∙ e; count = few }
+
+-- numbers copied to the front of zeros
+pub front-padded : (m n d : ℕ) (l : List ℕ) → n + d ≤ length l → take n (drop d l) ++ drop n (replicate m 0) ≡ padded m 0 (take n (drop d l))
+unfolding padded
+front-padded m n d l h =
+    let e : length (take n (drop d l)) ≡ n = length-take-le n (drop d l) (omega (arith, length-drop d l)) in
+    rw (e, drop-replicate)
+
+-- one more of them copied
+pub padded-next : (m : ℕ) (l : List ℕ) (i : ℕ) → i < m → i < length l → set (padded m 0 (take i l)) i (get_or l i 0) ≡ padded m 0 (take (i + 1) l)
+padded-next m l i h k =
+    let e : length (take i l) ≡ i = length-take-le i l (omega arith) in
+    ap (λ j. set (padded m 0 (take i l)) j (get_or l i 0)) (sym e) ∙ padded-set m 0 (get_or l i 0) (take i l) (omega arith)
+    ∙ ap (padded m 0) (sym (take_more l i 0 k))

@@ -3,15 +3,13 @@ use Prim.Native.Nat.{ℕ, zero, suc, ◌+◌, ◌-◌, ◌*◌, ◌≤◌, ◌<�
 use mathlib.Core.Path.{◌≡◌, refl, sym, ap, ◌∙◌}
 use mathlib.Core.List.{List, [], ◌∷◌, ◌++◌, map}
 use native.Mathlib.Omega.{arith}
-use native.Mathlib.Nat.{mul_comm, mul-le-mul, mul-le-mul_left}
+use native.Mathlib.Nat.{mul_comm, mul-le-mul_left}
 use native.Mathlib.Numerals.{add-one}
-use lib.ListN.{length, get_or, take, set, replicate, length-append, length-set, length-replicate}
+use lib.ListN.{length, take, set, replicate, length-set, length-replicate}
 use lib.Seq.{take_all, take-suc-set, take-take, take-set-le, length-take-le}
 use Rattle.plan_rules.specs.Listed.{width_lists}
 use Rattle.plan_rules.proofs.WidthListLaws.{width_lists-none, width_lists-one, lists_more}
-use Rattle.budget_search.specs.Steps.{buses_max}
 use Rattle.plan_search.specs.Search.{row_places}
-use Rattle.budget_search.specs.Place.{AreWidths}
 use Rattle.budget_search.specs.Lists.{Begun}
 
 -- ---- arrays of zeros of which the front is lent
@@ -23,25 +21,6 @@ take-zeros (suc c) (suc m) h = ap (λ l. 0 ∷ l) (take-zeros c m (omega arith))
 pub length-zeros : (c m : ℕ) → c ≤ m → length {A = ℕ} (take c (replicate m 0)) ≡ c
 length-zeros c m h = length-take-le c (replicate m 0) (omega (arith, length-replicate {A = ℕ} m 0))
 
--- ---- one more width
-snoc_at : (P : ℕ → Type 0) (ws : List ℕ) (w b : ℕ) → b < length (ws ++ w ∷ []) → ((j : ℕ) → j < length ws → P (get_or ws j 0)) → P w
-    → P (get_or (ws ++ w ∷ []) b 0)
-snoc_at P [] w zero h k p = p
-snoc_at P [] w (suc b) h k p = absurd (omega arith)
-snoc_at P (x ∷ ws) w zero h k p = k 0 (omega arith)
-snoc_at P (x ∷ ws) w (suc b) h k p = snoc_at P ws w b (omega arith) (λ j m. k (suc j) (omega arith)) p
-
-widths-more : {ws : List ℕ} → AreWidths ws → (w : ℕ) → length ws < buses_max → 1 ≤ w → w ≤ row_places → AreWidths (ws ++ w ∷ [])
-widths-more {ws} a w h k m =
-    record {
-      few = simp length-append (omega arith);
-      wide = λ b l. snoc_at (λ v. (1 ≤ v) × (v ≤ row_places)) ws w b l a.wide (k, m);
-    }
-
--- no product of a width and a count of buses is large
-pub share-small : (low due : ℕ) → low ≤ 2 * row_places → due ≤ buses_max → low * due ≤ 1024
-share-small low due h k = mul-le-mul {n₁ = low} {m₁ = due} {n₂ = 128} {m₂ = 8} h k
-
 -- the widths that are to be set have room: low is a width
 pub low_fits : (low due left : ℕ) → 1 ≤ due → low * due ≤ left → low ≤ left
 low_fits low due left h k = omega (arith, mul-le-mul_left low h)
@@ -49,23 +28,6 @@ low_fits low due left h k = omega (arith, mul-le-mul_left low h)
 module _ {at low left : ℕ} {ws : List ℕ} (g : Begun at low left ws) where
   set_front : (w : ℕ) → take (at + 1) (set ws at w) ≡ take at ws ++ w ∷ []
   set_front w = rw (add-one at) (take-suc-set ws at w (omega (arith, g.at_most)))
-
-  front_length : length (take at ws) ≡ at
-  front_length = length-take-le at ws (omega (arith, g.at_most))
-
-  front-more : (w : ℕ) → 1 ≤ w → w ≤ row_places → AreWidths (take at ws ++ w ∷ [])
-  front-more w h k = widths-more g.front w (omega (arith, front_length, g.at_most, g.few)) h k
-
-  -- a width is set, and others are to be set behind it
-  pub begun-next : suc at < length ws → low ≤ left → Begun (at + 1) low (left - low) (set ws at low)
-  begun-next less h = record {
-    at_most = simp length-set (omega arith);
-    few = simp length-set g.few;
-    front = rw (set_front low) (front-more low g.some (omega (arith, g.narrow)));
-    some = g.some;
-    low_most = g.low_most;
-    narrow = omega (arith, g.narrow);
-  }
 
   -- the next width is more
   pub begun_more : {vs : List ℕ} {v : ℕ} → length vs ≡ length ws → take at vs ≡ take at ws → 1 ≤ v → v ≤ 2 * row_places → Begun at v left vs
@@ -88,9 +50,6 @@ module _ {at low left : ℕ} {ws : List ℕ} (g : Begun at low left ws) where
     last-is : set ws at left ≡ take at ws ++ left ∷ []
     last-is =
         sym (take_all (at + 1) (set ws at left) (simp length-set (omega arith))) ∙ set_front left
-
-    pub last-widths : AreWidths (set ws at left)
-    last-widths = rw last-is (front-more left (omega (arith, g.some)) g.narrow)
 
     pub left_one : map (λ vs. take at ws ++ vs) (width_lists (length ws - at) low left) ≡ set ws at left ∷ []
     left_one = rw (last, width_lists-one low left h, last-is)

@@ -10,12 +10,12 @@ use lib.ListN.{length, get_or, set, take, replicate, length-set, length-replicat
 use lib.Seq.{take-suc-set, take-length, take-take, take-set-le, set-set, set-get_or}
 use lib.Dec.{leb, ltb}
 use borrow.Author.Tests.{ltb-true, ltb-false, lt-ltb, le-ltb, lt-leb}
-use Rattle.plan_rules.specs.Plans.{Plan, largest}
+use Rattle.plan_rules.specs.Plans.{Plan}
 use Rattle.plan_rules.specs.Listed.{plan}
 use Rattle.plan_rules.proofs.BusyLaws.{largest-set, largest-zeros}
-use Rattle.budget_rules.specs.Tries.{Best, Sought, reached, keep, counted, halted, each, busy_with, placed}
+use Rattle.budget_rules.specs.Tries.{Best, Sought, reached, keep, counted, each, busy_with, placed}
 use Rattle.budget_search.specs.declared.steps.Progress.{Progress}
-use Rattle.budget_search.specs.Steps.{budget_max, no_time, plan_in, reaches, counts, halts, stops, keeps, held_in}
+use Rattle.budget_search.specs.Steps.{budget_max, no_time, plan_in, reaches, counts, stops, keeps, held_in}
 use Rattle.plan_search.specs.Search.{table_time, time_bound, TimeIn, AreTimes}
 use Rattle.budget_search.specs.Place.{AreWidths, Rooms, Ready, attempted, Placed}
 
@@ -24,7 +24,7 @@ pub each_step : (c b : ℕ) (f : ℕ → Sought → Sought) (s : Sought) → b <
 unfolding each
 each_step c b f s h = let e : c - b ≡ suc (c - (b + 1)) = omega arith in rw e
 
-pub each_none : (c b : ℕ) (f : ℕ → Sought → Sought) (s : Sought) → c ≤ b → each (c - b) b f s ≡ s
+each_none : (c b : ℕ) (f : ℕ → Sought → Sought) (s : Sought) → c ≤ b → each (c - b) b f s ≡ s
 unfolding each
 each_none c b f s h = let e : c - b ≡ 0 = omega arith in rw e
 
@@ -48,11 +48,6 @@ module _ (n budget : ℕ) (s : Progress) (best : List ℕ) where
       let v : ltb budget (s.tries + 1) ≡ ltb budget s.tries =
       le-ltb budget (s.tries + 1) (omega arith) ∙ sym (le-ltb budget s.tries (omega arith)) in
       ap (λ x. held x (min budget (s.tries + 1))) v ∙ ap (held (ltb budget s.tries)) m
-
-  halted-held : budget ≤ s.tries → held_in n budget (halts budget s) best ≡ halted (held_in n budget s best)
-  halted-held h =
-      let m : min budget (budget + 1) ≡ min budget s.tries = omega arith in
-      ap (λ x. held x (min budget (budget + 1))) (lt-ltb budget (budget + 1) (omega arith)) ∙ ap (held true) m
 
   -- whether the budget is spent
   pub spent_held : stops budget s ≡ true → budget ≤ (held_in n budget s best).tries
@@ -174,17 +169,8 @@ module _ {t ws : List ℕ} {budget i top : ℕ} {l buses best : List ℕ} (r : R
             top_is = m ∙ ap (λ x. max x busy) r.top_is ∙ sym (largest-set l b busy (omega (arith, r.room)) o);
           }
 
-      -- what a try comes to: it is not made, it is dropped, or it goes on
+      -- what a try comes to: it is dropped, or it goes on
       module _ (s : Progress) where
-        pub attempt_halted : {q : Progress} → budget ≤ s.tries → q ≡ halts budget s → Placed budget i l l buses buses best q (to_try b s)
-        attempt_halted h k = record {
-          loads_same = refl;
-          buses_same = refl;
-          rooms = r.rooms;
-          is = rw (le-ltb (min budget s.tries) budget (omega arith))
-              (ap (λ x. held_in (length buses) budget x best) k ∙ halted-held (length buses) budget s best h);
-        }
-
         module _ {q : Progress} {busy : ℕ} (h : s.tries < budget) (c : q ≡ counts s) (e : busy ≡ busy_with (table_time t) ws i l b) where
           test : {v : Bool} → v ≡ reaches q busy → reached (held_by s).best (busy_with (table_time t) ws i l b) ≡ v
           test {v} d =
@@ -235,19 +221,6 @@ module _ {t ws : List ℕ} {budget i top : ℕ} {l buses best : List ℕ} (r : R
 -- ---- the buses one by one
 module _ {t ws : List ℕ} {budget i : ℕ} {l₀ buses₀ best₀ : List ℕ} {s₀ : Progress} {l buses best : List ℕ} {s : Progress} {b : ℕ}
     (f : Left t ws budget i l₀ buses₀ best₀ s₀ l buses best s b) where
-  pub left_ready : {top : ℕ} → Ready t ws budget i top l₀ buses₀ best₀ → Ready t ws budget i top l buses best
-  left_ready r = record {
-    table = rw f.buses_length r.table;
-    widths = r.widths;
-    limit = r.limit;
-    upto = rw f.buses_length r.upto;
-    room = ap length f.loads_same ∙ r.room;
-    rooms = f.rooms;
-    loads_most = λ j. rw f.loads_same (r.loads_most j);
-    top_most = r.top_most;
-    top_is = r.top_is ∙ ap largest (sym f.loads_same);
-  }
-
   abbrev next : ℕ → Sought → Sought
   next = attempted (table_time t) ws budget (length buses₀ - (i + 1)) i l₀ (take i buses₀)
 

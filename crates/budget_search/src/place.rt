@@ -8,8 +8,8 @@ ghost use Rattle.plan_search.specs.Search.{table_time};
 ghost use Rattle.budget_search.specs.Place.{Rooms, Ready, attempted, Placed};
 
 use super::steps::{Progress, completed, count, halt, is_reached};
-use plan_search::{FOUND_BUSES, FOUND_MODULES, larger, time_at};
-use units::{Cycles, Wires};
+use plan_search::{FOUND_BUSES, FOUND_MODULES, time_at};
+use units::Wires;
 
 // The most buses and the most modules that the search has room for.
 pub const BUDGET_BUSES: usize = FOUND_BUSES;
@@ -29,11 +29,7 @@ fn put(from: &[u32], to: &mut [u32; BEST_PLACES], at: usize)
     ensures { (to.new ≡ take at to.old ++
         (from.now ++ drop (at + length from.now) to.old)) × (length to.new ≡ best_places) }
 {
-    let mut i: usize = 0;
-    while i < from.len() {
-        to[at + i] = from[i];
-        i += 1;
-    }
+    to[at..at + from.len()].copy_from_slice(from);
 }
 
 // The plan becomes the best: the count of its buses, their widths, the bus numbers.
@@ -72,23 +68,20 @@ pub(crate) fn place(
         keep_plan(widths, &*buses, &mut *best);
         return completed(s, top);
     }
-    let n = widths.len();
     let mut r = s;
-    let mut left = n;
-    while left > 0 {
+    for bus in 0..widths.len() {
         r = attempt(
             table,
             widths,
             budget,
             i,
             top,
-            n - left,
+            bus,
             &mut *loads,
             &mut *buses,
             &mut *best,
             r,
         );
-        left -= 1;
     }
     r
 }
@@ -113,19 +106,16 @@ fn attempt(
         (attempted (table_time table.now) widths.now budget (length buses.old - (i + 1)) i
         loads.old (take i buses.old) b (held_in (length buses.old) budget s best.old)) }
 {
-    let tries = s.tries;
-    if budget <= tries {
+    if budget <= s.tries {
         return halt(s, budget);
     }
     let spent = count(s);
-    let w = widths[b];
     let old = loads[b];
-    let t = time_at(table, i, Wires(w));
+    let t = time_at(table, i, Wires(widths[b]));
     let busy = old + t.0;
     if is_reached(spent, busy) {
         return spent;
     }
-    let next = larger(Cycles(top), Cycles(busy));
     loads[b] = busy;
     buses[i] = b as u32 + 1;
     let r = place(
@@ -133,7 +123,7 @@ fn attempt(
         widths,
         budget,
         i + 1,
-        next.0,
+        top.max(busy),
         &mut *loads,
         &mut *buses,
         &mut *best,

@@ -27,8 +27,8 @@ pub(crate) fn count(s: Progress) -> Progress
     ensures { result ≡ counts s }
 {
     Progress {
-        best: s.best,
         tries: s.tries + 1,
+        ..s
     }
 }
 
@@ -38,8 +38,8 @@ pub(crate) fn halt(s: Progress, budget: u64) -> Progress
     ensures { result ≡ halts budget s }
 {
     Progress {
-        best: s.best,
         tries: budget + 1,
+        ..s
     }
 }
 
@@ -54,35 +54,16 @@ pub(crate) fn is_stopped(s: Progress, budget: u64) -> bool
 pub(crate) fn tries_of(s: Progress, budget: u64) -> u64
     ensures { result ≡ min budget s.tries }
 {
-    let tries = s.tries;
-    if budget < tries { budget } else { tries }
+    budget.min(s.tries)
 }
 
-// A completed placement: the record by value.
-fn kept(s: Progress, time: u64) -> Progress
-    ensures { result ≡ keeps s time }
-{
-    if is_reached(s, time) {
-        return s;
-    }
-    Progress {
-        best: time,
-        tries: s.tries,
-    }
-}
-
-// The record is lent.
-fn keep_if_better(s: &mut Progress, time: u64)
-    ensures { s.new ≡ keeps s.old time }
-{
-    *s = kept(*s, time);
-}
-
-// The record goes in and comes out; in between it is lent.
+// A completed placement.
 pub(crate) fn completed(s: Progress, time: u64) -> Progress
     ensures { result ≡ keeps s time }
 {
-    let mut best = s;
-    keep_if_better(&mut best, time);
-    best
+    if is_reached(s, time) {
+        s
+    } else {
+        Progress { best: time, ..s }
+    }
 }

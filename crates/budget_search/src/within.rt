@@ -22,14 +22,6 @@ pub struct Spent {
     pub found: Found,
 }
 
-// The most buses that there are wires for.
-fn most_buses(wires: Wires, limit: usize) -> usize
-    ensures { result ≡ min limit wires.0 }
-{
-    let most = wires.0 as usize;
-    if limit < most { limit } else { most }
-}
-
 // The bus counts in turn.
 fn over_counts(
     table: &[u64],
@@ -43,14 +35,14 @@ fn over_counts(
     ensures { (held_in n budget result best.new ≡ searched (table_time table.now) wires.0 limit n budget)
         × Rooms best.new }
 {
-    let most = most_buses(wires, limit);
+    let most = limit.min(wires.0 as usize);
     let mut widths = [0u32; BUDGET_BUSES];
     let mut r = Progress {
         best: NO_TIME,
         tries: 0,
     };
-    let mut c: usize = 1;
-    while c <= most {
+    // `1..=most` is no plainer: the loop then has a second way out, whose answer only a name of the prover's own could give.
+    for c in 1..most + 1 {
         r = over_lists(
             table,
             n,
@@ -62,7 +54,6 @@ fn over_counts(
             &mut *best,
             r,
         );
-        c += 1;
     }
     r
 }
@@ -74,11 +65,7 @@ fn widths_in(best: [u32; BEST_PLACES]) -> [u32; BUDGET_BUSES]
 {
     let count = best[0] as usize;
     let mut widths = [0u32; BUDGET_BUSES];
-    let mut i: usize = 0;
-    while i < count {
-        widths[i] = best[i + 1];
-        i += 1;
-    }
+    widths[..count].copy_from_slice(&best[1..count + 1]);
     widths
 }
 
@@ -88,10 +75,8 @@ fn buses_in(best: [u32; BEST_PLACES], n: usize) -> [u64; BUDGET_MODULES]
     ensures { result ≡ padded modules_max 0 (plan_in n best).buses }
 {
     let mut buses = [0u64; BUDGET_MODULES];
-    let mut i: usize = 0;
-    while i < n {
-        buses[i] = best[i + BUSES_AT] as u64;
-        i += 1;
+    for (i, b) in best[BUSES_AT..BUSES_AT + n].iter().enumerate() {
+        buses[i] = u64::from(*b);
     }
     buses
 }

@@ -6,7 +6,8 @@ ghost use Rattle.std.specs.Io.{ReadsAtMost};
 use std::io;
 use std::io::Read;
 
-// How many bytes were read to the front of the buffer.
+// How many bytes were read to the front of the buffer. A `while` that counts them, since std has no such call: `read_exact` refuses an
+// input that ends before the buffer, and `read_to_end` allocates.
 pub fn read_full<R: Read>(from: &mut R, buf: &mut [u8]) -> io::Result<usize>
     ensures { ReadsAtMost result buf.new }
 {

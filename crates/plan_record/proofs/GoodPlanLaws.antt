@@ -1,19 +1,18 @@
 -- Laws of a good plan record: how its loops walk the modules and the buses, and what its figures keep (`GoodFigures`). Assumes nothing.
-use Prim.Native.Nat.{ℕ, zero, suc, ◌+◌, ◌-◌, ◌*◌, ◌≤◌, ◌<◌, max}
+use Prim.Native.Nat.{ℕ, zero, suc, ◌+◌, ◌-◌, ◌*◌, ◌≤◌, ◌<◌}
 use mathlib.Core.Path.{◌≡◌, ap, ◌∙◌}
 use mathlib.Core.Bool.{Bool, true, false, cond, ◌&&◌}
 use mathlib.Core.List.{List, [], ◌∷◌}
-use mathlib.Core.Logic.{inl}
 use native.Mathlib.Omega.{arith}
 use native.Mathlib.Numerals.{add-one}
-use borrow.Author.Tests.{leb-true, eqb-true, eq-eqb, ne_eqb}
-use lib.ListN.{length, get_or, take, drop, drop_of_length-le}
+use borrow.Author.Tests.{leb-true, eqb-true}
+use lib.ListN.{length, get_or, take, drop}
 use lib.Seq.{drop-cons, get_or-take, length-take-le}
 use lib.Dec.{leb, eqb}
 use Rattle.units.proofs.TestLaws.{and_both, and_third}
 use Rattle.units.specs.Places.{all_of}
-use Rattle.units.proofs.PlaceLaws.{front-has, front_ends}
-use Rattle.plan_record.specs.Record.{bus_places, no_bus, no_placed, buses_of, modules_of, widths_of, cycles_on, busies_of, numbers_of, module_places, runs_before, start_of}
+use Rattle.units.proofs.PlaceLaws.{front-has}
+use Rattle.plan_record.specs.Record.{bus_places, no_bus, no_placed, buses_of, modules_of, widths_of, cycles_on, busies_of, numbers_of, module_places}
 use Rattle.plan_record.specs.Whole.{Whole}
 use Rattle.wrapper_fit.specs.Maxima.{module_time_max}
 use Rattle.plan_record.specs.declared.record.Bus.{Bus}
@@ -27,39 +26,13 @@ module _ {A : Type 0} (n : ℕ) (l : List A) (i : ℕ) where
   pub front-cons : (d : A) → i < n → i < length l → drop i (take n l) ≡ get_or l i d ∷ drop (i + 1) (take n l)
   front-cons d h k = drop-cons (take n l) i d (front-has n l i h k) ∙ rw (get_or-take n l i d h, add-one)
 
-  pub front-none : n ≤ i → drop i (take n l) ≡ []
-  front-none h = drop_of_length-le (take n l) (front_ends n l i (inl h))
-
--- what a turn of a loop over the modules in use leaves to decide, or to add
+-- what a turn of a loop over the modules in use leaves to decide
 module _ (n : ℕ) (l : List PlacedModule) (i : ℕ) (h : i < n) (k : i < length l) where
   pub ascending_step : (low : ℕ) →
       let x = (get_or l i no_placed).number in
       ascending_from low (numbers_of (drop i (take n l))) ≡ (leb low x && (leb x 39 && ascending_from (x + 1) (numbers_of (drop (i + 1) (take n l)))))
   unfolding ascending_from
   ascending_step low = rw (front-cons n l i no_placed h k, add-one (get_or l i no_placed).number)
-
-  -- a module on bus b adds its cycles, another nothing
-  pub cycles_on-same : (b : ℕ) →
-      let m = get_or l i no_placed in
-      m.bus ≡ b → cycles_on b (drop i (take n l)) ≡ m.cycles.0 + cycles_on b (drop (i + 1) (take n l))
-  unfolding cycles_on
-  cycles_on-same b e = rw (front-cons n l i no_placed h k, eq-eqb (get_or l i no_placed).bus b e)
-
-  pub cycles_on_other : (b : ℕ) → ((get_or l i no_placed).bus ≡ b → ⊥) → cycles_on b (drop i (take n l)) ≡ cycles_on b (drop (i + 1) (take n l))
-  unfolding cycles_on
-  cycles_on_other b e = rw (front-cons n l i no_placed h k, ne_eqb (get_or l i no_placed).bus b e) (omega arith)
-
-  -- a module that runs before m adds its cycles, another nothing
-  pub start-before : (m : PlacedModule) →
-      let x = get_or l i no_placed in
-      runs_before x m ≡ true → start_of (drop i (take n l)) m ≡ x.cycles.0 + start_of (drop (i + 1) (take n l)) m
-  unfolding start_of
-  start-before m e = rw (front-cons n l i no_placed h k, e)
-
-  pub start_else : (m : PlacedModule) → runs_before (get_or l i no_placed) m ≡ false
-      → start_of (drop i (take n l)) m ≡ start_of (drop (i + 1) (take n l)) m
-  unfolding start_of
-  start_else m e = rw (front-cons n l i no_placed h k, e) (omega arith)
 
 -- the same of the buses in use
 module _ (n : ℕ) (l : List Bus) (i : ℕ) (h : i < n) (k : i < length l) where
@@ -68,19 +41,6 @@ module _ (n : ℕ) (l : List Bus) (i : ℕ) (h : i < n) (k : i < length l) where
       rising_from low (widths_of (drop i (take n l))) ≡ (leb low w && rising_from w (widths_of (drop (i + 1) (take n l))))
   unfolding rising_from
   rising_step low = rw (front-cons n l i no_bus h k)
-
-  pub sum-widths_step : sum (widths_of (drop i (take n l))) ≡ (get_or l i no_bus).width.0 + sum (widths_of (drop (i + 1) (take n l)))
-  unfolding sum
-  sum-widths_step = rw (front-cons n l i no_bus h k)
-
-  pub busy_step : (ms : List PlacedModule) (b : ℕ) →
-      good_busies ms b (drop i (take n l)) ≡ (eqb (get_or l i no_bus).busy.0 (cycles_on b ms) && good_busies ms (b + 1) (drop (i + 1) (take n l)))
-  unfolding good_busies
-  busy_step ms b = rw (front-cons n l i no_bus h k, add-one b)
-
-  pub largest_step : largest (busies_of (drop i (take n l))) ≡ max (get_or l i no_bus).busy.0 (largest (busies_of (drop (i + 1) (take n l))))
-  unfolding largest
-  largest_step = rw (front-cons n l i no_bus h k)
 
 -- a number that lies within its limits
 within_both : (low high n : ℕ) → (leb low n && leb n high) ≡ true → (low ≤ n) × (n ≤ high)

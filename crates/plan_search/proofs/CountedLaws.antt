@@ -2,7 +2,6 @@
 -- lent leaves in the whole. Assumes nothing.
 use Prim.Native.Nat.{ℕ, suc, ◌+◌, ◌-◌, ◌*◌, ◌/◌, ◌≤◌, ◌<◌, min}
 use mathlib.Core.Path.{◌≡◌, refl, sym, ap, ◌∙◌}
-use mathlib.Core.Logic.{◌⊎◌, ⊎_elim}
 use mathlib.Core.List.{List, [], ◌++◌, map-id}
 use native.Mathlib.Omega.{arith}
 use native.Mathlib.Nat.{mul_comm, le-div_iff_mul-le, div-lt_iff_lt-mul, div-le_self}
@@ -59,7 +58,6 @@ module _ (t : List ℕ) (W B n best₀ : ℕ) (found₀ : List ℕ) where
   -- the lists of at least c widths were not yet searched
   pub record Counted (widths found : List ℕ) (r c : ℕ) : Type 0 where
     pub from : 1 ≤ c
-    pub upto : c ≤ B + 1
     pub widths_room : length widths ≡ search_buses
     pub found_room : length found ≡ length found₀
     pub count : get_or found 0 0 < length found
@@ -71,7 +69,6 @@ module _ (t : List ℕ) (W B n best₀ : ℕ) (found₀ : List ℕ) where
     unfolding all_lists
     counted-first widths e = record {
       from = omega arith;
-      upto = omega arith;
       widths_room = e;
       found_room = refl;
       count = l.rooms.count;
@@ -81,14 +78,14 @@ module _ (t : List ℕ) (W B n best₀ : ℕ) (found₀ : List ℕ) where
 
     module _ {widths found : List ℕ} {r c : ℕ} (s : Counted widths found r c) where
       -- all were searched
-      pub counted-last : (B < c) ⊎ (W < c) → kept r found ≡ keep_lists least (kept best₀ found₀) (all_lists W B)
+      pub counted-last : min B W < c → kept r found ≡ keep_lists least (kept best₀ found₀) (all_lists W B)
       unfolding upward keep_lists
       counted-last h =
           let f = s.from in
-          let e : min B W - (c - 1) ≡ 0 = ⊎_elim (λ k. omega arith) (λ k. omega arith) h in
+          let e : min B W - (c - 1) ≡ 0 = omega arith in
           sym (s.is ∙ rw e)
 
-      module _ (h : c ≤ B) (k : c ≤ W) where
+      module _ (h : c ≤ min B W) where
         widths_lent : length (take c widths) ≡ c
         widths_lent = length-take-le c widths (omega (arith, s.widths_room, l.limit))
 
@@ -99,7 +96,7 @@ module _ (t : List ℕ) (W B n best₀ : ℕ) (found₀ : List ℕ) where
             rw (e, add-one c)
 
         pub group_lent : Group 0 1 (W / c) W (take c widths)
-        group_lent = group-all (take c widths) W c widths_lent s.from k (omega (arith, l.limit)) l.narrow
+        group_lent = group-all (take c widths) W c widths_lent s.from (omega arith) (omega (arith, l.limit)) l.narrow
 
         pub rooms_lent : Rooms (length (take c widths)) found
         rooms_lent = record { places = omega (arith, widths_lent, s.found_room, l.rooms.places, l.limit); count = s.count }
@@ -110,7 +107,6 @@ module _ (t : List ℕ) (W B n best₀ : ℕ) (found₀ : List ℕ) where
             (widths' ++ drop c widths) found' r' (c + 1)
         counted_next widths' found' r' e q = record {
           from = omega arith;
-          upto = omega arith;
           widths_room = length_front widths widths' c e ∙ s.widths_room;
           found_room = q.same_room ∙ s.found_room;
           count = q.count;
@@ -125,4 +121,4 @@ module _ (t : List ℕ) (W B n best₀ : ℕ) (found₀ : List ℕ) where
             later = upward (min B W - (c + 1 - 1)) (c + 1) lists_with
 
             sought : kept r' found' ≡ keep_lists least (kept r found) (lists_with c)
-            sought = rw (group_lists (take c widths) W c widths_lent s.from k) at q.is
+            sought = rw (group_lists (take c widths) W c widths_lent s.from (omega arith)) at q.is

@@ -203,19 +203,6 @@ module _ {ws : List ℕ} {at low high left : ℕ} (g : Group at low high left ws
 -- the halves of a group, in other widths that begin alike
 module _ {ws vs : List ℕ} {at low high left : ℕ} (g : Group at low high left ws) (less : suc at < length ws) (apart : low ≡ high → ⊥)
     (same_count : length vs ≡ length ws) (same-front : take at vs ≡ take at ws) where
-  pub group-lower : Group at low ((low + high) / 2) left vs
-  group-lower = record {
-    at_most = rw same_count g.at_most;
-    few = rw same_count g.few;
-    front = rw same-front g.front;
-    front_most = rw same-front g.front_most;
-    some = g.some;
-    upward = omega (arith, g.upward);
-    share = rw same_count (share_of (length ws - at) ((low + high) / 2) high left (omega (arith, g.upward)) g.share);
-    last = λ e. absurd (omega arith);
-    narrow = g.narrow;
-  }
-
   pub group_upper : Group at ((low + high) / 2 + 1) high left vs
   group_upper = record {
     at_most = rw same_count g.at_most;
@@ -240,11 +227,6 @@ pub record Widened (ws : List ℕ) (low left i : ℕ) (vs : List ℕ) (rest j : 
   pub is : take j vs ++ widest (length ws - j) low rest ≡ take i ws ++ widest (length ws - i) low left
 
 module _ {ws : List ℕ} {low left i : ℕ} {vs : List ℕ} {rest j : ℕ} (w : Widened ws low left i vs rest j) where
-  pub widened_less : j < length ws → low ≤ rest
-  widened_less h =
-      let e : length ws - j ≡ suc (length ws - (j + 1)) = omega arith in
-      omega (arith, rw e at w.room, suc-mul (length ws - (j + 1)) low)
-
   pub widened-next : j < length ws → Widened ws low left i (set vs j (rest / (length ws - j))) (rest - low) (j + 1)
   unfolding widest
   widened-next h =
@@ -266,14 +248,6 @@ module _ {ws : List ℕ} {low left i : ℕ} {vs : List ℕ} {rest j : ℕ} (w : 
       sym (append-nil vs) ∙ rw (z, take_all j vs (omega (arith, w.same_length))) at w.is
 
 module _ {ws : List ℕ} {at low high left : ℕ} (g : Group at low high left ws) where
-  pub widened-first : Widened (set ws at high) low (left - low) (at + 1) (set ws at high) (left - low) (at + 1)
-  widened-first = record {
-    upto = simp length-set (omega (arith, g.at_most));
-    same_length = refl;
-    room = rw length-set (behind-room g);
-    is = refl;
-  }
-
   -- all are set
   pub widened-wide : {vs : List ℕ} → vs ≡ take (at + 1) (set ws at high) ++ widest (length (set ws at high) - (at + 1)) low (left - low)
       → vs ≡ wide g

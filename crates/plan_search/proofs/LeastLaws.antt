@@ -3,7 +3,7 @@ use Prim.Native.Nat.{ℕ, zero, suc, ◌+◌, ◌-◌, ◌*◌, ◌≤◌, ◌<�
 use mathlib.Core.Path.{◌≡◌, refl, sym, ap, ◌∙◌}
 use mathlib.Core.List.{List}
 use native.Mathlib.Omega.{arith}
-use native.Mathlib.Nat.{mul-le-mul_left, mul-le-mul_right}
+use native.Mathlib.Nat.{mul-le-mul_right}
 use lib.ListN.{length, get_or, set, replicate, length-set, length-replicate}
 use lib.Seq.{set-set, set-get_or}
 use Rattle.plan_rules.specs.Plans.{sum}
@@ -11,14 +11,10 @@ use Rattle.plan_rules.specs.Least.{least_on}
 use Rattle.plan_rules.specs.From.{loaded, each_bus, least_from}
 use Rattle.plan_rules.proofs.BusyLaws.{largest-zeros}
 use Rattle.plan_rules.proofs.FromLaws.{sum_added, from_on, from_le, from_top_skip, from_load_skip, from_more, from_end, each_le, each_step, each-end, largest-loaded-is}
-use Rattle.plan_search.specs.Search.{search_buses, search_modules, table_time, time_bound, best_max, TimeIn}
+use Rattle.plan_search.specs.Search.{search_modules, table_time, time_bound, best_max, TimeIn}
 use Rattle.plan_search.specs.Least.{last_of, Board, Loads, Reaches}
 use Rattle.plan_search.proofs.RestLaws.{total-most}
 use Rattle.plan_search.proofs.WidthLaws.{width-at, last-least}
-
--- the product of the load bound fits
-pub product_fits : (c best : ℕ) → c ≤ search_buses → best ≤ best_max → c * best ≤ search_buses * best_max
-product_fits c best h k = omega (arith, mul-le-mul_left c k, mul-le-mul_right best_max h)
 
 exactly : {least enough r : ℕ} → r ≡ least → Reaches least enough r
 exactly e = record { lower = omega (arith, e); exact = λ h. e }

@@ -1,15 +1,14 @@
 -- Laws of the rule of thumb: the loads of some placement of the first modules, and buses of equal width with one that has the rest. Assumes
 -- nothing.
-use Prim.Native.Nat.{ℕ, zero, suc, ◌+◌, ◌-◌, ◌*◌, ◌/◌, ◌≤◌, ◌<◌, max}
+use Prim.Native.Nat.{ℕ, suc, ◌+◌, ◌-◌, ◌*◌, ◌≤◌, ◌<◌, max}
 use mathlib.Core.Path.{◌≡◌, refl, sym, ap, ◌∙◌}
 use mathlib.Core.List.{List, [], ◌∷◌, ◌++◌, Memᴰ}
 use mathlib.Core.Logic.{⊎_elim}
 use native.Mathlib.Omega.{arith}
-use native.Mathlib.Nat.{eq-or-lt_of_le, suc-mul, mul_comm, mul-le-mul_right, le-div_iff_mul-le}
-use native.Mathlib.Numerals.{add-one}
-use lib.ListN.{length, get_or, take, drop, set, replicate, length-append, length-set, get_or-append}
-use lib.ListN.{length-replicate, get_or-replicate, replicate-append-replicate}
-use lib.Seq.{take_all, take-suc-set, take-set-lt, get_or-take, get_or_at, take_at, length-take-le, length_front}
+use native.Mathlib.Nat.{eq-or-lt_of_le}
+use lib.ListN.{length, get_or, take, set, replicate, length-append, length-set, get_or-append}
+use lib.ListN.{length-replicate}
+use lib.Seq.{take-suc-set, take-set-lt, get_or-take, get_or_at, length-take-le}
 use Rattle.plan_rules.specs.Plans.{largest, time_of}
 use Rattle.plan_rules.specs.Listed.{placements, plan}
 use Rattle.plan_rules.specs.Least.{Reached}
@@ -17,12 +16,9 @@ use Rattle.plan_rules.specs.Widths.{even}
 use Rattle.plan_rules.proofs.BusyLaws.{length-busies, busies-none, busies-one, busies-most, largest-zeros, largest-set}
 use Rattle.plan_rules.proofs.ListedLaws.{Placed, placements_sound, placements_complete}
 use Rattle.plan_rules.proofs.WiderLaws.{even-plan}
-use Rattle.plan_search.specs.Search.{search_buses, row_places, time_bound, table_time, TimeIn, IsTable}
+use Rattle.plan_search.specs.Search.{search_buses, time_bound, table_time}
 use Rattle.plan_search.specs.Thumb.{AreBuses, Partly, Placeable}
-
--- a module's time on a bus stands in the table
-pub bus-time : (t ws : List ℕ) (i b n : ℕ) → IsTable t n → AreBuses ws → i < n → b < length ws → TimeIn t i (get_or ws b 0)
-bus-time t ws i b n o u h k = let w = u.wide b k in record { low = w.0; high = w.1; entry = omega (arith, o.long) }
+use Rattle.plan_search.proofs.LentLaws.{take-replicate}
 
 module _ (t ws : List ℕ) (i : ℕ) (loads : List ℕ) (p : Partly t ws i loads) where
   pub partly_length : length loads ≡ length ws
@@ -33,15 +29,6 @@ module _ (t ws : List ℕ) (i : ℕ) (loads : List ℕ) (p : Partly t ws i loads
       let l = (placements_sound i (length ws) p.buses p.listed).placed in
       rw p.loads_are (rw l at (busies-most (table_time t) time_bound h 1 b ws p.buses))
 
--- a table of more modules is one of fewer
-pub table-fewer : (t : List ℕ) (n m : ℕ) → IsTable t n → m ≤ n → IsTable t m
-table-fewer t n m o h = record {
-  few = omega (arith, o.few);
-  long = omega (arith, o.long);
-  times = o.times;
-  falls = λ i v w k. o.falls i v w (omega arith);
-}
-
 -- the first i of n modules are placed: the loads are in the front of an array, and the largest of them is beside it
 pub record Thumbed (t ws : List ℕ) (n i : ℕ) (loads : List ℕ) (top : ℕ) : Type 0 where
   pub so_far : i ≤ n
@@ -49,18 +36,13 @@ pub record Thumbed (t ws : List ℕ) (n i : ℕ) (loads : List ℕ) (top : ℕ) 
   pub partly : Partly t ws i (take (length ws) loads)
   pub top_is : top ≡ largest (take (length ws) loads)
 
-take-zeros : (c n : ℕ) → c ≤ n → ◌≡◌ {A = List ℕ} (take c (replicate n 0)) (replicate c 0)
-take-zeros zero n h = refl
-take-zeros (suc c) zero h = absurd (omega arith)
-take-zeros (suc c) (suc n) h = ap (λ (l : List ℕ). 0 ∷ l) (take-zeros c n (omega arith))
-
 no-modules : (c : ℕ) → Memᴰ [] (placements 0 c)
 unfolding placements
 no-modules c = Memᴰ.head refl
 
 pub thumbed_none : (t ws : List ℕ) (n : ℕ) → AreBuses ws → Thumbed t ws n 0 (replicate search_buses 0) 0
 thumbed_none t ws n u =
-    let e = take-zeros (length ws) search_buses u.few in
+    let e = take-replicate (length ws) search_buses 0 u.few in
     record {
       so_far = omega arith;
       room = refl;
@@ -131,133 +113,28 @@ module _ (t ws : List ℕ) (n i : ℕ) (loads : List ℕ) (top : ℕ) where
       let p : Partly t ws n (take (length ws) loads) = rw e at d.partly in
       record { buses = p.buses; listed = p.listed; takes = sym (d.top_is ∙ ap largest p.loads_are) }
 
--- of c buses, the first i have w of W wires each, and `left` wires are left for the others
-pub record Evened (c w W i : ℕ) (ws : List ℕ) (left : ℕ) : Type 0 where
-  pub so_far : i ≤ c - 1
-  pub room : length ws ≡ c
-  pub front : take i ws ≡ replicate i w
-  pub rest : left ≡ W - i * w
-
-pub evened-none : (c w W : ℕ) (ws : List ℕ) → 1 ≤ c → length ws ≡ c → Evened c w W 0 ws W
-evened-none c w W ws h l = record { so_far = omega arith; room = l; front = refl; rest = omega arith }
-
--- one more bus
-module _ (c w W i : ℕ) (ws : List ℕ) (left : ℕ) (e : Evened c w W i ws left) (fits : c * w ≤ W) (h : i < c - 1) where
-  more-fits : suc i * w ≤ W
-  more-fits = let m : suc i ≤ c = omega arith in omega (arith, mul-le-mul_right w m)
-
-  pub evened-left : w ≤ left
-  evened-left = omega (arith, more-fits, suc-mul i w, e.rest)
-
-  pub evened-more : Evened c w W (i + 1) (set ws i w) (left - w)
-  evened-more =
-      let z = add-one i in
-      record {
-        so_far = omega arith;
-        room = length-set ws i w ∙ e.room;
-        front = rw (z, take-suc-set ws i w (omega (arith, e.room)), e.front) (replicate-append-replicate i 1 w ∙ rw z);
-        rest = rw z (omega (arith, suc-mul i w, e.rest));
-      }
-
--- the last bus takes what is left
-pub evened-all : (c w W i : ℕ) (ws : List ℕ) (left : ℕ) → Evened c w W i ws left → 1 ≤ c → c - 1 ≤ i
-    → set ws (c - 1) left ≡ even (c - 1) w W
-evened-all c w W i ws left e some h =
-    let z : i ≡ c - 1 = omega (arith, e.so_far) in
-    let l : length (set ws (c - 1) left) ≡ c = length-set ws (c - 1) left ∙ e.room in
-    let f : take (c - 1) ws ≡ replicate (c - 1) w = rw z at e.front in
-    let r : left ≡ W - (c - 1) * w = rw z at e.rest in
-    sym (take_all (suc (c - 1)) (set ws (c - 1) left) (omega arith)) ∙ take-suc-set ws (c - 1) left (omega (arith, e.room)) ∙ rw (f, r)
-
 even-length : (c w W : ℕ) → length (even c w W) ≡ suc c
 even-length c w W = simp (length-append, length-replicate) (omega arith)
 
--- buses of equal width and one that has the rest are within a table's places
-module _ (k w W : ℕ) (low : 1 ≤ w) (fits : suc k * w ≤ W) where
-  even-wide : (b : ℕ) → b < suc k → (1 ≤ get_or (even k w W) b 0) × (get_or (even k w W) b 0 ≤ W)
-  even-wide b h =
-      let m : b ≤ k = omega arith in
-      let f = suc-mul k w in
-      let t : w ≤ W = omega arith in
-      ⊎_elim
-      (λ e. rw (get_or_at (replicate k w) (W - k * w) [] 0 b (length-replicate k w ∙ sym e)) (omega arith, omega arith))
-      (λ l.
-      let a = get_or-append (replicate k w) ((W - k * w) ∷ []) 0 b (omega (arith, length-replicate k w)) in
-      let g : get_or (even k w W) b 0 ≡ w = a ∙ get_or-replicate k b w 0 l in
-      rw g (low, t))
-      (eq-or-lt_of_le m)
+-- c buses of equal width, where the last has the rest: a placement on them has the time of a plan
+module _ {c w W : ℕ} (some : 1 ≤ c) (few : c ≤ search_buses) (low : 1 ≤ w) (fits : c * w ≤ W) where
+  abbrev evened : List ℕ
+  evened = take c (set (replicate search_buses w) (c - 1) (W - (c - 1) * w))
 
-  even-buses : suc k ≤ search_buses → W ≤ row_places → AreBuses (even k w W)
-  even-buses few top =
-      let e = even-length k w W in
-      record { some = omega arith; few = omega arith; wide = λ b h. let u = even-wide b (omega arith) in (u.0, omega (arith, u.1)) }
+  evened-is : evened ≡ even (c - 1) w W
+  evened-is =
+      let e : c ≡ suc (c - 1) = omega arith in
+      let k : c - 1 < length (replicate search_buses w) = omega arith in
+      ap (λ i. take i (set (replicate search_buses w) (c - 1) (W - (c - 1) * w))) e
+      ∙ take-suc-set (replicate search_buses w) (c - 1) (W - (c - 1) * w) k
+      ∙ ap (λ (l : List ℕ). l ++ (W - (c - 1) * w) ∷ []) (take-replicate (c - 1) search_buses w (omega arith))
 
-  -- a placement on them has the time of a plan
-  even-reached : (t : List ℕ) (B n r : ℕ) → suc k ≤ B → Placeable t (even k w W) n r → Reached (table_time t) W B n r
-  even-reached t B n r b p = record {
-    reached = plan (even k w W) p.buses;
-    is_plan = even-plan k w W B n p.buses low fits b (rw (even-length k w W) at p.listed);
-    takes = p.takes;
-  }
-
--- the first c of the widths ws are lent, and come back as c buses of w of W wires, the last with the rest
-pub record Lent (c w W : ℕ) (ws es : List ℕ) : Type 0 where
-  pub room : length ws ≡ search_buses
-  pub some : 1 ≤ c
-  pub few : c ≤ search_buses
-  pub low : 1 ≤ w
-  pub fits : c * w ≤ W
-  pub top : W ≤ row_places
-  pub same : length es ≡ length (take c ws)
-  pub are : es ≡ even (length (take c ws) - 1) w W
-
--- what is asked of the widths before they are lent
-pub lent_asked : (c w W : ℕ) (ws : List ℕ) → length ws ≡ search_buses → 1 ≤ c → c ≤ search_buses → c * w ≤ W → W ≤ row_places
-    → (1 ≤ length (take c ws)) × (length (take c ws) ≤ search_buses) × (length (take c ws) * w ≤ W) × (W ≤ row_places)
-lent_asked c w W ws room some few fits top =
-    let l : length (take c ws) ≡ c = length-take-le c ws (omega arith) in
-    rw l (some, few, fits, top)
-
-module _ {c w W : ℕ} {ws es : List ℕ} (d : Lent c w W ws es) where
-  pub lent_room : length (es ++ drop c ws) ≡ search_buses
-  lent_room = length_front ws es c d.same ∙ d.room
-
-  pub lent_count : c ≡ length (take c (es ++ drop c ws))
-  lent_count = sym (length-take-le c (es ++ drop c ws) (omega (arith, lent_room, d.few)))
-
-  lent_is : take c (es ++ drop c ws) ≡ even (c - 1) w W
-  lent_is =
-      let l : length (take c ws) ≡ c = length-take-le c ws (omega (arith, d.room, d.few)) in
-      take_at es (drop c ws) c (d.same ∙ l) ∙ d.are ∙ rw l
-
-  last_fits : suc (c - 1) * w ≤ W
-  last_fits = let e : suc (c - 1) ≡ c = omega (arith, d.some) in rw e d.fits
-
-  pub lent_buses : AreBuses (take c (es ++ drop c ws))
-  lent_buses = rw lent_is (even-buses (c - 1) w W d.low last_fits (omega (arith, d.some, d.few)) d.top)
-
-  pub lent_reached : (t : List ℕ) (n r : ℕ) → Placeable t (take c (es ++ drop c ws)) n r → Reached (table_time t) W c n r
-  lent_reached t n r p = even-reached (c - 1) w W d.low last_fits t c n r (omega (arith, d.some)) (rw lent_is at p)
-
--- a width of at most an equal share
-pub share-fits : (c w W : ℕ) → 1 ≤ c → w ≤ W / c → c * w ≤ W
-share-fits c w W some h = let p : 0 < c = some in omega (arith, (le-div_iff_mul-le p).0 h, mul_comm w c)
-
--- with a larger limit the same plan is one
-pub reached-more : (t : List ℕ) (W B C n r : ℕ) → B ≤ C → Reached (table_time t) W B n r → Reached (table_time t) W C n r
-reached-more t W B C n r h p =
-    let q = p.is_plan in
-    record {
-      reached = p.reached;
-      is_plan = record {
-        some = q.some;
-        limit = omega (arith, q.limit);
-        wide = q.wide;
-        rising = q.rising;
-        wires = q.wires;
-        placed = q.placed;
-        low = q.low;
-        high = q.high;
-      };
-      takes = p.takes;
-    }
+  pub evened-reached : (t : List ℕ) (n r : ℕ) → Placeable t evened n r → Reached (table_time t) W c n r
+  evened-reached t n r p =
+      let e : suc (c - 1) ≡ c = omega arith in
+      let q = rw evened-is at p in
+      record {
+        reached = plan (even (c - 1) w W) q.buses;
+        is_plan = even-plan (c - 1) w W c n q.buses low (rw e fits) (omega arith) (rw (even-length (c - 1) w W) at q.listed);
+        takes = q.takes;
+      }

@@ -12,13 +12,10 @@ pub fn busy_of(table: &[u64], buses: [u64; FOUND_MODULES], n: usize, b: usize, w
     ensures { result.0 ≡ busy_from (table_time table.now) 0 b w.0 (take n buses) }
 {
     let mut sum = Cycles(0);
-    let mut i: usize = 0;
-    while i < n {
-        if buses[i] as usize == b {
-            let t = time_at(table, i, w);
-            sum.0 += t.0;
+    for (i, bus) in buses[..n].iter().enumerate() {
+        if *bus as usize == b {
+            sum.0 += time_at(table, i, w).0;
         }
-        i += 1;
     }
     sum
 }

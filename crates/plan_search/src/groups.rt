@@ -18,11 +18,9 @@ fn widen(widths: &mut [u32], at: usize, low: Wires, high: Wires, left: Wires)
     let c = widths.len();
     widths[at] = high.0;
     let mut left = left.0 - low.0;
-    let mut j = at + 1;
-    while j < c {
+    for j in at + 1..c {
         widths[j] = left / ((c - j) as u32);
         left -= low.0;
-        j += 1;
     }
 }
 
@@ -31,11 +29,7 @@ fn may_beat(table: &[u64], n: usize, widths: &[u32], best: Cycles) -> bool
     requires { IsTable table.now n × AreWidths widths.now × (best.0 ≤ best_max) }
     ensures { result ≡ false → least_on (table_time table.now) n widths.now best.0 ≡ best.0 }
 {
-    if best.0 == 0 {
-        return false;
-    }
-    let r = least_on(table, n, widths, best, Cycles(best.0 - 1));
-    r.0 < best.0
+    0 < best.0 && least_on(table, n, widths, best, Cycles(best.0 - 1)).0 < best.0
 }
 
 // The widths become those of the best plan: how many, and behind that the widths.
@@ -45,11 +39,7 @@ fn keep_widths(widths: &[u32], found: &mut [u32])
         length widths.now ∷ widths.now ++ drop (length widths.now + 1) found.old }
 {
     found[0] = widths.len() as u32;
-    let mut i: usize = 0;
-    while i < widths.len() {
-        found[i + 1] = widths[i];
-        i += 1;
-    }
+    found[1..widths.len() + 1].copy_from_slice(widths);
 }
 
 // The smaller of best and the least time on buses of these widths; if that is less, they are kept.

@@ -16,11 +16,8 @@ fn sum_rest(table: &[u64], w: Wires, rest: &mut [u64])
 {
     let n = rest.len() - 1;
     rest[n] = 0;
-    let mut i = n;
-    while i > 0 {
-        let t = time_at(table, i - 1, w);
-        rest[i - 1] = rest[i] + t.0;
-        i -= 1;
+    for i in (0..n).rev() {
+        rest[i] = rest[i + 1] + time_at(table, i, w).0;
     }
 }
 
@@ -54,8 +51,7 @@ fn least(
         return top;
     }
     let mut r = best;
-    let mut b: usize = 0;
-    while b < widths.len() {
+    for b in 0..widths.len() {
         let t = time_at(table, i, Wires(widths[b]));
         let old = loads[b];
         let new = Cycles(old + t.0);
@@ -76,7 +72,6 @@ fn least(
         if r.0 <= enough.0 {
             return r;
         }
-        b += 1;
     }
     r
 }

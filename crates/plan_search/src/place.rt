@@ -38,11 +38,7 @@ fn keep(top: Cycles, buses: &[u64], best: &mut [u64])
     ensures { best.new ≡ top.0 ∷ buses.now }
 {
     best[0] = top.0;
-    let mut i: usize = 0;
-    while i < buses.len() {
-        best[i + 1] = buses[i];
-        i += 1;
-    }
+    best[1..].copy_from_slice(buses);
 }
 
 // Module i and those behind it on each bus in turn. top is the largest busy figure so far; a try that reaches the best time is dropped.
@@ -63,8 +59,7 @@ pub(crate) fn place(
         keep(top, &*buses, &mut *best);
         return;
     }
-    let mut b: usize = 0;
-    while b < widths.len() {
+    for b in 0..widths.len() {
         let w = Wires(widths[b]);
         let old = Cycles(loads[b]);
         let t = time_at(table, i, w);
@@ -84,6 +79,5 @@ pub(crate) fn place(
             );
             loads[b] = old.0;
         }
-        b += 1;
     }
 }

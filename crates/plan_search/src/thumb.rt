@@ -2,7 +2,6 @@
 // goes to the bus where it ends earliest. Some plan takes that time; no more is promised of it.
 ghost use Rattle.std.specs.Prelude.{◌≡◌, ◌+◌, ◌-◌, ◌*◌, ◌≤◌, ◌<◌, length};
 ghost use Rattle.plan_rules.specs.Least.{Reached};
-ghost use Rattle.plan_rules.specs.Widths.{even};
 ghost use Rattle.plan_search.specs.Search.{search_buses, row_places, table_time, IsTable};
 ghost use Rattle.plan_search.specs.Thumb.{AreBuses, Partly, Placeable};
 
@@ -17,15 +16,13 @@ fn earliest(table: &[u64], widths: &[u32], i: usize, loads: &[u64]) -> usize
     let first = time_at(table, i, Wires(widths[0]));
     let mut ends = Cycles(loads[0] + first.0);
     let mut best: usize = 0;
-    let mut b: usize = 1;
-    while b < widths.len() {
+    for b in 1..widths.len() {
         let t = time_at(table, i, Wires(widths[b]));
         let end = Cycles(loads[b] + t.0);
         if end.0 <= ends.0 {
             ends = end;
             best = b;
         }
-        b += 1;
     }
     best
 }
@@ -38,32 +35,24 @@ fn thumb_on(table: &[u64], widths: &[u32], n: usize) -> Cycles
     let c = widths.len();
     let mut loads = [0u64; SEARCH_BUSES];
     let mut top = Cycles(0);
-    let mut i: usize = 0;
-    while i < n {
+    for i in 0..n {
         let b = earliest(table, widths, i, &loads[..c]);
         let t = time_at(table, i, Wires(widths[b]));
         let load = Cycles(loads[b] + t.0);
         loads[b] = load.0;
         top = larger(top, load);
-        i += 1;
     }
     top
 }
 
-// Buses of w wires, and the last one with the rest.
-fn even_widths(widths: &mut [u32], w: Wires, wires: Wires)
-    requires { (1 ≤ length widths.old) × (length widths.old ≤ search_buses) × (length widths.old * w.0 ≤ wires.0) × (wires.0 ≤ row_places) }
-    ensures { widths.new ≡ even (length widths.old - 1) w.0 wires.0 }
+// The time that the rule gives on c buses of w wires each, the last one with the rest.
+fn thumb_even(table: &[u64], c: usize, w: Wires, wires: Wires, n: usize) -> Cycles
+    requires { IsTable table.now n × (1 ≤ c) × (c ≤ search_buses) × (1 ≤ w.0) × (c * w.0 ≤ wires.0) × (wires.0 ≤ row_places) }
+    ensures { Reached (table_time table.now) wires.0 c n result.0 }
 {
-    let last = widths.len() - 1;
-    let mut left = wires;
-    let mut i: usize = 0;
-    while i < last {
-        widths[i] = w.0;
-        left.0 -= w.0;
-        i += 1;
-    }
-    widths[last] = left.0;
+    let mut widths = [w.0; SEARCH_BUSES];
+    widths[c - 1] = wires.0 - (c - 1) as u32 * w.0;
+    thumb_on(table, &widths[..c], n)
 }
 
 // The least time that the rule gives with c buses.
@@ -71,18 +60,12 @@ fn thumb_with(table: &[u64], c: usize, wires: Wires, n: usize) -> Cycles
     requires { IsTable table.now n × (1 ≤ c) × (c ≤ search_buses) × (c ≤ wires.0) × (wires.0 ≤ row_places) }
     ensures { Reached (table_time table.now) wires.0 c n result.0 }
 {
-    let mut widths = [0u32; SEARCH_BUSES];
-    even_widths(&mut widths[..c], Wires(1), wires);
-    let mut best = thumb_on(table, &widths[..c], n);
-    let most = wires.0 / (c as u32);
-    let mut w: u32 = 2;
-    while w <= most {
-        even_widths(&mut widths[..c], Wires(w), wires);
-        let t = thumb_on(table, &widths[..c], n);
+    let mut best = thumb_even(table, c, Wires(1), wires, n);
+    for w in 2..=wires.0 / c as u32 {
+        let t = thumb_even(table, c, Wires(w), wires, n);
         if t.0 < best.0 {
             best = t;
         }
-        w += 1;
     }
     best
 }
@@ -93,16 +76,11 @@ pub(crate) fn bound_of(table: &[u64], wires: Wires, limit: usize, n: usize) -> C
     ensures { Reached (table_time table.now) wires.0 limit n result.0 }
 {
     let mut best = thumb_with(table, 1, wires, n);
-    let mut c: usize = 2;
-    while c <= limit {
-        if (wires.0 as usize) < c {
-            return best;
-        }
+    for c in 2..=limit.min(wires.0 as usize) {
         let t = thumb_with(table, c, wires, n);
         if t.0 < best.0 {
             best = t;
         }
-        c += 1;
     }
     best
 }

@@ -40,11 +40,7 @@ fn first_list(
 {
     let mut widths = [0u32; SEARCH_BUSES];
     let mut r = best;
-    let mut c: usize = 1;
-    while c <= limit {
-        if (wires.0 as usize) < c {
-            break;
-        }
+    for c in 1..=limit.min(wires.0 as usize) {
         r = over_group(
             table,
             n,
@@ -56,7 +52,6 @@ fn first_list(
             &mut *found,
             r,
         );
-        c += 1;
     }
     r
 }
@@ -120,11 +115,7 @@ fn placed_widths(found: &[u32]) -> [u32; FOUND_BUSES]
 {
     let count = found[0] as usize;
     let mut widths = [0u32; FOUND_BUSES];
-    let mut i: usize = 0;
-    while i < count {
-        widths[i] = found[i + 1];
-        i += 1;
-    }
+    widths[..count].copy_from_slice(&found[1..count + 1]);
     widths
 }
 
@@ -134,11 +125,7 @@ fn placed_buses(best: &[u64]) -> [u64; FOUND_MODULES]
     ensures { result ≡ padded found_modules 0 (drop 1 best.now) }
 {
     let mut buses = [0u64; FOUND_MODULES];
-    let mut i: usize = 1;
-    while i < best.len() {
-        buses[i - 1] = best[i];
-        i += 1;
-    }
+    buses[..best.len() - 1].copy_from_slice(&best[1..]);
     buses
 }
 

@@ -1,6 +1,6 @@
 // The SOC record, by value: what a SOC text says, within document 01's limits. Whether a handed record keeps the limits and rules of the
 // text (refusal 14), and which of its modules are planned.
-#![tactic(auto)]
+#![tactic(auto, unfolding(units::specs::Places::all_of))]
 
 mod module_rules;
 mod planned;

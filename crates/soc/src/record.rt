@@ -29,7 +29,7 @@ pub const POWER_MAX: i32 = 16777215;
 // X, Y or Power that is not given.
 pub const NOT_GIVEN: i32 = -1;
 
-#[derive(Clone, Copy)]
+#[derive(Clone, Copy, PartialEq, Eq)]
 pub struct Test {
     pub scan_use: bool,
     pub tam_use: bool,
@@ -37,7 +37,7 @@ pub struct Test {
     pub power: i32,
 }
 
-#[derive(Clone, Copy)]
+#[derive(Clone, Copy, PartialEq, Eq)]
 pub struct Module {
     pub level: u32,
     pub inputs: u32,
@@ -51,7 +51,7 @@ pub struct Module {
     pub tests: [Test; TESTS_MAX],
 }
 
-#[derive(Clone, Copy)]
+#[derive(Clone, Copy, PartialEq, Eq)]
 pub struct Soc {
     pub name_len: usize,
     pub name: [u8; NAME_MAX],
@@ -77,7 +77,6 @@ pub fn no_test() -> Test
 pub fn no_module() -> Module
     ensures { result ≡ no_module }
 {
-    let test = no_test();
     Module {
         level: 0,
         inputs: 0,
@@ -88,7 +87,7 @@ pub fn no_module() -> Module
         x: 0,
         y: 0,
         test_count: 0,
-        tests: [test; TESTS_MAX],
+        tests: [no_test(); TESTS_MAX],
     }
 }
 
@@ -96,13 +95,12 @@ pub fn no_module() -> Module
 pub fn no_soc() -> Soc
     ensures { result ≡ no_soc }
 {
-    let module = no_module();
     Soc {
         name_len: 0,
-        name: [0u8; NAME_MAX],
+        name: [0; NAME_MAX],
         power: false,
         xy: false,
         module_count: 0,
-        modules: [module; MODULES_MAX],
+        modules: [no_module(); MODULES_MAX],
     }
 }

@@ -1,93 +1,55 @@
 // Whether a handed SOC record keeps the limits and rules of the text, has its figures not given under an option 0, and 0 in every spare
 // place (refusal 14).
-ghost use Rattle.std.specs.Prelude.{◌≡◌, ◌≤◌, take, drop};
+ghost use Rattle.std.specs.Prelude.{◌≡◌};
 ghost use Rattle.units.specs.Places.{all_of};
-ghost use Rattle.soc.specs.Limits.{modules_max};
-ghost use Rattle.fields.specs.Names.{name_max};
 ghost use Rattle.soc.specs.Rules.{none, good_modules, spare_module, good_name, good_soc};
 
-use super::module_rules::{is_good_module, is_spare_module};
-use super::{MODULES_MAX, Soc};
+use super::{MODULES_MAX, Module, Soc};
 use fields::NAME_MAX;
 
-fn are_good_modules(s: Soc) -> bool
-    requires { s.module_count ≤ modules_max }
-    ensures { result ≡ good_modules s.power s.xy 0 0 (take s.module_count s.modules) }
+#[tactic(auto, unfolding(crate::specs::Rules::good_modules))]
+fn are_good_modules(power: bool, xy: bool, modules: &[Module]) -> bool
+    ensures { result ≡ good_modules power xy 0 0 modules.now }
 {
-    let n = s.module_count;
-    let power = s.power;
-    let xy = s.xy;
-    let mut last: u32 = 0;
-    let mut i: usize = 0;
-    while i < n {
-        let d = s.modules[i];
-        if !is_good_module(power, xy, i, last, d) {
+    let mut last = 0;
+    for (m, d) in modules.iter().enumerate() {
+        if !d.is_good(power, xy, m, last) {
             return false;
         }
         last = d.level;
-        i += 1;
     }
     true
 }
 
-fn are_spare_modules(s: Soc, n: usize) -> bool
-    requires { n ≤ modules_max }
-    ensures { result ≡ all_of spare_module (drop n s.modules) }
+fn are_spare_modules(modules: &[Module]) -> bool
+    ensures { result ≡ all_of spare_module modules.now }
 {
-    let mut i = n;
-    while i < MODULES_MAX {
-        let d = s.modules[i];
-        if !is_spare_module(d) {
-            return false;
-        }
-        i += 1;
-    }
-    true
+    modules.iter().all(Module::is_spare)
 }
 
-fn are_spare_bytes(name: [u8; NAME_MAX], n: usize) -> bool
-    requires { n ≤ name_max }
-    ensures { result ≡ all_of none (drop n name) }
+fn are_spare_bytes(bytes: &[u8]) -> bool
+    ensures { result ≡ all_of none bytes.now }
 {
-    let mut i = n;
-    while i < NAME_MAX {
-        if name[i] != 0 {
-            return false;
-        }
-        i += 1;
-    }
-    true
+    bytes.iter().all(|b| *b == 0)
 }
 
-fn has_good_name(s: Soc) -> bool
-    ensures { result ≡ good_name s }
-{
-    let n = s.name_len;
-    if n > NAME_MAX {
-        return false;
+impl Soc {
+    #[tactic(auto, unfolding(crate::specs::Rules::good_name))]
+    fn has_good_name(&self) -> bool
+        ensures { result ≡ good_name self.now }
+    {
+        let n = self.name_len;
+        n <= NAME_MAX && fields::is_name(&self.name[..n]) && are_spare_bytes(&self.name[n..])
     }
-    let name = s.name;
-    if !fields::is_name(&name[..n]) {
-        return false;
-    }
-    are_spare_bytes(name, n)
 }
 
+#[tactic(auto, unfolding(crate::specs::Rules::good_soc))]
 pub fn is_good(s: Soc) -> bool
     ensures { result ≡ good_soc s }
 {
-    if !has_good_name(s) {
-        return false;
-    }
     let n = s.module_count;
-    if n < 1 {
-        return false;
-    }
-    if n > MODULES_MAX {
-        return false;
-    }
-    if !are_good_modules(s) {
-        return false;
-    }
-    are_spare_modules(s, n)
+    s.has_good_name()
+        && (1..=MODULES_MAX).contains(&n)
+        && are_good_modules(s.power, s.xy, &s.modules[..n])
+        && are_spare_modules(&s.modules[n..])
 }

@@ -9,7 +9,7 @@ ghost use Rattle.units.specs.Refusals.{number_of, refused};
 #[derive(Clone, Copy)]
 pub struct Wires(pub u32);
 
-#[derive(Clone, Copy)]
+#[derive(Clone, Copy, PartialEq, Eq)]
 pub struct FlipFlops(pub u32);
 
 #[derive(Clone, Copy)]

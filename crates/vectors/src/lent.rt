@@ -8,17 +8,15 @@ pub const BEFORE: u8 = 170;
 pub(crate) fn at_most(n: usize, s: &[u8]) -> usize
     ensures { IsPrefixLen result s.now }
 {
-    if n <= s.len() { n } else { s.len() }
+    n.min(s.len())
 }
 
 // The place of the first byte from a place on that is not as before, or the end.
 pub(crate) fn kept_to(s: &[u8], from: usize) -> usize {
-    let mut i = from;
-    while i < s.len() {
-        if s[i] != BEFORE {
+    for (i, b) in s.iter().enumerate().skip(from) {
+        if *b != BEFORE {
             return i;
         }
-        i += 1;
     }
-    i
+    from.max(s.len())
 }

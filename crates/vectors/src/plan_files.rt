@@ -111,25 +111,27 @@ pub(crate) fn show_longest(rt: &HostRuntime, low: u8) -> io::Result<()> {
 // The number of the refusal of the file by hand with another byte at a place; 1 where it has that byte.
 fn refusal_with(rt: &HostRuntime, at: usize, b: u8) -> io::Result<u8> {
     let mut file = by_hand();
-    if 80 <= at {
-        return Ok(1);
-    }
-    if file[at] == b {
+    if 80 <= at || file[at] == b {
         return Ok(1);
     }
     file[at] = b;
     refusal_of(rt, &file)
 }
 
-// Which other values of which bytes of the file by hand are accepted.
-pub(crate) fn show_changes(rt: &HostRuntime) -> io::Result<()> {
-    let mut k: usize = 0;
-    while k < 20480 {
-        let b = (k % 256) as u8;
-        if refusal_with(rt, k / 256, b)? == 0 {
-            print_line(rt, CHANGED, k as u64 / 256, b as u64, 0, 0)?;
+// Which other values of a byte of the file by hand are accepted.
+fn show_changed(rt: &HostRuntime, at: usize) -> io::Result<()> {
+    for b in 0..=u8::MAX {
+        if refusal_with(rt, at, b)? == 0 {
+            print_line(rt, CHANGED, at as u64, b as u64, 0, 0)?;
         }
-        k += 1;
+    }
+    Ok(())
+}
+
+// The same of each of its bytes.
+pub(crate) fn show_changes(rt: &HostRuntime) -> io::Result<()> {
+    for at in 0..80 {
+        show_changed(rt, at)?;
     }
     Ok(())
 }

@@ -1,40 +1,28 @@
 // Prints plans (document 01, "The plan"; document 02, items 1 and 5), also those of the planner with a spending limit (item 7).
 use super::print::{BUDGET, BUS, PLACED, PLAN, SPENT, START, print_line, soc_in};
 use budget::Ended;
-use plan_record::{BUS_PLACES, BusPlan, MODULE_PLACES};
+use plan_record::BusPlan;
 use std::io;
 use units::{CaptureCycles, Wires};
 
 fn print_buses(rt: &HostRuntime, p: BusPlan) -> io::Result<()> {
-    let n = p.bus_count;
-    let mut i: usize = 0;
-    while i < BUS_PLACES {
-        if i < n {
-            let b = p.buses[i];
-            print_line(rt, BUS, i as u64 + 1, b.width.0 as u64, b.busy.0, 0)?;
-        }
-        i += 1;
+    for (i, b) in p.buses.iter().take(p.bus_count).enumerate() {
+        print_line(rt, BUS, i as u64 + 1, b.width.0 as u64, b.busy.0, 0)?;
     }
     Ok(())
 }
 
 fn print_placed(rt: &HostRuntime, p: BusPlan) -> io::Result<()> {
-    let n = p.module_count;
-    let mut i: usize = 0;
-    while i < MODULE_PLACES {
-        if i < n {
-            let m = p.modules[i];
-            print_line(
-                rt,
-                PLACED,
-                m.number as u64,
-                m.bus as u64,
-                m.wires.0 as u64,
-                m.cycles.0,
-            )?;
-            print_line(rt, START, m.start.0, 0, 0, 0)?;
-        }
-        i += 1;
+    for m in p.modules.iter().take(p.module_count) {
+        print_line(
+            rt,
+            PLACED,
+            m.number as u64,
+            m.bus as u64,
+            m.wires.0 as u64,
+            m.cycles.0,
+        )?;
+        print_line(rt, START, m.start.0, 0, 0, 0)?;
     }
     Ok(())
 }
@@ -100,13 +88,11 @@ pub(crate) fn show_budget(
     print_placed(rt, p)
 }
 
-// Every W of Table 9 of document 000, with limits 2 and 3.
+// Every W of Table 9 of document 000, 16 to 64 by fours, with limits 2 and 3.
 pub(crate) fn show_table_9(rt: &HostRuntime, i: usize) -> io::Result<()> {
-    let mut w: u32 = 16;
-    while w < 65 {
-        show_plan(rt, i, w, 2, 1)?;
-        show_plan(rt, i, w, 3, 1)?;
-        w += 4;
+    for k in 4..=16 {
+        show_plan(rt, i, 4 * k, 2, 1)?;
+        show_plan(rt, i, 4 * k, 3, 1)?;
     }
     Ok(())
 }

@@ -96,17 +96,11 @@ fn print_byte(rt: &HostRuntime, w: u8, figures: [u64; 4], next: usize) -> io::Re
 
 // Prints one of some lines, each of which begins with |.
 fn print_part(rt: &HostRuntime, lines: &[u8], line: usize, figures: [u64; 4]) -> io::Result<()> {
-    let mut number: usize = 0;
     let mut next: usize = 0;
-    let mut i: usize = 0;
-    while i < lines.len() {
-        let w = lines[i];
-        if w == b'|' {
-            number = std::num::wrapping_add_usize(number, 1);
-        } else if number == line {
-            next = print_byte(rt, w, figures, next)?;
+    if let Some(words) = lines.split(|w| *w == b'|').nth(line) {
+        for w in words {
+            next = print_byte(rt, *w, figures, next)?;
         }
-        i += 1;
     }
     Ok(())
 }

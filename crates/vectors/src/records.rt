@@ -1,7 +1,7 @@
 // Prints a SOC record: every figure that document 01, "The SOC text", names, and whether a module is planned ("The plan").
 use super::print::{CHAIN, END, MODULE, NOT_GIVEN, OPTIONS, TERMINALS, TEST, print, print_line};
 use fields::NAME_MAX;
-use soc::{CHAINS_MAX, MODULES_MAX, Module, Soc, TESTS_MAX};
+use soc::{Module, Soc};
 use std::io;
 
 // X, Y or Power, which may be not given.
@@ -13,34 +13,22 @@ fn given(z: i32) -> u64 {
 }
 
 fn print_chains(rt: &HostRuntime, d: Module) -> io::Result<()> {
-    let n = d.chain_count;
-    let mut i: usize = 0;
-    while i < CHAINS_MAX {
-        if i < n {
-            let f = d.chains[i];
-            print_line(rt, CHAIN, f.0 as u64, 0, 0, 0)?;
-        }
-        i += 1;
+    for f in d.chains.iter().take(d.chain_count) {
+        print_line(rt, CHAIN, f.0 as u64, 0, 0, 0)?;
     }
     print_line(rt, END, 0, 0, 0, 0)
 }
 
 fn print_tests(rt: &HostRuntime, d: Module) -> io::Result<()> {
-    let n = d.test_count;
-    let mut i: usize = 0;
-    while i < TESTS_MAX {
-        if i < n {
-            let t = d.tests[i];
-            print_line(
-                rt,
-                TEST,
-                t.scan_use as u64,
-                t.tam_use as u64,
-                t.patterns as u64,
-                given(t.power),
-            )?;
-        }
-        i += 1;
+    for t in d.tests.iter().take(d.test_count) {
+        print_line(
+            rt,
+            TEST,
+            t.scan_use as u64,
+            t.tam_use as u64,
+            t.patterns as u64,
+            given(t.power),
+        )?;
     }
     Ok(())
 }
@@ -67,14 +55,8 @@ fn print_module(rt: &HostRuntime, m: usize, d: Module) -> io::Result<()> {
 }
 
 fn print_modules(rt: &HostRuntime, s: Soc) -> io::Result<()> {
-    let n = s.module_count;
-    let mut i: usize = 0;
-    while i < MODULES_MAX {
-        if i < n {
-            let d = s.modules[i];
-            print_module(rt, i, d)?;
-        }
-        i += 1;
+    for (i, d) in s.modules.iter().take(s.module_count).enumerate() {
+        print_module(rt, i, *d)?;
     }
     Ok(())
 }

@@ -7,8 +7,7 @@ use wrapper::WrapperLayout;
 
 // The first ten places: of wrapper chains, and of internal chains.
 fn print_layout(rt: &HostRuntime, l: WrapperLayout) -> io::Result<()> {
-    let mut i: usize = 0;
-    while i < 10 {
+    for i in 0..10 {
         let f = l.flip_flops[i];
         print_line(
             rt,
@@ -19,7 +18,6 @@ fn print_layout(rt: &HostRuntime, l: WrapperLayout) -> io::Result<()> {
             l.bidir_cells[i],
         )?;
         print_line(rt, INTERNAL, l.chain_of[i] as u64, 0, 0, 0)?;
-        i += 1;
     }
     Ok(())
 }
@@ -75,13 +73,8 @@ pub(crate) fn show_times(
 ) -> io::Result<()> {
     let s = soc_in(rt, i)?;
     print_line(rt, TIMES, module as u64, 0, 0, 0)?;
-    let mut w = from;
-    while w < 100 {
-        if to < w {
-            return Ok(());
-        }
+    for w in from..=to {
         show_time(rt, s, module, w, capture)?;
-        w += 1;
     }
     Ok(())
 }

@@ -1,6 +1,6 @@
 -- `lists::over_lists` meets its contract: what its invariant (Invariants.antt) leaves to show. Assumes nothing.
 use native.Mathlib.Omega.{arith}
-use Prim.Native.Nat.{ℕ, suc, ◌+◌, ◌-◌, ◌*◌, ◌≤◌, ◌<◌}
+use Prim.Native.Nat.{ℕ, ◌-◌, ◌≤◌}
 use mathlib.Core.Path.{refl, sym, ap, ◌∙◌}
 use mathlib.Core.List.{List, ◌++◌, map}
 use lib.ListN.{length, take, set, length-set}
@@ -11,7 +11,7 @@ use Rattle.budget_search.specs.Steps.{held_in}
 use Rattle.plan_search.specs.Search.{table_time}
 use Rattle.budget_search.proofs.SpendLaws.{lists_append, lists_none, lists_one, lists_stopped}
 use Rattle.budget_search.proofs.PlaceLaws.{spent_held}
-use Rattle.budget_search.proofs.ListLaws.{share-small, low_fits, begun-next, begun_more, left-none, last-widths, left_one}
+use Rattle.budget_search.proofs.ListLaws.{low_fits, begun_more, left-none, left_one}
 use Rattle.budget_search.proofs.ListLaws.{left-more, front_same}
 use Rattle.budget_search.proofs.lists.+over_lists.Goals as goal
 use Rattle.budget_search.proofs.lists.+over_lists.Goals.{Start, Else-left-low, Else-due-eq1}
@@ -21,10 +21,6 @@ fits : (t : ℕ) (c : Else-left-low t) → c.args.low.0 ≤ c.args.left.0
 fits t c =
     let a = c.args in
     low_fits a.low.0 (length a.widths.now - a.at) a.left.0 (omega (arith, c.requires.4.at_most)) (omega (arith, c.if-left-low.false))
-
--- a width behind this one is to be set too
-less : (t : ℕ) (c : Else-due-eq1 t) → suc c.args.at < length c.args.widths.now
-less t c = omega (arith, c.requires.4.at_most, c.if-due-eq1.false)
 
 -- the lists that are left
 abbrev left-lists : (t : ℕ) → Start t → List (List ℕ)
@@ -42,17 +38,6 @@ returns-then-is_stopped t c =
       refl,
     )
 
-pub overflow_sub-due : goal.overflow_sub-due
-overflow_sub-due t c = omega (arith, c.requires.4.at_most)
-
-pub overflow_cast-due : goal.overflow_cast-due
-overflow_cast-due t c = omega (arith, c.requires.4.few)
-
-pub overflow_mul-low : goal.overflow_mul-low
-overflow_mul-low t c =
-    let a = c.args in
-    omega (arith, share-small a.low.0 (length a.widths.now - a.at) c.requires.4.low_most (omega (arith, c.requires.4.few)))
-
 pub returns-then-left-low : goal.returns-then-left-low
 returns-then-left-low t c =
     let a = c.args in
@@ -62,20 +47,6 @@ returns-then-left-low t c =
       c.requires.3,
       refl,
     )
-
-pub offset_bounds-widths-at : goal.offset_bounds-widths-at
-offset_bounds-widths-at t c = omega (arith, c.requires.4.at_most, c.requires.4.few)
-
-pub bounds-widths-at : goal.bounds-widths-at
-bounds-widths-at t c = omega (arith, c.requires.4.at_most)
-
-pub placed_on-requires : goal.placed_on-requires
-placed_on-requires t c = (
-  c.requires.0,
-  last-widths c.requires.4 c.if-due-eq1.true (fits t (goal.at.placed_on-requires t c).Else-left-low),
-  c.requires.2,
-  c.requires.3,
-)
 
 pub returns-then-due-eq1 : goal.returns-then-due-eq1
 returns-then-due-eq1 t c =
@@ -90,30 +61,6 @@ returns-then-due-eq1 t c =
       p.ensures.1,
       take-set-le a.at a.widths.now a.at a.left.0 (omega arith),
     )
-
-pub offset_bounds-widths-at-2 : goal.offset_bounds-widths-at-2
-offset_bounds-widths-at-2 t c = omega (arith, c.requires.4.at_most, c.requires.4.few)
-
-pub bounds-widths-at-2 : goal.bounds-widths-at-2
-bounds-widths-at-2 t c = omega (arith, c.requires.4.at_most)
-
-pub overflow_add-at : goal.overflow_add-at
-overflow_add-at t c = omega (arith, c.requires.4.at_most, c.requires.4.few)
-
-pub overflow_sub-left : goal.overflow_sub-left
-overflow_sub-left t c = fits t (goal.at.overflow_sub-left t c).Else-left-low
-
-pub over_lists-r-requires : goal.over_lists-r-requires
-over_lists-r-requires t c =
-    let a = c.args in
-    let l = less t (goal.at.over_lists-r-requires t c).Else-due-eq1 in
-    let n = length-set a.widths.now a.at a.low.0 in
-    let m : (length (set a.widths.now a.at a.low.0) - (a.at + 1)) * 66 + (65 - a.low.0) < t = omega (arith, n, l) in
-    let f = fits t (goal.at.over_lists-r-requires t c).Else-left-low in
-    (m, (c.requires.0, c.requires.1, c.requires.2, c.requires.3, begun-next c.requires.4 l f))
-
-pub overflow_add-low : goal.overflow_add-low
-overflow_add-low t c = omega (arith, c.requires.4.low_most)
 
 -- the next width is more, by omega, so that a wrong one is met where the lists are told
 pub over_lists-requires : goal.over_lists-requires
@@ -133,11 +80,6 @@ over_lists-requires t c =
         begun_more c.requires.4 n e (omega arith) (omega (arith, f, w)),
       ),
     )
-
-pub shape_of-widths : goal.shape_of-widths
-shape_of-widths t c =
-    let a = c.args in
-    c.over_lists.auto.widths ∙ c.over_lists-r.auto.widths ∙ length-set a.widths.now a.at a.low.0
 
 pub returns : goal.returns
 returns t c =

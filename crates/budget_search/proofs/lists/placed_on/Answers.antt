@@ -2,23 +2,11 @@
 use native.Mathlib.Omega.{arith}
 use Prim.Native.Nat.{ℕ, ◌-◌}
 use mathlib.Core.Path.{◌≡◌}
-use lib.ListN.{length, take, replicate, length-take}
+use lib.ListN.{length, take, replicate}
 use Rattle.budget_search.specs.Steps.{buses_max, modules_max}
 use Rattle.budget_search.proofs.PlaceLaws.{ready_first}
 use Rattle.budget_search.proofs.ListLaws.{take-zeros, length-zeros}
 use Rattle.budget_search.proofs.lists.placed_on.Goals as goal
-
-pub slice_bounds-loads-end : goal.slice_bounds-loads-end
-slice_bounds-loads-end c = omega (arith, c.requires.1.few)
-
-pub slice_bounds-place-end : goal.slice_bounds-place-end
-slice_bounds-place-end c = simp length-take (omega (arith, c.requires.1.few))
-
-pub slice_bounds-buses-end : goal.slice_bounds-buses-end
-slice_bounds-buses-end c = omega (arith, c.requires.0.few)
-
-pub slice_bounds-place-end-2 : goal.slice_bounds-place-end-2
-slice_bounds-place-end-2 c = simp length-take (omega (arith, c.requires.0.few))
 
 pub place-requires : goal.place-requires
 place-requires c = let a = c.args in

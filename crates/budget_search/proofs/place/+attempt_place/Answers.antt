@@ -1,12 +1,12 @@
 -- `budget_search::place::attempt_place` meets its contract: what its invariant (Invariants.antt) leaves to show. Assumes nothing.
 use native.Mathlib.Omega.{arith}
 use Prim.Native.Nat.{ℕ, ◌+◌, ◌-◌, ◌*◌, ◌<◌}
-use mathlib.Core.Path.{◌≡◌, refl, sym, ap, ◌∙◌}
+use mathlib.Core.Path.{◌≡◌, sym, ap, ◌∙◌}
 use lib.ListN.{length, get_or, set, length-set}
 use Rattle.plan_search.specs.Search.{table_time}
 use Rattle.budget_rules.specs.Tries.{busy_with}
-use Rattle.budget_search.proofs.PlaceLaws.{left_ready, placed-reached, placed-kept, time_in_lem, busy-most, left-start}
-use Rattle.budget_search.proofs.PlaceLaws.{ready_next, attempt_halted, attempt_dropped, attempt_on, left-tried, left_end}
+use Rattle.budget_search.proofs.PlaceLaws.{placed-reached, placed-kept, left-start}
+use Rattle.budget_search.proofs.PlaceLaws.{ready_next, attempt_dropped, attempt_on, left-tried, left_end}
 use Rattle.budget_search.proofs.place.+attempt_place.Goals as goal
 use Rattle.budget_search.proofs.place.+attempt_place.Goals.{attempt-After-time_at-t}
 
@@ -17,97 +17,38 @@ busy-is : (t : ℕ) (c : attempt-After-time_at-t t)
     ≡ busy_with (table_time a.table.now) a.widths.now a.i a.loads.now a.b
 busy-is t c = let a = c.args in ap (λ x. get_or a.loads.now a.b 0 + x) c.time_at-t.ensures
 
-pub attempt-returns-then-budget-tries : goal.attempt-returns-then-budget-tries
-attempt-returns-then-budget-tries t c =
-    attempt_halted c.requires.ready c.requires.i_in_bounds.0 c.args.b c.requires.i_in_bounds.1 c.args.s
-    (omega (arith, c.if-budget-tries.true)) c.halt.ensures
-
-pub attempt-time_at-t-requires : goal.attempt-time_at-t-requires
-attempt-time_at-t-requires t c = time_in_lem c.requires.ready c.requires.i_in_bounds.0 c.args.b c.requires.i_in_bounds.1
-
-pub attempt-overflow_add-busy : goal.attempt-overflow_add-busy
-attempt-overflow_add-busy t c =
-    let m = busy-most c.requires.ready c.requires.i_in_bounds.0 c.args.b in
-    omega (arith, m, c.time_at-t.ensures, c.requires.ready.table.few, c.requires.i_in_bounds.0)
-
 pub attempt-returns-then-is_reached : goal.attempt-returns-then-is_reached
 attempt-returns-then-is_reached t c =
-    attempt_dropped c.requires.ready c.requires.i_in_bounds.0 c.args.b c.requires.i_in_bounds.1 c.args.s (omega (arith, c.if-budget-tries.false))
+    attempt_dropped c.requires.ready c.requires.i_in_bounds.0 c.args.b c.requires.i_in_bounds.1 c.args.s (omega arith)
     c.count-spent.ensures (busy-is t (goal.at.attempt-returns-then-is_reached t c).After-time_at-t) (sym c.if-is_reached.true ∙ c.is_reached.ensures)
-
-pub attempt-overflow_cast-buses : goal.attempt-overflow_cast-buses
-attempt-overflow_cast-buses t c = omega (arith, c.requires.ready.widths.few, c.requires.i_in_bounds.1)
 
 pub attempt-place-r-requires : goal.attempt-place-r-requires
 attempt-place-r-requires t c =
     let a = c.args in
     let n : length (set a.buses.now a.i (a.b + 1)) ≡ length a.buses.now = length-set a.buses.now a.i (a.b + 1) in
     let f : (length (set a.buses.now a.i (a.b + 1)) - (a.i + 1)) * 2 + 1 < t = omega (arith, n, c.requires.i_in_bounds.0) in
-    (f, ready_next c.requires.ready c.requires.i_in_bounds.0 a.b c.requires.i_in_bounds.1 (busy-is t (goal.at.attempt-place-r-requires t c).After-time_at-t) c.larger-next.ensures)
-
-pub attempt-offset_bounds-loads-b-3 : goal.attempt-offset_bounds-loads-b-3
-attempt-offset_bounds-loads-b-3 t c = omega (arith, c.requires.ready.widths.few, c.requires.i_in_bounds.1)
-
-pub attempt-bounds-loads-b-3 : goal.attempt-bounds-loads-b-3
-attempt-bounds-loads-b-3 t c = rw (c.place-r.ensures.loads_same, length-set) (omega (arith, c.requires.ready.room, c.requires.i_in_bounds.1))
-
-pub attempt-shape_of-loads : goal.attempt-shape_of-loads
-attempt-shape_of-loads t c =
-    let a = c.args in
-    simp length-set (ap length c.place-r.ensures.loads_same ∙ length-set a.loads.now a.b (get_or a.loads.now a.b 0 + c.time_at-t.result.0))
-
-pub attempt-shape_of-buses : goal.attempt-shape_of-buses
-attempt-shape_of-buses t c = c.place-r.auto.buses ∙ length-set c.args.buses.now c.args.i (c.args.b + 1)
+    (f, ready_next c.requires.ready c.requires.i_in_bounds.0 a.b c.requires.i_in_bounds.1 (busy-is t (goal.at.attempt-place-r-requires t c).After-time_at-t) c.max.ensures)
 
 -- the try was gone on with
 pub attempt-returns : goal.attempt-returns
 attempt-returns t c =
     attempt_on c.requires.ready c.requires.i_in_bounds.0 c.args.b c.requires.i_in_bounds.1 c.args.s
-    (omega (arith, c.if-budget-tries.false)) c.count-spent.ensures (busy-is t (goal.at.attempt-returns t c).After-time_at-t) (sym c.if-is_reached.false ∙ c.is_reached.ensures)
+    (omega arith) c.count-spent.ensures (busy-is t (goal.at.attempt-returns t c).After-time_at-t) (sym c.if-is_reached.false ∙ c.is_reached.ensures)
     c.place-r.ensures
 
 pub place-returns-then-is_reached : goal.place-returns-then-is_reached
 place-returns-then-is_reached t c = placed-reached c.requires c.args.s c.if-i-buses.true (sym c.if-is_reached.true ∙ c.is_reached.ensures)
-
-pub place-keep_plan-requires : goal.place-keep_plan-requires
-place-keep_plan-requires t c = (c.requires.widths.few, c.requires.table.few, c.requires.rooms)
 
 pub place-returns-then-i-buses : goal.place-returns-then-i-buses
 place-returns-then-i-buses t c =
     placed-kept c.requires c.args.s c.if-i-buses.true (sym c.if-is_reached.false ∙ c.is_reached.ensures)
     c.keep_plan.ensures.0 c.keep_plan.ensures.1 c.completed.ensures
 
-pub place-loop-left-init : goal.place-loop-left-init
-place-loop-left-init t c =
-    let n = length c.args.widths.now in
-    let z : n - n ≡ 0 = omega arith in
-    (refl, omega arith, rw z (left-start c.requires (omega (arith, c.requires.upto, c.if-i-buses.false)) c.args.s))
+pub place-loop-bus-init : goal.place-loop-bus-init
+place-loop-bus-init t c = left-start c.requires (omega (arith, c.requires.upto, c.if-i-buses.false)) c.args.s
 
-pub place-overflow_sub-n : goal.place-overflow_sub-n
-place-overflow_sub-n t c = omega (arith, c.loop-left.invariant.1)
-
-pub place-attempt-r-requires : goal.place-attempt-r-requires
-place-attempt-r-requires t c =
-    let l = c.loop-left in
-    let v = l.invariant in
-    let h : c.args.i < length l.buses = omega (arith, v.2.buses_length, c.requires.upto, c.if-i-buses.false) in
-    let f : (length l.buses - c.args.i) * 2 < t = omega (arith, v.2.buses_length) in
-    (f, (left_ready v.2 c.requires, (h, omega (arith, v.0, v.1, c.loop-left-test.true))))
-
-pub place-overflow_sub-left : goal.place-overflow_sub-left
-place-overflow_sub-left t c = omega (arith, c.loop-left-test.true)
-
-pub place-loop-left-smaller : goal.place-loop-left-smaller
-place-loop-left-smaller t c = omega (arith, c.loop-left-test.true)
-
-pub place-loop-left-preserved : goal.place-loop-left-preserved
-place-loop-left-preserved t c =
-    let l = c.loop-left in
-    let v = l.invariant in
-    let h = c.loop-left-test.true in
-    let n = length c.args.widths.now in
-    let e : n - (l.left - 1) ≡ n - l.left + 1 = omega (arith, v.0, v.1, h) in
-    (v.0, omega (arith, v.1), rw e (left-tried v.2 (omega (arith, v.0, v.1, h)) c.attempt-r.ensures c.attempt-r.auto.buses))
+pub place-loop-bus-preserved : goal.place-loop-bus-preserved
+place-loop-bus-preserved t c = left-tried c.loop-bus.invariant (omega arith) c.attempt-r.ensures c.attempt-r.auto.buses
 
 pub place-returns : goal.place-returns
-place-returns t c = let v = c.loop-left.invariant in left_end v.2 (omega (arith, v.0, c.loop-left-test.false))
+place-returns t c = left_end c.loop-bus.invariant (omega arith)

@@ -1,18 +1,9 @@
 -- `place::keep_plan` meets its contract: the count, the widths and the bus numbers are put one behind the other. Assumes nothing.
-use native.Mathlib.Omega.{arith}
 use mathlib.Core.Path.{◌≡◌, sym, ap, ◌∙◌}
-use lib.ListN.{length, length-set}
-use Rattle.plan_search.proofs.CopyLaws.{over}
+use lib.ListN.{length}
 use Rattle.budget_search.specs.Steps.{buses_at, plan_in}
-use Rattle.budget_search.proofs.KeptLaws.{kept, plan-kept, rooms-kept}
+use Rattle.budget_search.proofs.KeptLaws.{kept, over, plan-kept, rooms-kept}
 use Rattle.budget_search.proofs.place.keep_plan.Goals as goal
-
-pub put-requires : goal.put-requires
-put-requires c = let a = c.args in
-    (omega (arith, c.requires.0), length-set a.best.now 0 (length a.widths.now) ∙ c.requires.2.places)
-
-pub put-requires-2 : goal.put-requires-2
-put-requires-2 c = (omega (arith, c.requires.1), c.put.ensures.1)
 
 pub returns : goal.returns
 returns c = let a = c.args in

@@ -1,37 +1,12 @@
--- `within::widths_in` meets its contract: what its invariant (Invariants.antt) leaves to show. Assumes nothing.
-use borrow.Author.Rules.{rules}
-use native.Mathlib.Omega.{arith}
-use Prim.Native.Nat.{◌+◌}
-use mathlib.Core.Path.{◌≡◌, refl, sym, ap, ◌∙◌}
-use lib.ListN.{length, get_or, take, drop, length-set}
-use Rattle.units.specs.Places.{padded}
-use Rattle.units.proofs.PlaceLaws.{padded-none}
+-- `within::widths_in` meets its contract. Assumes nothing.
+use Rattle.std.proofs.Common.{rules, arith, ◌≡◌, ◌+◌, ◌-◌, get_or, length}
 use Rattle.budget_search.specs.Steps.{buses_max, best_places}
-use Rattle.plan_search.proofs.CopyLaws.{padded-more}
+use Rattle.budget_search.proofs.KeptLaws.{front-padded}
 use Rattle.budget_search.proofs.within.widths_in.Goals as goal
-use Rattle.budget_search.proofs.within.widths_in.Goals.{Start}
-
--- the places of the buffer
-len : (c : Start) → length c.args.best ≡ best_places
-len c = search rules
-
-pub loop-i-init : goal.loop-i-init
-loop-i-init c = (omega arith, refl, sym (padded-none buses_max 0))
-
-pub loop-i-smaller : goal.loop-i-smaller
-loop-i-smaller c = omega (arith, c.loop-i-test.true)
-
-pub loop-i-preserved : goal.loop-i-preserved
-loop-i-preserved c = let l = c.loop-i in
-    let h = c.loop-i-test.true in (
-      omega arith,
-      simp length-set l.invariant.1,
-      rw l.invariant.2
-          (padded-more buses_max c.args.best 1 l.i (l.i + 1) (omega (arith, c.requires)) refl (omega (arith, len (goal.at.loop-i-preserved c).Start, c.requires))),
-    )
 
 pub returns : goal.returns
-returns c = let l = c.loop-i in
+returns c =
     let best = c.args.best in
-    let e : l.i ≡ get_or best 0 0 = omega (arith, l.invariant.0, c.loop-i-test.false) in
-    l.invariant.2 ∙ ap (λ j. padded buses_max 0 (take j (drop 1 best))) e
+    let n : get_or best 0 0 + 1 - 1 ≡ get_or best 0 0 = omega arith in
+    let l : length best ≡ best_places = search rules in
+    rw (c.copy_from_slice.ensures.after, n) (front-padded buses_max (get_or best 0 0) 1 best (omega arith))

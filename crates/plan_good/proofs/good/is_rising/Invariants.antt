@@ -1,14 +1,9 @@
--- `plan_good::good::is_rising` meets its contract. The loop's invariant: the widths of the buses in use rise from 1 where those from i on rise
--- from low. The measure is what is left of their number. Assumes nothing.
-use Prim.Native.Nat.{◌≤◌, ◌-◌}
-use mathlib.Core.Path.{◌≡◌}
-use lib.ListN.{take, drop}
-use Rattle.plan_record.specs.Record.{widths_of}
+-- `plan_good::good::is_rising` meets its contract. The loop's invariant: the widths rise where those of the buses from here on do, the next
+-- at least that wide. Assumes nothing.
+use Rattle.std.proofs.Common.{◌≡◌, drop}
+use Rattle.plan_record.specs.Record.{buses_of, widths_of}
 use Rattle.plan_record.specs.Good.{rising_from}
 use Rattle.plan_good.proofs.good.is_rising.Given as goal
 
-abbrev pub invariant-loop-i : goal.invariant-loop-i
-invariant-loop-i l = (l.i ≤ l.n) × (rising_from 1 (widths_of (take l.n l.p.buses)) ≡ rising_from l.low (widths_of (drop l.i (take l.n l.p.buses))))
-
-abbrev pub decreases-loop-i : goal.decreases-loop-i
-decreases-loop-i l = l.n - l.i
+abbrev pub invariant-loop-b : goal.invariant-loop-b
+invariant-loop-b l = rising_from 1 (widths_of (buses_of l.p)) ≡ rising_from l.least (widths_of (drop l.b-index (buses_of l.p)))

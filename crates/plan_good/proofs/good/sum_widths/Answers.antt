@@ -1,31 +1,20 @@
--- `plan_good::good::sum_widths` meets its contract: what its invariant (Invariants.antt) leaves to show. Assumes nothing.
-use mathlib.Core.Path.{◌≡◌}
-use native.Mathlib.Omega.{arith}
-use lib.ListN.{length, take, drop}
-use Rattle.plan_rules.specs.Plans.{sum}
-use Rattle.plan_record.specs.Record.{bus_places, widths_of}
-use Rattle.plan_record.proofs.GoodPlanLaws.{front-none, sum-widths_step}
+-- `plan_good::good::sum_widths` meets its contract. Assumes nothing.
+use Rattle.std.proofs.Common.{rules, tests, arith, ◌∙◌, ◌^◌, ◌≤◌, length}
+use Rattle.std.proofs.lemmas.Iterator.{YieldsList-from_slice, YieldsList-from_map}
+use Rattle.std.proofs.lemmas.Iterator.Adapters.{fits_from_length, at_most_from_yields_List}
+use Rattle.std.proofs.lemmas.Iterator.Consumers.{sum_by_from_yields_List}
+use Rattle.plan_record.specs.Record.{buses_of}
+use Rattle.plan_record.specs.declared.record.Bus.{Bus}
+use Rattle.plan_good.proofs.GoodLaws.{widths-sum}
 use Rattle.plan_good.proofs.good.sum_widths.Goals as goal
-use Rattle.plan_good.proofs.good.sum_widths.Goals.{Start}
 
-len : (c : Start) → length c.args.p.buses ≡ bus_places
-len c = c.well_formed.0.1.1.1.1.1.0.1.0.1
-
-pub loop-i-init : goal.loop-i-init
-loop-i-init c = (omega arith, omega arith, omega arith)
-
-pub overflow_add-sum : goal.overflow_add-sum
-overflow_add-sum c = omega arith
-
-pub loop-i-smaller : goal.loop-i-smaller
-loop-i-smaller c = omega arith
-
-pub loop-i-preserved : goal.loop-i-preserved
-loop-i-preserved c = let p = c.args.p in
-    (omega arith, omega arith, omega (arith, sum-widths_step p.bus_count p.buses c.loop-i.i (omega arith) (omega (arith, len (goal.at.loop-i-preserved c).Start))))
+pub sum-requires-clause-fits : goal.sum-requires-clause-fits
+sum-requires-clause-fits c =
+    let bs = buses_of c.args.p.now in
+    let few : length bs ≤ 8 = search rules in
+    fits_from_length _ _ 8 (2 ^ 64) (at_most_from_yields_List (YieldsList-from_slice bs cc) few) c.map.ensures.closure (omega arith) (λ x r q k. search rules)
 
 pub returns : goal.returns
-unfolding sum
-returns c = let p = c.args.p in
-    let e : sum (widths_of (drop c.loop-i.i (take p.bus_count p.buses))) ≡ 0 = rw (front-none p.bus_count p.buses c.loop-i.i c.loop-i-test.false) in
-    omega arith
+returns c =
+    let bs = buses_of c.args.p.now in
+    sum_by_from_yields_List (λ (b : Bus). b.width.0) bs c.map.result _ c.sum.ensures.ran (YieldsList-from_map _ (λ (b : Bus). b.width.0) (YieldsList-from_slice bs cc) c.map.ensures.closure (λ x r q k. search (rules, tests))) ∙ widths-sum bs

@@ -3,12 +3,6 @@
 use Rattle.plan_search.proofs.SoughtLaws.{found-exact, sought_less, sought-same}
 use Rattle.plan_search.proofs.groups.on_widths.Goals as goal
 
-pub least_on-r-requires : goal.least_on-r-requires
-least_on-r-requires c = (c.requires.0, c.requires.1, c.requires.2)
-
-pub keep_widths-requires : goal.keep_widths-requires
-keep_widths-requires c = (c.requires.1.few, c.requires.3.places)
-
 pub returns-then-r-best : goal.returns-then-r-best
 returns-then-r-best c = let k = c.keep_widths in
     sought_less c.requires.3 (found-exact c.least_on-r.ensures) k.new.found c.if-r-best.true k.ensures

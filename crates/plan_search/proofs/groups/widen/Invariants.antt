@@ -1,12 +1,7 @@
 -- `groups::widen` meets its contract. The loop's invariant: the widths before j stand, and those from j on are the widest for what is left
 -- (`Widened`). Assumes nothing.
-use Prim.Native.Nat.{◌-◌}
-use lib.ListN.{length}
 use Rattle.plan_search.proofs.GroupLaws.{Widened}
 use Rattle.plan_search.proofs.groups.widen.Given as goal
 
 abbrev pub invariant-loop-j : goal.invariant-loop-j
 invariant-loop-j l = Widened l.initial.widths l.low.0 l.initial.left l.initial.j l.widths l.left l.j
-
-abbrev pub decreases-loop-j : goal.decreases-loop-j
-decreases-loop-j l = length l.initial.widths - l.j

@@ -11,6 +11,3 @@ decreases-least l = length l.rest.now - l.i
 
 abbrev pub invariant-loop-b : goal.invariant-loop-b
 invariant-loop-b l = Left l.table l.widths l.rest l.i l.initial.r.0 l.initial.loads l.loads l.r.0 l.b
-
-abbrev pub decreases-loop-b : goal.decreases-loop-b
-decreases-loop-b l = length l.widths - l.b

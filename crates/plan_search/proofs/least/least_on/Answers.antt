@@ -3,8 +3,8 @@ use native.Mathlib.Omega.{arith}
 use Prim.Native.Nat.{◌+◌, ◌-◌, ◌≤◌, ◌<◌}
 use mathlib.Core.Path.{◌≡◌, ◌∙◌}
 use mathlib.Core.List.{◌++◌}
-use lib.ListN.{length, take, drop, replicate, length-take}
-use lib.Seq.{length_front, take_at}
+use lib.ListN.{length, take, drop, replicate}
+use lib.Seq.{take_at}
 use Rattle.plan_search.specs.Search.{search_buses, search_modules}
 use Rattle.plan_search.specs.Least.{Board}
 use Rattle.plan_search.proofs.WidthLaws.{last-is}
@@ -17,9 +17,6 @@ use Rattle.plan_search.proofs.least.least_on.Goals.{After-sum_rest}
 rest-length : (c : After-sum_rest) → length c.sum_rest.new.rest ≡ c.args.n + 1
 rest-length c = c.sum_rest.auto.rest ∙ lent_length (c.args.n + 1) (search_modules + 1) (omega (arith, c.requires.0.few))
 
-whole : (c : After-sum_rest) → length (c.sum_rest.new.rest ++ drop (c.args.n + 1) (replicate (search_modules + 1) 0)) ≡ search_modules + 1
-whole c = length_front (replicate (search_modules + 1) 0) c.sum_rest.new.rest (c.args.n + 1) c.sum_rest.auto.rest
-
 rest_is : (c : After-sum_rest)
     → take (c.args.n + 1) (c.sum_rest.new.rest ++ drop (c.args.n + 1) (replicate (search_modules + 1) 0)) ≡ c.sum_rest.new.rest
 rest_is c = take_at c.sum_rest.new.rest (drop (c.args.n + 1) (replicate (search_modules + 1) 0)) (c.args.n + 1) (rest-length c)
@@ -29,45 +26,12 @@ board c = let m : c.args.n + 1 - 1 ≡ c.args.n = omega arith in
     let one : 1 ≤ c.args.n + 1 = omega arith in
     record { table = rw (rest-length c, m) c.requires.0; some = rw (rest-length c) one; widths = c.requires.1; rest_is = c.sum_rest.ensures }
 
-pub overflow_sub-c : goal.overflow_sub-c
-overflow_sub-c c = omega (arith, c.requires.1.some)
-
-pub offset_bounds-widths-c : goal.offset_bounds-widths-c
-offset_bounds-widths-c c = omega (arith, c.requires.1.few)
-
-pub bounds-widths-c : goal.bounds-widths-c
-bounds-widths-c c = omega (arith, c.requires.1.some)
-
-pub overflow_add-rest : goal.overflow_add-rest
-overflow_add-rest c = omega (arith, c.requires.0.few)
-
-pub slice_bounds-rest-end : goal.slice_bounds-rest-end
-slice_bounds-rest-end c = omega (arith, c.requires.0.few)
-
-pub slice_bounds-sum_rest-end : goal.slice_bounds-sum_rest-end
-slice_bounds-sum_rest-end c = simp length-take (omega (arith, c.requires.0.few))
-
 pub sum_rest-requires : goal.sum_rest-requires
 sum_rest-requires c = let e = lent_length (c.args.n + 1) (search_modules + 1) (omega (arith, c.requires.0.few)) in
     let m : c.args.n + 1 - 1 ≡ c.args.n = omega arith in
     let one : 1 ≤ c.args.n + 1 = omega arith in
     let l = last-is c.requires.1 in
     (rw (e, m) c.requires.0, rw e one, l.0, l.1)
-
-pub overflow_add-rest-2 : goal.overflow_add-rest-2
-overflow_add-rest-2 c = omega (arith, c.requires.0.few)
-
-pub slice_bounds-rest-end-2 : goal.slice_bounds-rest-end-2
-slice_bounds-rest-end-2 c = omega (arith, c.requires.0.few, whole (goal.at.slice_bounds-rest-end-2 c).After-sum_rest)
-
-pub slice_bounds-least-end : goal.slice_bounds-least-end
-slice_bounds-least-end c = simp length-take (omega (arith, c.requires.0.few, whole (goal.at.slice_bounds-least-end c).After-sum_rest))
-
-pub slice_bounds-loads-end : goal.slice_bounds-loads-end
-slice_bounds-loads-end c = omega (arith, c.requires.1.few)
-
-pub slice_bounds-least-end-2 : goal.slice_bounds-least-end-2
-slice_bounds-least-end-2 c = simp length-take (omega (arith, c.requires.1.few))
 
 pub least-requires : goal.least-requires
 least-requires c = let e = rest-length (goal.at.least-requires c).After-sum_rest in

@@ -5,6 +5,3 @@ use Rattle.plan_search.proofs.least.sum_rest.Given as goal
 
 abbrev pub invariant-loop-i : goal.invariant-loop-i
 invariant-loop-i l = Summed (λ j. table_time l.table j l.w.0) l.n l.rest l.i
-
-abbrev pub decreases-loop-i : goal.decreases-loop-i
-decreases-loop-i l = l.i

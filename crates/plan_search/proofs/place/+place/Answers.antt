@@ -4,7 +4,7 @@ use Prim.Native.Nat.{ℕ, ◌+◌, ◌-◌, ◌≤◌, ◌<◌}
 use mathlib.Core.Path.{◌≡◌, ap, ◌∙◌}
 use lib.ListN.{length, get_or, set, length-set}
 use Rattle.plan_search.specs.Search.{search_modules, time_bound}
-use Rattle.plan_search.proofs.PlaceLaws.{length_loads, load_most, time_in_lem, placed-all, left-start, left_end, ready_next, left-tried, left_dropped}
+use Rattle.plan_search.proofs.PlaceLaws.{length_loads, load_most, placed-all, left-start, left_end, ready_next, left-tried, left_dropped}
 use Rattle.plan_search.proofs.place.+place.Goals as goal
 use Rattle.plan_search.proofs.place.+place.Goals.{In-loop-b, then-next-best, else-next-best}
 
@@ -24,9 +24,6 @@ loop-b-init t c = left-start c.requires (omega (arith, c.requires.at, c.if-i-bus
 
 pub bounds-loads-b : goal.bounds-loads-b
 bounds-loads-b t c = in-range t (goal.at.bounds-loads-b t c).In-loop-b
-
-pub time_at-t-requires : goal.time_at-t-requires
-time_at-t-requires t c = time_in_lem c.requires c.loop-b.b (less t (goal.at.time_at-t-requires t c).In-loop-b) c.loop-b-test.true
 
 pub overflow_add-load : goal.overflow_add-load
 overflow_add-load t c =

@@ -11,6 +11,3 @@ decreases-place l = length l.buses.now - l.i
 
 abbrev pub invariant-loop-b : goal.invariant-loop-b
 invariant-loop-b l = Left l.table l.widths l.i l.initial.loads l.initial.buses l.initial.best l.loads l.buses l.best l.b
-
-abbrev pub decreases-loop-b : goal.decreases-loop-b
-decreases-loop-b l = length l.widths - l.b

@@ -1,27 +1,11 @@
 -- `thumb_on` meets its contract: what its invariant (Invariants.antt) leaves to show. Assumes nothing.
 use native.Mathlib.Omega.{arith}
-use Prim.Native.Nat.{◌+◌}
-use lib.ListN.{get_or, length-take}
-use Rattle.plan_search.proofs.ThumbLaws.{table-fewer, bus-time, thumbed_none, thumbed_most, thumbed_more, thumbed_all}
+use lib.ListN.{get_or}
+use Rattle.plan_search.proofs.ThumbLaws.{thumbed_none, thumbed_most, thumbed_more, thumbed_all}
 use Rattle.plan_search.proofs.thumb.thumb_on.Goals as goal
 
 pub loop-i-init : goal.loop-i-init
 loop-i-init c = thumbed_none c.args.table.now c.args.widths.now c.args.n c.requires.1
-
-pub slice_bounds-loads-end : goal.slice_bounds-loads-end
-slice_bounds-loads-end c = omega (arith, c.loop-i.invariant.room, c.requires.1.few)
-
-pub slice_bounds-earliest-end : goal.slice_bounds-earliest-end
-slice_bounds-earliest-end c = simp length-take (omega (arith, c.loop-i.invariant.room, c.requires.1.few))
-
-pub earliest-b-requires : goal.earliest-b-requires
-earliest-b-requires c = let o = table-fewer c.args.table.now c.args.n (c.loop-i.i + 1) c.requires.0 (omega (arith, c.loop-i-test.true)) in
-    (o, c.requires.1, c.loop-i.invariant.partly)
-
-pub time_at-t-requires : goal.time_at-t-requires
-time_at-t-requires c = let a = c.args in
-    bus-time a.table.now a.widths.now c.loop-i.i c.earliest-b.result a.n
-    c.requires.0 c.requires.1 c.loop-i-test.true c.earliest-b.ensures
 
 pub overflow_add-load : goal.overflow_add-load
 overflow_add-load c = let l = c.loop-i in
@@ -29,7 +13,7 @@ overflow_add-load c = let l = c.loop-i in
     let b = c.earliest-b.result in
     let most = thumbed_most a.table.now a.widths.now a.n l.i l.loads l.top.0 l.invariant c.requires.0.times b in
     let time = c.requires.0.times l.i (get_or a.widths.now b 0) in
-    omega (arith, most c.earliest-b.ensures, c.time_at-t.ensures, time, c.loop-i-test.true, c.requires.0.few)
+    omega (arith, most c.earliest-b.ensures, c.time_at-t.ensures, time, c.requires.0.few)
 
 pub loop-i-preserved : goal.loop-i-preserved
 loop-i-preserved c = let l = c.loop-i in

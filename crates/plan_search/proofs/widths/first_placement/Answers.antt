@@ -2,7 +2,7 @@
 use native.Mathlib.Omega.{arith}
 use Prim.Native.Nat.{ℕ, ◌-◌}
 use mathlib.Core.Path.{◌≡◌, sym}
-use lib.ListN.{length, take, replicate, length-take}
+use lib.ListN.{length, take, replicate}
 use Rattle.plan_rules.specs.Listed.{placements}
 use Rattle.plan_search.specs.Search.{search_buses, search_modules, time_on}
 use Rattle.plan_search.proofs.SearchLaws.{keep-none}
@@ -15,21 +15,6 @@ pub returns-then-best-eq0 : goal.returns-then-best-eq0
 returns-then-best-eq0 c = let a = c.args in
     sym (keep-none (time_on a.table.now a.widths.now) a.best.now (placements (length a.best.now - 1) (length a.widths.now))
     (λ x m. omega (arith, c.if-best-eq0.true)))
-
-pub slice_bounds-loads-end : goal.slice_bounds-loads-end
-slice_bounds-loads-end c = omega (arith, c.requires.1.few)
-
-pub slice_bounds-place-end : goal.slice_bounds-place-end
-slice_bounds-place-end c = simp length-take (omega (arith, c.requires.1.few))
-
-pub slice_bounds-buses-count : goal.slice_bounds-buses-count
-slice_bounds-buses-count c = omega (arith, c.requires.2)
-
-pub slice_bounds-buses-end : goal.slice_bounds-buses-end
-slice_bounds-buses-end c = omega (arith, c.requires.0.few)
-
-pub slice_bounds-place-length : goal.slice_bounds-place-length
-slice_bounds-place-length c = simp length-take (omega (arith, c.requires.0.few))
 
 pub place-requires : goal.place-requires
 place-requires c = let a = c.args in

@@ -5,14 +5,14 @@ use native.Mathlib.Numerals.{add-one}
 use Prim.Native.Nat.{suc, ◌+◌, ◌-◌, ◌*◌, ◌≤◌}
 use mathlib.Core.Path.{◌≡◌, ◌∙◌}
 use mathlib.Core.List.{◌∷◌, ◌++◌}
-use lib.ListN.{length, get_or, take, drop, replicate, length-take}
-use lib.Seq.{length-take-le, length_front, take_at, get_or-take}
+use lib.ListN.{length, get_or, take, drop, replicate}
+use lib.Seq.{length-take-le, take_at, get_or-take}
 use Rattle.plan_rules.specs.Plans.{time_of}
 use Rattle.plan_rules.specs.Listed.{best_plan}
 use Rattle.plan_rules.specs.Least.{Stands}
 use Rattle.plan_search.specs.Search.{search_modules, time_bound, table_time}
 use Rattle.plan_search.specs.Lists.{kept}
-use Rattle.plan_search.proofs.FoundLaws.{best-widths, found-widths, found-count, found-buses, found-most, found-is}
+use Rattle.plan_search.proofs.FoundLaws.{best-widths, found-widths, found-buses, found-most, found-is}
 use Rattle.plan_search.proofs.widths.search.Goals as goal
 use Rattle.plan_search.proofs.widths.search.Goals.{After-first_placement, After-least_list-time}
 
@@ -35,22 +35,13 @@ part-is c = let a = c.args in
 room : (c : After-least_list-time) → length (take (c.args.n + 1) ((c.least_list-time.result.0 + 1) ∷ replicate search_modules 0)) ≡ c.args.n + 1
 room c = length-take-le (c.args.n + 1) ((c.least_list-time.result.0 + 1) ∷ replicate search_modules 0) (omega (arith, c.requires.0.few))
 
-whole : (c : After-first_placement) → length (c.first_placement.new.best ++ drop (c.args.n + 1) ((c.least_list-time.result.0 + 1) ∷ replicate search_modules 0)) ≡ search_modules + 1
-whole c = length_front ((c.least_list-time.result.0 + 1) ∷ replicate search_modules 0) c.first_placement.new.best (c.args.n + 1) c.first_placement.auto.best
-
 -- what was found stands at the front of its buffer
 best_is : (c : After-first_placement) → take (c.args.n + 1) (c.first_placement.new.best ++ drop (c.args.n + 1) ((c.least_list-time.result.0 + 1) ∷ replicate search_modules 0)) ≡ c.first_placement.new.best
 best_is c = take_at c.first_placement.new.best (drop (c.args.n + 1) ((c.least_list-time.result.0 + 1) ∷ replicate search_modules 0)) (c.args.n + 1)
     (c.first_placement.auto.best ∙ room (goal.at.After-first_placement c).After-least_list-time)
 
-pub least_list-time-requires : goal.least_list-time-requires
-least_list-time-requires c = (c.requires.0, c.requires.1, c.requires.2, c.requires.3, c.requires.4, record { places = omega arith; count = omega arith })
-
 pub overflow_add-best : goal.overflow_add-best
 overflow_add-best c = omega (arith, most (goal.at.overflow_add-best c).After-least_list-time)
-
-pub slice_bounds-first_placement-end-2 : goal.slice_bounds-first_placement-end-2
-slice_bounds-first_placement-end-2 c = simp length-take (omega (arith, c.requires.0.few))
 
 pub first_placement-requires : goal.first_placement-requires
 first_placement-requires c = let e = room (goal.at.first_placement-requires c).After-least_list-time in
@@ -60,24 +51,6 @@ first_placement-requires c = let e = room (goal.at.first_placement-requires c).A
       rw (part-is (goal.at.first_placement-requires c).After-least_list-time) (best-widths c.args.table.now c.args.wires.0 c.args.limit c.args.n c.requires.1 c.requires.3 c.requires.2 c.requires.4),
       rw e one,
     )
-
-pub slice_bounds-best-end-2 : goal.slice_bounds-best-end-2
-slice_bounds-best-end-2 c = omega (arith, c.requires.0.few, whole (goal.at.slice_bounds-best-end-2 c).After-first_placement)
-
-pub slice_bounds-found_in-end : goal.slice_bounds-found_in-end
-slice_bounds-found_in-end c = simp length-take (omega (arith, c.requires.0.few, whole (goal.at.slice_bounds-found_in-end c).After-first_placement))
-
-pub found_in-requires : goal.found_in-requires
-found_in-requires c = let p = best-widths c.args.table.now c.args.wires.0 c.args.limit c.args.n c.requires.1 c.requires.3 c.requires.2 c.requires.4 in
-    let e = c.first_placement.auto.best ∙ room (goal.at.found_in-requires c).After-least_list-time in
-    let f = found-count c.args.table.now c.args.wires.0 c.args.limit c.args.n c.requires.1 c.requires.3 c.least_list-time.result.0 c.least_list-time.new.found (stands (goal.at.found_in-requires c).After-least_list-time) c.least_list-time.ensures.found_in_bounds in
-    record {
-      time = rw (best_is (goal.at.found_in-requires c).After-first_placement) (omega (arith, e));
-      modules = rw (best_is (goal.at.found_in-requires c).After-first_placement) (omega (arith, e, c.requires.0.few));
-      counted = omega (arith, c.least_list-time.auto.found);
-      few = omega (arith, f, p.few);
-      count = c.least_list-time.ensures.found_in_bounds;
-    }
 
 pub returns : goal.returns
 returns c = let a = c.args in

@@ -1,9 +1,6 @@
 -- `soc::planned::planned_modules` meets its contract. The loop's invariant: the numbers found are those of the planned modules among the
--- first i. The measure is what is left of the array. Assumes nothing.
-use Prim.Native.Nat.{ℕ, ◌-◌, ◌≤◌}
-use mathlib.Core.Path.{◌≡◌}
-use mathlib.Core.List.{List}
-use lib.ListN.{length, take}
+-- first i. Assumes nothing.
+use Rattle.std.proofs.Common.{◌≡◌, ◌≤◌, ℕ, List, length, take}
 use Rattle.soc.specs.Limits.{modules_max}
 use Rattle.units.specs.Places.{padded}
 use Rattle.soc.specs.Planned.{planned_from}
@@ -18,7 +15,4 @@ abbrev pub Holds : List ℕ → ℕ → List ℕ → Type 0
 Holds xs k ns = (k ≡ length ns) × (xs ≡ padded modules_max 0 ns)
 
 abbrev pub invariant-loop-i : goal.invariant-loop-i
-invariant-loop-i l = (l.i ≤ 40) × (l.i ≤ l.n) × (l.count ≤ l.i) × Holds l.numbers l.count (found l.s.modules l.i)
-
-abbrev pub decreases-loop-i : goal.decreases-loop-i
-decreases-loop-i l = 40 - l.i
+invariant-loop-i l = (l.count ≤ l.i) × Holds l.numbers l.count (found l.fn.s.modules l.i)

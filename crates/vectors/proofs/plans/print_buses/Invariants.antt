@@ -1,9 +1,0 @@
--- `vectors::plans::print_buses`: the measure is the buses of the record that are left.
-use Rattle.std.proofs.Common.{◌≤◌, ◌-◌}
-use Rattle.vectors.proofs.plans.print_buses.Given as goal
-
-abbrev pub invariant-loop-i : goal.invariant-loop-i
-invariant-loop-i l = l.i ≤ 8
-
-abbrev pub decreases-loop-i : goal.decreases-loop-i
-decreases-loop-i l = 8 - l.i

@@ -1,9 +1,0 @@
--- `vectors::records::print_tests`: the measure is the tests that are left.
-use Rattle.std.proofs.Common.{◌≤◌, ◌-◌}
-use Rattle.vectors.proofs.records.print_tests.Given as goal
-
-abbrev pub invariant-loop-i : goal.invariant-loop-i
-invariant-loop-i l = l.i ≤ 8
-
-abbrev pub decreases-loop-i : goal.decreases-loop-i
-decreases-loop-i l = 8 - l.i
