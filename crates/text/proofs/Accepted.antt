@@ -10,6 +10,9 @@ use borrow.Author.Tests.{leb-true, le-leb}
 use lib.Dec.{leb}
 use lib.IntN.{ℤ}
 use lib.ListN.{length, get_or, take, drop, replicate}
+use Rattle.std.specs.Prelude.{Result, Ok, Err}
+use Rattle.units.specs.declared.Fault.{Fault}
+use Rattle.text_reader.specs.declared.block.Body.{Body}
 use Rattle.fields.specs.Bytes.{bytes}
 use Rattle.fields.specs.Lines.{Line}
 use Rattle.fields.specs.Names.{name_max, name_bytes}
@@ -25,8 +28,13 @@ use Rattle.soc.specs.declared.record.Test.{Test}
 use Rattle.soc.specs.declared.record.Module.{Module}
 use Rattle.soc.specs.declared.record.Soc.{Soc}
 use Rattle.units.proofs.PlaceLaws.{all_replicate, padded-length, padded-take, padded-drop}
-use Rattle.text_lines.specs.Parts.{Whole, refuses, says, whole}
-use Rattle.text_lines.specs.Kinds.{Name, Options, Shape, Second, name_line, total_line, options_line, level_line, second_line, tests_line, test_line}
+use Rattle.text_lines.specs.Parts.{whole}
+use Rattle.text_lines.specs.Kinds.{name_line, total_line, options_line, level_line, second_line, tests_line, test_line}
+use Rattle.text_lines.specs.declared.head.Name.{Name}
+use Rattle.text_lines.specs.declared.head.Options.{Options}
+use Rattle.text_lines.specs.declared.level.Shape.{Shape}
+use Rattle.text_lines.specs.declared.second.SecondLine.{SecondLine}
+use Rattle.text_lines.specs.declared.second.SecondLine.TheVariants.{Position, Tests}
 use Rattle.text_lines.specs.LineFields.{given_field, module_fields, name_fields, total_fields, options_fields, level_fields, position_fields, tests_fields}
 use Rattle.text.proofs.LineBack.{position-says}
 use Rattle.text.proofs.PartOnly.{after_only}
@@ -36,7 +44,7 @@ use Rattle.text.proofs.SecondOnly.{second_only_position, second_only_tests, test
 use Rattle.text.proofs.TestOnly.{test_only}
 use Rattle.text.proofs.SparePlaces.{good-spare}
 use Rattle.text_reader.specs.Lines.{judged, line, no_more}
-use Rattle.text_reader.specs.Reading.{Body, behind, body, module_of, module_tests, module_rest, module_lines, modules, soc_of, behind_name, soc}
+use Rattle.text_reader.specs.Reading.{behind, body, module_of, module_tests, module_rest, module_lines, modules, soc_of, behind_name, soc}
 use Rattle.text_reader.specs.Reading as reading
 use Rattle.text.specs.Describes.{Sayable, TestLines, ModuleLines, ModulesLines, Describes, fields_in}
 
@@ -49,12 +57,12 @@ got_only h = (cc, cc)
 pub record LineRead {A : Type 0} (p : Reader A) (ls : List Line) (v : A) (rest : List Line) : Type 0 where
   pub first : Line
   pub lines : ls ≡ first ∷ rest
-  pub says : whole p first.fields ≡ says v
+  pub says : whole p first.fields ≡ Ok v
 
-judged_only : {A : Type 0} (n : ℕ) (ls : List Line) (w : Whole A) (v : A) (rest : List Line) → judged n ls w ≡ got v rest → (w ≡ says v) × (ls ≡ rest)
+judged_only : {A : Type 0} (n : ℕ) (ls : List Line) (w : Result A Fault) (v : A) (rest : List Line) → judged n ls w ≡ got v rest → (w ≡ Ok v) × (ls ≡ rest)
 unfolding judged
-judged_only n ls (refuses c) v rest h = clash cc
-judged_only n ls (says a) v rest h = (cc, cc)
+judged_only n ls (Err c) v rest h = clash cc
+judged_only n ls (Ok a) v rest h = (cc, cc)
 
 pub line_only : {A : Type 0} (p : Reader A) (ls : List Line) (v : A) (rest : List Line) → line p ls ≡ got v rest → LineRead p ls v rest
 unfolding line
@@ -109,14 +117,14 @@ pub record BodyRead (m : ℕ) (xy : Bool) (ls : List Line) (b : Body) (rest : Li
   pub good : good_position xy b.x b.y ≡ true
   pub most : b.tests ≤ tests_max
 
-behind-read : (m : ℕ) (xy : Bool) (s : Second) (l : Line) (ls : List Line) (b : Body) (rest : List Line) → whole (second_line m xy) l.fields ≡ says s → behind m s ls ≡ got b rest
+behind-read : (m : ℕ) (xy : Bool) (s : SecondLine) (l : Line) (ls : List Line) (b : Body) (rest : List Line) → whole (second_line m xy) l.fields ≡ Ok s → behind m s ls ≡ got b rest
     → BodyRead m xy (l ∷ ls) b rest
 unfolding behind good_position
-behind-read m xy (Second.tests t) l ls b rest w h =
+behind-read m xy (Tests t) l ls b rest w h =
     let s = second_only_tests m xy l.fields t w in
     let g = got_only h in
     rw (← g.0) (record { position = []; position_is = inr (refl, refl, refl); lines = ap₂ (λ f q. f ∷ map fields_in q) s.fields g.1; good = refl; most = s.most })
-behind-read m xy (Second.position px py) l ls b rest w h =
+behind-read m xy (Position px py) l ls b rest w h =
     let s = second_only_position m xy l.fields px py w in
     let y = position-says px py s.good in
     let a = after_only h in
@@ -292,7 +300,7 @@ module _ (name : Name) (n : ℕ) (o : Options) (ds : List Module) where
       let z : all_of none (drop name.len name.bytes) ≡ true = spare-good none name_max 0 name.len p.field name.bytes p.len p.bytes refl in
       (rw k p.fields, simp (l, k, p.named, z), ap length p.bytes ∙ padded-length name_max 0 p.field (leb-true (length p.field) name_max b.0))
 
-  soc_parts : (a b c : Line) (ls : List Line) → NameSays a.fields name → TotalSays b.fields n → whole options_line c.fields ≡ says o → ModulesRead o n 0 0 ls ds []
+  soc_parts : (a b c : Line) (ls : List Line) → NameSays a.fields name → TotalSays b.fields n → whole options_line c.fields ≡ Ok o → ModulesRead o n 0 0 ls ds []
       → Read (soc_of name n o ds) (a ∷ b ∷ c ∷ ls)
   unfolding good_soc total_fields options_fields
   soc_parts a b c ls p t w r =

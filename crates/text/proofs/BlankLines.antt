@@ -6,13 +6,14 @@ use mathlib.Core.Bool.{Bool, true, false, cond, ◌&&◌}
 use mathlib.Core.List.{List, [], ◌∷◌, ◌++◌, map}
 use lib.Dec.{eqb}
 use lib.ListN.{length}
+use Rattle.std.specs.Prelude.{None}
 use Rattle.fields.specs.Bytes.{lf, cr, lf_next, bad_byte}
 use Rattle.fields.specs.Fields.{fields_of}
 use Rattle.fields.specs.Lines.{on_line, lines_of, with_line, numbered}
-use Rattle.fields.specs.declared.byte.BadByte.TheVariants.{Nowhere}
 use Rattle.soc.specs.Limits.{text_max}
 use Rattle.text_reader.specs.Reading.{read_soc}
 use Rattle.text.specs.Describes.{fields_in, field_lines}
+use Rattle.text.specs.Numbers.{up_to_line}
 use Rattle.text.proofs.SameText.{first_of, others_of, same_but_lines}
 
 -- an LF ends a line
@@ -96,13 +97,12 @@ blank-behind a c b h =
 
 -- "Blank lines are skipped"
 module _ (c b : List ℕ) (h : field_lines (c ++ lf ∷ []) ≡ []) where
-  pub blank-lines-begin : length (c ++ lf ∷ b) ≤ text_max → length b ≤ text_max → bad_byte 1 (c ++ lf ∷ b) ≡ Nowhere → bad_byte 1 b ≡ Nowhere
-      → ((read_soc (c ++ lf ∷ b)).soc ≡ (read_soc b).soc) × ((read_soc (c ++ lf ∷ b)).refusal.number ≡ (read_soc b).refusal.number)
+  pub blank-lines-begin : length (c ++ lf ∷ b) ≤ text_max → length b ≤ text_max → bad_byte 1 (c ++ lf ∷ b) ≡ None → bad_byte 1 b ≡ None
+      → up_to_line (read_soc (c ++ lf ∷ b)) ≡ up_to_line (read_soc b)
   blank-lines-begin k l p q = same_but_lines (c ++ lf ∷ b) b k l p q (blank-begin c b h)
 
   pub blank-lines-behind : (a : List ℕ) → length (a ++ lf ∷ (c ++ lf ∷ b)) ≤ text_max → length (a ++ lf ∷ b) ≤ text_max
-      → bad_byte 1 (a ++ lf ∷ (c ++ lf ∷ b)) ≡ Nowhere
-      → bad_byte 1 (a ++ lf ∷ b) ≡ Nowhere
-      → ((read_soc (a ++ lf ∷ (c ++ lf ∷ b))).soc ≡ (read_soc (a ++ lf ∷ b)).soc)
-      × ((read_soc (a ++ lf ∷ (c ++ lf ∷ b))).refusal.number ≡ (read_soc (a ++ lf ∷ b)).refusal.number)
+      → bad_byte 1 (a ++ lf ∷ (c ++ lf ∷ b)) ≡ None
+      → bad_byte 1 (a ++ lf ∷ b) ≡ None
+      → up_to_line (read_soc (a ++ lf ∷ (c ++ lf ∷ b))) ≡ up_to_line (read_soc (a ++ lf ∷ b))
   blank-lines-behind a k l p q = same_but_lines (a ++ lf ∷ (c ++ lf ∷ b)) (a ++ lf ∷ b) k l p q (blank-behind a c b h)

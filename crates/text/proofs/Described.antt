@@ -8,6 +8,8 @@ use mathlib.Core.Logic.{inl, inr}
 use native.Mathlib.Omega.{arith}
 use lib.Seq.{length-take-le}
 use lib.ListN.{length}
+use Rattle.std.specs.Prelude.{Ok}
+use Rattle.text_reader.specs.declared.block.Body.{Body}
 use Rattle.fields.specs.Lines.{Line}
 use Rattle.fields.specs.Readers.{got, Reader, after, ◌>>=◌, ◌>>◌, give, each}
 use Rattle.fields.proofs.ReaderLaws.{after-got}
@@ -20,13 +22,16 @@ use Rattle.soc.specs.Sized.{SizedModule, Sized}
 use Rattle.soc.specs.declared.record.Test.{Test}
 use Rattle.soc.specs.declared.record.Module.{Module}
 use Rattle.soc.specs.declared.record.Soc.{Soc}
-use Rattle.text_lines.specs.Parts.{says, whole}
-use Rattle.text_lines.specs.Kinds.{Name, Options, Shape, Second}
+use Rattle.text_lines.specs.Parts.{whole}
+use Rattle.text_lines.specs.declared.head.Name.{Name}
+use Rattle.text_lines.specs.declared.head.Options.{Options}
+use Rattle.text_lines.specs.declared.level.Shape.{Shape}
+use Rattle.text_lines.specs.declared.second.SecondLine.TheVariants.{Position, Tests}
 use Rattle.text_lines.specs.Kinds as kinds
 use Rattle.text_lines.specs.LineFields.{name_fields, total_fields, options_fields, level_fields, position_fields, tests_fields}
 use Rattle.text.proofs.LineBack.{name_back, total_back, options_back, level_back, position_back, tests_back, second_back, test_back, test_back_out}
 use Rattle.text_reader.specs.Lines.{LinesReader, judged, line, no_more}
-use Rattle.text_reader.specs.Reading.{Body, behind, body, tests, module_of, module_tests, module_rest, module_lines, modules, soc_of, rest, behind_name, soc}
+use Rattle.text_reader.specs.Reading.{behind, body, tests, module_of, module_tests, module_rest, module_lines, modules, soc_of, rest, behind_name, soc}
 use Rattle.text.specs.Describes.{TestLine, TestLines, PositionPart, ModuleLines, ModulesLines, Describes, fields_in}
 use Rattle.text.proofs.SparePlaces.{GoodModule, good_module_lem, GoodSoc, good-soc, AllSized, sized-first, sized-rest, sized-modules, sized-front, modules-padded, tests-padded}
 
@@ -47,7 +52,7 @@ Ends p fs a = (ls : List Line) → map fields_in ls ≡ fs → p ls ≡ got a []
 pub give-passes : {A : Type 0} (a : A) → Passes (give a) [] a
 give-passes a ls gs e = record { left = ls; is = refl; fields = e }
 
-pub line-passes : {A : Type 0} (p : Reader A) (fs : List (List ℕ)) (a : A) → whole p fs ≡ says a → Passes (line p) (fs ∷ []) a
+pub line-passes : {A : Type 0} (p : Reader A) (fs : List (List ℕ)) (a : A) → whole p fs ≡ Ok a → Passes (line p) (fs ∷ []) a
 unfolding line judged
 line-passes p fs a h [] gs e = clash cc
 line-passes p fs a h (l ∷ ls) gs e =
@@ -73,7 +78,7 @@ made_passes p f fs a h ls gs e =
 
 -- a module's tests
 
-test-said : (power : Bool) (m i : ℕ) (t : Test) (fs : List (List ℕ)) → TestLine power m i t fs → good_test m power t ≡ true → whole (kinds.test_line m i power) fs ≡ says t
+test-said : (power : Bool) (m i : ℕ) (t : Test) (fs : List (List ℕ)) → TestLine power m i t fs → good_test m power t ≡ true → whole (kinds.test_line m i power) fs ≡ Ok t
 test-said power m i t fs (ps, (inl w), e) h = rw (e, w.2, w.0) (test_back m i true t (rw w.0 at h))
 test-said power m i t fs (ps, (inr w), e) h = rw (e, w.1) (test_back_out m i power t h w.0)
 
@@ -97,15 +102,15 @@ body-passes : (xy : Bool) (m : ℕ) (d : Module) (ps : List (List (List ℕ))) �
 unfolding body behind
 body-passes xy m d ps (inl w) h k =
     rw (w.3, w.0)
-    (then_passes (line (kinds.second_line m true)) (behind m) (position_fields m d ∷ []) (tests_fields m d ∷ []) (Second.position d.x d.y) (body_of d)
-    (line-passes (kinds.second_line m true) (position_fields m d) (Second.position d.x d.y) (position_back m d (rw w.0 at h)))
+    (then_passes (line (kinds.second_line m true)) (behind m) (position_fields m d ∷ []) (tests_fields m d ∷ []) (Position d.x d.y) (body_of d)
+    (line-passes (kinds.second_line m true) (position_fields m d) (Position d.x d.y) (position_back m d (rw w.0 at h)))
     (made_passes (line (kinds.tests_line m)) (λ t. record { x = d.x; y = d.y; tests = t }) (tests_fields m d ∷ []) d.test_count
     (line-passes (kinds.tests_line m) (tests_fields m d) d.test_count (tests_back m d k))))
 body-passes xy m d ps (inr w) h k =
     let e : record { x = not_given; y = not_given; tests = d.test_count } ≡ body_of d = λ i. record { x = sym w.0 i; y = sym w.1 i; tests = d.test_count } in
     rw (w.2, ← e)
-    (then_passes (line (kinds.second_line m xy)) (behind m) (tests_fields m d ∷ []) [] (Second.tests d.test_count) (record { x = not_given; y = not_given; tests = d.test_count })
-    (line-passes (kinds.second_line m xy) (tests_fields m d) (Second.tests d.test_count) (second_back m xy d k))
+    (then_passes (line (kinds.second_line m xy)) (behind m) (tests_fields m d ∷ []) [] (Tests d.test_count) (record { x = not_given; y = not_given; tests = d.test_count })
+    (line-passes (kinds.second_line m xy) (tests_fields m d) (Tests d.test_count) (second_back m xy d k))
     (give-passes (record { x = not_given; y = not_given; tests = d.test_count })))
 
 abbrev pub options_of : Bool → Bool → Options

@@ -5,13 +5,16 @@ use mathlib.Core.Path.{◌≡◌, sym, ap}
 use mathlib.Core.Bool.{true}
 use mathlib.Core.List.{List, [], ◌∷◌}
 use lib.ListN.{length}
+use Rattle.std.specs.Prelude.{Ok}
 use Rattle.fields.specs.Bytes.{bytes}
 use Rattle.fields.specs.Names.{name_max, is_name}
 use Rattle.fields.specs.WrittenLines.{decimal}
 use Rattle.soc.specs.Limits.{modules_max}
 use Rattle.units.specs.Places.{padded}
-use Rattle.text_lines.specs.Parts.{whole, says}
-use Rattle.text_lines.specs.Kinds.{Name, Options, name_part, name_line, total_line, options_part, options_line}
+use Rattle.text_lines.specs.Parts.{whole}
+use Rattle.text_lines.specs.Kinds.{name_part, name_line, total_line, options_part, options_line}
+use Rattle.text_lines.specs.declared.head.Name.{Name}
+use Rattle.text_lines.specs.declared.head.Options.{Options}
 use Rattle.text_lines.specs.LineFields.{flag_field}
 use Rattle.text.proofs.PartOnly.{closed_only, after_only, key_only, named_only, keyed_only, key-flag_only}
 
@@ -22,7 +25,7 @@ pub record NameSays (fs : List (List ℕ)) (n : Name) : Type 0 where
   pub len : n.len ≡ length field
   pub bytes : n.bytes ≡ padded name_max 0 field
 
-pub name_only : (fs : List (List ℕ)) (n : Name) → whole name_line fs ≡ says n → NameSays fs n
+pub name_only : (fs : List (List ℕ)) (n : Name) → whole name_line fs ≡ Ok n → NameSays fs n
 unfolding name_line name_part
 name_only fs n h =
     let k = key_only (bytes "SocName") name_part fs n [] (closed_only (name_line fs) n h) in
@@ -36,13 +39,13 @@ pub record TotalSays (fs : List (List ℕ)) (n : ℕ) : Type 0 where
   pub least : 1 ≤ n
   pub most : n ≤ modules_max
 
-pub total_only : (fs : List (List ℕ)) (n : ℕ) → whole total_line fs ≡ says n → TotalSays fs n
+pub total_only : (fs : List (List ℕ)) (n : ℕ) → whole total_line fs ≡ Ok n → TotalSays fs n
 unfolding total_line
 total_only fs n h =
     let k = keyed_only (bytes "TotalModules") fs [] 1 modules_max n (closed_only (total_line fs) n h) in
     record { fields = k.fields; least = k.least; most = k.most }
 
-pub options_only : (fs : List (List ℕ)) (o : Options) → whole options_line fs ≡ says o → fs ≡ bytes "Options" ∷ bytes "Power" ∷ flag_field o.power ∷ bytes "XY" ∷ flag_field o.xy ∷ []
+pub options_only : (fs : List (List ℕ)) (o : Options) → whole options_line fs ≡ Ok o → fs ≡ bytes "Options" ∷ bytes "Power" ∷ flag_field o.power ∷ bytes "XY" ∷ flag_field o.xy ∷ []
 unfolding options_line options_part
 options_only fs o h =
     let k = key_only (bytes "Options") options_part fs o [] (closed_only (options_line fs) o h) in

@@ -8,6 +8,7 @@ use native.Mathlib.Omega.{arith}
 use borrow.Author.Tests.{le-leb}
 use lib.Dec.{leb}
 use lib.ListN.{length}
+use Rattle.std.specs.Prelude.{Ok}
 use Rattle.units.specs.declared.FlipFlops.{FlipFlops}
 use Rattle.fields.specs.Bytes.{bytes}
 use Rattle.fields.specs.Readers.{got, each}
@@ -17,8 +18,10 @@ use Rattle.soc.specs.Limits.{level_max, terminals_max, chains_max, length_max}
 use Rattle.units.specs.Places.{padded, all_of}
 use Rattle.soc.specs.Record.{flip_flops}
 use Rattle.soc.specs.Rules.{good_length, level_rule}
-use Rattle.text_lines.specs.Parts.{whole, says}
-use Rattle.text_lines.specs.Kinds.{Terminals, Shape, level, terminals, chain_length, lengths_part, chains_part, level_line}
+use Rattle.text_lines.specs.Parts.{whole}
+use Rattle.text_lines.specs.Kinds.{level, terminals, chain_length, lengths_part, chains_part, level_line}
+use Rattle.text_lines.specs.declared.level.Terminals.{Terminals}
+use Rattle.text_lines.specs.declared.level.Shape.{Shape}
 use Rattle.text_lines.specs.LineFields.{length_field, module_fields}
 use Rattle.text.proofs.PartOnly.{closed_only, after_only, key_only, between_only, rule_only, keyed_only, key-due_only}
 
@@ -163,7 +166,7 @@ pub record ShapeSays (m last : ℕ) (fs : List (List ℕ)) (s : Shape) : Type 0 
   pub outputs : s.terminals.outputs ≤ terminals_max
   pub bidirs : s.terminals.bidirs ≤ terminals_max
 
-pub level_only : (m last : ℕ) (fs : List (List ℕ)) (s : Shape) → whole (level_line m last) fs ≡ says s → ShapeSays m last fs s
+pub level_only : (m last : ℕ) (fs : List (List ℕ)) (s : Shape) → whole (level_line m last) fs ≡ Ok s → ShapeSays m last fs s
 unfolding level_line
 level_only m last fs s h =
     let a = after_only (closed_only (level_line m last fs) s h) in

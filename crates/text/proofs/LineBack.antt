@@ -11,6 +11,7 @@ use lib.Dec.{leb}
 use lib.IntN.{ℤ, pos, negsuc}
 use lib.Seq.{length-take-le}
 use lib.ListN.{length, take, drop, replicate, length-take, length-drop, take-append-drop}
+use Rattle.std.specs.Prelude.{Ok}
 use Rattle.units.specs.declared.FlipFlops.{FlipFlops}
 use Rattle.fields.specs.Bytes.{bytes, same_bytes}
 use Rattle.fields.specs.Names.{name_max, is_name}
@@ -26,8 +27,9 @@ use Rattle.soc.specs.Rules.{none, is_not_given, up_to, good_length, spare_length
 use Rattle.soc.specs.declared.record.Test.{Test}
 use Rattle.soc.specs.declared.record.Module.{Module}
 use Rattle.soc.specs.declared.record.Soc.{Soc}
-use Rattle.text_lines.specs.Parts.{whole, closed, says, due, due_is, flag, given_is, or_not_given, name, rule, pins, is_next}
-use Rattle.text_lines.specs.Kinds.{Second, name_part, name_line, total_line, options_part, options_line, level, terminals, chain_length, lengths_part, chains_part, level_line, pair_rule, position_part, total_tests, tests_part, second_part, second_line, tests_line, power_part, uses, test_due, patterns_part, test_line}
+use Rattle.text_lines.specs.Parts.{whole, closed, due, due_is, flag, given_is, or_not_given, name, rule, pins, is_next}
+use Rattle.text_lines.specs.Kinds.{name_part, name_line, total_line, options_part, options_line, level, terminals, chain_length, lengths_part, chains_part, level_line, pair_rule, position_part, total_tests, tests_part, second_part, second_line, tests_line, power_part, uses, test_due, patterns_part, test_line}
+use Rattle.text_lines.specs.declared.second.SecondLine.TheVariants.{Position, Tests}
 use Rattle.text_lines.specs.LineFields.{flag_field, given_field, length_field, name_fields, total_fields, options_fields, level_fields, position_fields, tests_fields, power_fields, test_fields}
 use Rattle.text.specs.Describes.{Sayable}
 
@@ -137,7 +139,7 @@ spare-length f h = ap flip_flops (eqb-true f.0 0 h)
 
 -- the lines
 
-pub name_back : (s : Soc) → length s.name ≡ name_max → good_name s ≡ true → whole name_line (name_fields s) ≡ says (record { len = s.name_len; bytes = s.name })
+pub name_back : (s : Soc) → length s.name ≡ name_max → good_name s ≡ true → whole name_line (name_fields s) ≡ Ok (record { len = s.name_len; bytes = s.name })
 unfolding name_line name_part name_fields good_name after closed
 name_back s e h =
     let p = and_both (leb s.name_len name_max) (is_name (name_of s) && all_of none (drop s.name_len s.name)) h in
@@ -147,17 +149,17 @@ name_back s e h =
     let r : padded name_max 0 (name_of s) ≡ s.name = padded_back none 0 (λ x. eqb-true x 0) name_max s.name_len s.name e k q.1 in
     simp (word_back, named_back (name_of s) q.0, n, r)
 
-pub total_back : (s : Soc) → 1 ≤ s.module_count → s.module_count ≤ modules_max → whole total_line (total_fields s) ≡ says s.module_count
+pub total_back : (s : Soc) → 1 ≤ s.module_count → s.module_count ≤ modules_max → whole total_line (total_fields s) ≡ Ok s.module_count
 unfolding total_line total_fields after closed
 total_back s h k = simp (word_back, between_back 1 modules_max s.module_count h k)
 
-pub options_back : (s : Soc) → whole options_line (options_fields s) ≡ says (record { power = s.power; xy = s.xy })
+pub options_back : (s : Soc) → whole options_line (options_fields s) ≡ Ok (record { power = s.power; xy = s.xy })
 unfolding options_line options_part options_fields after closed
 options_back s = simp (word_back, flag_back)
 
 pub level_back : (m last : ℕ) (d : Module) → length d.chains ≡ chains_max → leb d.level level_max ≡ true → level_rule m last d.level ≡ true → good_terminals d ≡ true → good_chains d ≡ true
     → whole (level_line m last) (level_fields m d)
-    ≡ says (record {
+    ≡ Ok (record {
       level = d.level;
       terminals = record { inputs = d.inputs; outputs = d.outputs; bidirs = d.bidirs };
       chains = record { count = d.chain_count; lengths = d.chains };
@@ -185,13 +187,13 @@ level_back m last d e v l t h =
       r,
     )
 
-pub position_back : (m : ℕ) (d : Module) → good_position true d.x d.y ≡ true → whole (second_line m true) (position_fields m d) ≡ says (Second.position d.x d.y)
+pub position_back : (m : ℕ) (d : Module) → good_position true d.x d.y ≡ true → whole (second_line m true) (position_fields m d) ≡ Ok (Position d.x d.y)
 unfolding second_line second_part position_part is_next rule position_fields same_bytes after closed
 position_back m d h =
     let p = good-position d.x d.y h in
     simp (word_back, due_back, given_back position_max d.x p.0, given_back position_max d.y p.1, p.2)
 
-pub tests_back : (m : ℕ) (d : Module) → d.test_count ≤ tests_max → whole (tests_line m) (tests_fields m d) ≡ says d.test_count
+pub tests_back : (m : ℕ) (d : Module) → d.test_count ≤ tests_max → whole (tests_line m) (tests_fields m d) ≡ Ok d.test_count
 unfolding tests_line total_tests tests_fields after closed
 tests_back m d h = simp (word_back, due_back, up_to_back tests_max d.test_count (le-leb d.test_count tests_max h))
 
@@ -200,7 +202,7 @@ unfolding second_part is_next same_bytes
 second_tests false fs = refl
 second_tests true fs = refl
 
-pub second_back : (m : ℕ) (xy : Bool) (d : Module) → d.test_count ≤ tests_max → whole (second_line m xy) (tests_fields m d) ≡ says (Second.tests d.test_count)
+pub second_back : (m : ℕ) (xy : Bool) (d : Module) → d.test_count ≤ tests_max → whole (second_line m xy) (tests_fields m d) ≡ Ok (Tests d.test_count)
 unfolding second_line tests_part total_tests tests_fields after closed
 second_back m xy d h = simp (word_back, due_back, second_tests, up_to_back tests_max d.test_count (le-leb d.test_count tests_max h))
 
@@ -218,7 +220,7 @@ unfolding good_power
 power-says m t h = may_say power_max t.power (good-test m true t h).3
 
 -- what a test line's power field, or its end, says of it
-test-power : (m i : ℕ) (power : Bool) (t : Test) (ps : List (List ℕ)) → good_test m power t ≡ true → power_part power ps ≡ got t.power [] → whole (test_line m i power) (test_fields m i t ps) ≡ says t
+test-power : (m i : ℕ) (power : Bool) (t : Test) (ps : List (List ℕ)) → good_test m power t ≡ true → power_part power ps ≡ got t.power [] → whole (test_line m i power) (test_fields m i t ps) ≡ Ok t
 unfolding test_line test_due uses pins patterns_part test_fields after closed
 test-power m i power t ps h e =
     let g = good-test m power t h in
@@ -229,10 +231,10 @@ unfolding power_part
 power_out_lem false = refl
 power_out_lem true = refl
 
-pub test_back_out : (m i : ℕ) (power : Bool) (t : Test) → good_test m power t ≡ true → t.power ≡ not_given → whole (test_line m i power) (test_fields m i t []) ≡ says t
+pub test_back_out : (m i : ℕ) (power : Bool) (t : Test) → good_test m power t ≡ true → t.power ≡ not_given → whole (test_line m i power) (test_fields m i t []) ≡ Ok t
 test_back_out m i power t h e = test-power m i power t [] h (power_out_lem power ∙ ap (λ w. got w []) (sym e))
 
-pub test_back : (m i : ℕ) (power : Bool) (t : Test) → good_test m power t ≡ true → whole (test_line m i power) (test_fields m i t (cond power (power_fields t) [])) ≡ says t
+pub test_back : (m i : ℕ) (power : Bool) (t : Test) → good_test m power t ≡ true → whole (test_line m i power) (test_fields m i t (cond power (power_fields t) [])) ≡ Ok t
 unfolding power_part power_fields good_power after
 test_back m i false t h = test_back_out m i false t h (not_given_lem t.power (simp or-false at (good-test m false t h).3))
 test_back m i true t h =

@@ -1,7 +1,7 @@
 -- Laws of lines that are refused: every reader of a line refuses with a number from 3 to 5, or with 17. What it is for a reading to do so,
 -- that readings made of such readings do so too, then one law for each part of a line, and one for each kind of line. Assumes nothing.
 use Prim.Native.Nat.{ℕ, zero, suc, ◌≤◌}
-use mathlib.Core.Path.{◌≡◌, sym, ap}
+use mathlib.Core.Path.{◌≡◌, refl, ap, subst}
 use mathlib.Core.Bool.{Bool, true, false, cond, ◌&&◌}
 use mathlib.Core.List.{List, [], ◌∷◌}
 use mathlib.Core.Option.{Option, some, none}
@@ -9,6 +9,10 @@ use mathlib.Core.Logic.{◌⊎◌, inl, inr}
 use native.Mathlib.Omega.{arith}
 use lib.Dec.{eqb, leb}
 use lib.IntN.{pos}
+use Rattle.units.specs.declared.Fault.{Fault}
+use Rattle.units.specs.Refusals.{number_of}
+use Rattle.units.specs.declared.Fault.TheVariants.{WrongForm, WrongFigure, BrokenRule, PlannedPins}
+use Rattle.std.specs.Prelude.{Err}
 use Rattle.units.proofs.TestLaws.{clash}
 use Rattle.fields.specs.Bytes.{bytes, same_bytes}
 use Rattle.fields.specs.Names.{is_name}
@@ -17,8 +21,10 @@ use Rattle.fields.specs.Readers.{no, got, FieldsGot, Reader, ◌>>=◌, ◌>>◌
 use Rattle.soc.specs.Limits.{modules_max, level_max, terminals_max, chains_max, length_max, tests_max, patterns_max, position_max, power_max}
 use Rattle.soc.specs.Record.{not_given}
 use Rattle.soc.specs.Rules.{level_rule, pins_rule}
-use Rattle.text_lines.specs.Parts.{whole, closed, refuses, due, due_is, key_due, flag, key_flag, given_is, or_not_given, key_given, name, rule, pins, is_next}
-use Rattle.text_lines.specs.Kinds.{Terminals, Uses, name_part, name_line, total_line, options_part, options_line, module_due, level, terminals, chain_length, lengths_part, chains_part, level_line, pair_rule, position_part, total_tests, tests_part, second_part, second_line, tests_line, power_part, uses, test_due, patterns_part, test_line}
+use Rattle.text_lines.specs.Parts.{whole, closed, due, due_is, key_due, flag, key_flag, given_is, or_not_given, key_given, name, rule, pins, is_next}
+use Rattle.text_lines.specs.Kinds.{name_part, name_line, total_line, options_part, options_line, module_due, level, terminals, chain_length, lengths_part, chains_part, level_line, pair_rule, position_part, total_tests, tests_part, second_part, second_line, tests_line, power_part, uses, test_due, patterns_part, test_line}
+use Rattle.text_lines.specs.declared.level.Terminals.{Terminals}
+use Rattle.text_lines.specs.declared.test.Uses.{Uses}
 
 -- what the fields of a line are refused with
 abbrev pub LineNumber : ℕ → Type 0
@@ -26,17 +32,14 @@ LineNumber c = ((3 ≤ c) × (c ≤ 5)) ⊎ (c ≡ 17)
 
 -- a reading refuses only with such a number
 pub record Fair {A : Type 0} (g : FieldsGot A) : Type 0 where
-  pub fair : (c : ℕ) → g ≡ no c → LineNumber c
+  pub fair : (c : Fault) → g ≡ no c → LineNumber (number_of c)
 
 abbrev pub FairReader : {A : Type 0} → Reader A → Type 0
 FairReader p = (fs : List (List ℕ)) → Fair (p fs)
 
 module _ {A : Type 0} where
-  pub fair_no : (n : ℕ) → 3 ≤ n → n ≤ 5 → Fair {A = A} (no n)
-  fair_no n h k = record { fair = λ c e. let q : n ≡ c = cc in inl (omega arith, omega arith) }
-
-  fair_seventeen : Fair {A = A} (no 17)
-  fair_seventeen = record { fair = λ c e. let q : ◌≡◌ {A = ℕ} 17 c = cc in inr (sym q) }
+  pub fair_no : (f : Fault) → LineNumber (number_of f) → Fair {A = A} (no f)
+  fair_no f h = record { fair = λ c e. let q : f ≡ c = cc in subst (λ d. LineNumber (number_of d)) q h }
 
   pub fair_got : (a : A) (fs : List (List ℕ)) → Fair (got a fs)
   fair_got a fs = record { fair = λ c e. clash cc }
@@ -45,11 +48,11 @@ module _ {A : Type 0} where
   fair_if true p q = p
   fair_if false p q = q
 
-  pub fair_closed : (g : FieldsGot A) → Fair g → (c : ℕ) → closed g ≡ refuses c → LineNumber c
+  pub fair_closed : (g : FieldsGot A) → Fair g → (c : Fault) → closed g ≡ Err c → LineNumber (number_of c)
   unfolding closed
   fair_closed (no n) f c h = let q : n ≡ c = cc in f.fair c (ap no q)
   fair_closed (got a []) f c h = clash cc
-  fair_closed (got a (g ∷ gs)) f c h = let q : ◌≡◌ {A = ℕ} 3 c = cc in inl (omega arith, omega arith)
+  fair_closed (got a (g ∷ gs)) f c h = let q : WrongForm ≡ c = cc in subst (λ d. LineNumber (number_of d)) q (inl (omega arith, omega arith))
 
 pub fair_after : {A B : Type 0} {g : FieldsGot A} {k : A → Reader B} → Fair g → ((a : A) → FairReader (k a)) → Fair (after g k)
 unfolding after
@@ -69,14 +72,14 @@ fair_each (suc n) f i = fair_bind (f i) (λ x. fair_bind (fair_each n f (suc i))
 
 -- the parts of a line
 
-three : {A : Type 0} → Fair {A = A} (no 3)
-three = fair_no 3 (omega arith) (omega arith)
+three : {A : Type 0} → Fair {A = A} (no WrongForm)
+three = fair_no WrongForm (inl (omega arith, omega arith))
 
-four : {A : Type 0} → Fair {A = A} (no 4)
-four = fair_no 4 (omega arith) (omega arith)
+four : {A : Type 0} → Fair {A = A} (no WrongFigure)
+four = fair_no WrongFigure (inl (omega arith, omega arith))
 
-five : {A : Type 0} → Fair {A = A} (no 5)
-five = fair_no 5 (omega arith) (omega arith)
+five : {A : Type 0} → Fair {A = A} (no BrokenRule)
+five = fair_no BrokenRule (inl (omega arith, omega arith))
 
 pub fair_word : (w : List ℕ) → FairReader (bytes_due w)
 unfolding bytes_due
@@ -130,7 +133,7 @@ fair_rule true fs = fair_got tt fs
 
 fair_pins : (b : Bool) → FairReader (pins b)
 unfolding pins
-fair_pins false fs = fair_seventeen
+fair_pins false fs = fair_no PlannedPins (inr refl)
 fair_pins true fs = fair_got tt fs
 
 module _ (w : List ℕ) where
@@ -148,15 +151,15 @@ module _ (w : List ℕ) where
 
 -- the lines
 
-pub name-refuses : (fs : List (List ℕ)) (c : ℕ) → whole name_line fs ≡ refuses c → LineNumber c
+pub name-refuses : (fs : List (List ℕ)) (c : Fault) → whole name_line fs ≡ Err c → LineNumber (number_of c)
 unfolding name_line name_part
 name-refuses fs = fair_closed (name_line fs) (fair_then (fair_word (bytes "SocName")) (fair_bind fair_name (λ f. fair_got _)) fs)
 
-pub total-refuses : (fs : List (List ℕ)) (c : ℕ) → whole total_line fs ≡ refuses c → LineNumber c
+pub total-refuses : (fs : List (List ℕ)) (c : Fault) → whole total_line fs ≡ Err c → LineNumber (number_of c)
 unfolding total_line
 total-refuses fs = fair_closed (total_line fs) (fair_keyed (bytes "TotalModules") 1 modules_max fs)
 
-pub options_refuses : (fs : List (List ℕ)) (c : ℕ) → whole options_line fs ≡ refuses c → LineNumber c
+pub options_refuses : (fs : List (List ℕ)) (c : Fault) → whole options_line fs ≡ Err c → LineNumber (number_of c)
 unfolding options_line options_part
 options_refuses fs =
     fair_closed (options_line fs) (fair_then (fair_word (bytes "Options")) (fair_bind (fair_key_flag (bytes "Power")) (λ p. fair_bind (fair_key_flag (bytes "XY")) (λ x. fair_got _))) fs)
@@ -186,7 +189,7 @@ pub fair_chains : (v : ℕ) (t : Terminals) → FairReader (chains_part v t)
 unfolding chains_part
 fair_chains v t = fair_bind (fair_keyed (bytes "ScanChains") 0 chains_max) (λ s. fair_then (fair_word (bytes ":")) (fair_lengths s v t))
 
-pub level-refuses : (m last : ℕ) (fs : List (List ℕ)) (c : ℕ) → whole (level_line m last) fs ≡ refuses c → LineNumber c
+pub level-refuses : (m last : ℕ) (fs : List (List ℕ)) (c : Fault) → whole (level_line m last) fs ≡ Err c → LineNumber (number_of c)
 unfolding level_line
 level-refuses m last fs = fair_closed (level_line m last fs) (fair_bind (fair_level m last) (λ v. fair_bind fair_terminals (λ t. fair_chains v t)) fs)
 
@@ -209,11 +212,11 @@ unfolding second_part
 fair_second false fs = fair_tests fs
 fair_second true fs = fair_if (is_next (bytes "X") fs) (fair_position fs) (fair_tests fs)
 
-pub second_refuses : (m : ℕ) (xy : Bool) (fs : List (List ℕ)) (c : ℕ) → whole (second_line m xy) fs ≡ refuses c → LineNumber c
+pub second_refuses : (m : ℕ) (xy : Bool) (fs : List (List ℕ)) (c : Fault) → whole (second_line m xy) fs ≡ Err c → LineNumber (number_of c)
 unfolding second_line
 second_refuses m xy fs = fair_closed (second_line m xy fs) (fair_then (fair_module m) (fair_second xy) fs)
 
-pub tests-refuses : (m : ℕ) (fs : List (List ℕ)) (c : ℕ) → whole (tests_line m) fs ≡ refuses c → LineNumber c
+pub tests-refuses : (m : ℕ) (fs : List (List ℕ)) (c : Fault) → whole (tests_line m) fs ≡ Err c → LineNumber (number_of c)
 unfolding tests_line
 tests-refuses m fs = fair_closed (tests_line m fs) (fair_then (fair_module m) fair_total_tests fs)
 
@@ -237,7 +240,7 @@ fair_patterns : (power : Bool) (u : Uses) → FairReader (patterns_part power u)
 unfolding patterns_part
 fair_patterns power u = fair_bind (fair_keyed (bytes "Patterns") 1 patterns_max) (λ p. fair_bind (fair_power power) (λ w. fair_got _))
 
-pub test-refuses : (m i : ℕ) (power : Bool) (fs : List (List ℕ)) (c : ℕ) → whole (test_line m i power) fs ≡ refuses c → LineNumber c
+pub test-refuses : (m i : ℕ) (power : Bool) (fs : List (List ℕ)) (c : Fault) → whole (test_line m i power) fs ≡ Err c → LineNumber (number_of c)
 unfolding test_line
 test-refuses m i power fs =
     fair_closed (test_line m i power fs) (fair_then (fair_test_due m i) (fair_bind (fair_uses m) (λ u. fair_patterns power u)) fs)

@@ -6,6 +6,8 @@ use mathlib.Core.Bool.{true, false}
 use mathlib.Core.List.{List, [], ◌∷◌}
 use mathlib.Core.Logic.{inl, inr, ◌↔◌}
 use lib.ListN.{drop}
+use Rattle.std.specs.Prelude.{Result, Ok, Err}
+use Rattle.units.specs.declared.Fault.{Fault}
 use Rattle.units.proofs.TestLaws.{clash}
 use Rattle.fields.specs.Bytes.{bytes, same_bytes}
 use Rattle.fields.specs.Lines.{Line}
@@ -15,8 +17,10 @@ use Rattle.soc.specs.Limits.{power_max}
 use Rattle.soc.specs.Rules.{good_power}
 use Rattle.soc.specs.Record.{not_given}
 use Rattle.soc.specs.declared.record.Test.{Test}
-use Rattle.text_lines.specs.Parts.{Whole, refuses, says, whole, closed, key_due, or_not_given, rule, is_next}
-use Rattle.text_lines.specs.Kinds.{Second, second_part, second_line, position_part, tests_part, total_tests, tests_line, test_line}
+use Rattle.text_lines.specs.Parts.{whole, closed, key_due, or_not_given, rule, is_next}
+use Rattle.text_lines.specs.Kinds.{second_part, second_line, position_part, tests_part, total_tests, tests_line, test_line}
+use Rattle.text_lines.specs.declared.second.SecondLine.{SecondLine}
+use Rattle.text_lines.specs.declared.second.SecondLine.TheVariants.{Position, Tests}
 use Rattle.text_lines.specs.LineFields.{given_field, power_fields, test_fields}
 use Rattle.text_reader.specs.Lines.{judged, line}
 use Rattle.text_reader.specs.Reading.{behind, body}
@@ -26,14 +30,14 @@ use Rattle.text.proofs.LineBack.{may_be, word_back, due_back, given_back, good-t
 use Rattle.text.proofs.PartOnly.{key-due_only}
 use Rattle.text.proofs.TestOnly.{TestSays, test_only}
 
-position-says : (m : ℕ) → whole (second_line m true) (position_out m) ≡ says (Second.position not_given not_given)
+position-says : (m : ℕ) → whole (second_line m true) (position_out m) ≡ Ok (Position not_given not_given)
 unfolding second_line second_part position_part is_next rule or_not_given same_bytes after closed
 position-says m = simp (word_back, due_back)
 
 -- what the count of tests says as the line behind a module's first
-abbrev as_second : Whole ℕ → Whole Second
-as_second (refuses c) = refuses c
-as_second (says t) = says (Second.tests t)
+abbrev as_second : Result ℕ Fault → Result SecondLine Fault
+as_second (Err c) = Err c
+as_second (Ok t) = Ok (Tests t)
 
 -- where no `X` comes next, that line is the one behind a position
 second_tests : (m : ℕ) (fs : List (List ℕ)) → is_next (bytes "X") (drop 2 fs) ≡ false
@@ -41,7 +45,7 @@ second_tests : (m : ℕ) (fs : List (List ℕ)) → is_next (bytes "X") (drop 2 
 unfolding second_line tests_line second_part tests_part after closed
 second_tests m fs h = go (key_due (bytes "Module") m fs) refl
   where
-    counted : (g : FieldsGot ℕ) → closed (after g (λ t. got (Second.tests t))) ≡ as_second (closed g)
+    counted : (g : FieldsGot ℕ) → closed (after g (λ t. got (Tests t))) ≡ as_second (closed g)
     counted (no c) = refl
     counted (got t []) = refl
     counted (got t (f ∷ fs)) = refl
@@ -56,16 +60,16 @@ second_tests m fs h = go (key_due (bytes "Module") m fs) refl
         rw i (counted (total_tests gs))
 
 -- the count of tests, with no line before it for a position that is not given
-behind_out : (m : ℕ) (ls : List Line) → position_next ls ≡ false → behind m (Second.position not_given not_given) ls ≡ body m true ls
+behind_out : (m : ℕ) (ls : List Line) → position_next ls ≡ false → behind m (Position not_given not_given) ls ≡ body m true ls
 unfolding behind body line position_next after judged
 behind_out m [] h = refl
 behind_out m (l ∷ ls) h = rw (second_tests m l.fields h) (go (whole (tests_line m) l.fields))
   where
-    go : (w : Whole ℕ)
+    go : (w : Result ℕ Fault)
         → after (judged l.number ls w) (λ t. got (record { x = not_given; y = not_given; tests = t }))
         ≡ after (judged l.number ls (as_second w)) (behind m)
-    go (refuses c) = refl
-    go (says t) = refl
+    go (Err c) = refl
+    go (Ok t) = refl
 
 -- a line that gives X and Y as -1 is read as none, where the next line is not such a line too
 pub position-left_out : (m : ℕ) (l : Line) (ls : List Line) → l.fields ≡ position_out m → position_next ls ≡ false
@@ -106,8 +110,8 @@ module _ (m i : ℕ) (t u : Test) where
       go (inr (e, n)) k = e
 
   -- a test that gives Power as -1 is read as one that leaves it out
-  pub power-left_out : (whole (test_line m i true) (test_fields m i t power_out) ≡ says u)
-      ↔ (whole (test_line m i true) (test_fields m i t []) ≡ says u)
+  pub power-left_out : (whole (test_line m i true) (test_fields m i t power_out) ≡ Ok u)
+      ↔ (whole (test_line m i true) (test_fields m i t []) ≡ Ok u)
   unfolding power_fields given_field
   power-left_out = (
     λ h.

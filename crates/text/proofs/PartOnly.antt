@@ -9,6 +9,9 @@ use native.Mathlib.Omega.{arith}
 use borrow.Author.Tests.{eqb-true, leb-true}
 use lib.Dec.{eqb, leb}
 use lib.IntN.{ℤ, pos}
+use Rattle.units.specs.declared.Fault.{Fault}
+use Rattle.units.specs.declared.Fault.TheVariants.{WrongForm, WrongFigure, BrokenRule}
+use Rattle.std.specs.Prelude.{Ok}
 use Rattle.fields.specs.Bytes.{bytes, same_bytes}
 use Rattle.fields.specs.Names.{is_name}
 use Rattle.fields.specs.Numbers.{decimal_of}
@@ -17,12 +20,12 @@ use Rattle.fields.specs.WrittenLines.{decimal}
 use Rattle.fields.proofs.BackLaws.{same-bytes_eq, decimal_unique}
 use Rattle.units.proofs.TestLaws.{clash, and_both}
 use Rattle.soc.specs.Record.{not_given}
-use Rattle.text_lines.specs.Parts.{closed, says, due, due_is, key_due, flag, key_flag, given_is, or_not_given, key_given, name, rule}
+use Rattle.text_lines.specs.Parts.{closed, due, due_is, key_due, flag, key_flag, given_is, or_not_given, key_given, name, rule}
 use Rattle.text_lines.specs.LineFields.{flag_field, given_field}
 use Rattle.text.proofs.LineBack.{may_be}
 
 -- a line that says a: its reading leaves no field
-pub closed_only : {A : Type 0} (g : FieldsGot A) (a : A) → closed g ≡ says a → g ≡ got a []
+pub closed_only : {A : Type 0} (g : FieldsGot A) (a : A) → closed g ≡ Ok a → g ≡ got a []
 unfolding closed
 closed_only (no c) a h = clash cc
 closed_only (got b []) a h = cc
@@ -43,7 +46,7 @@ after_only {g = got a s} h = record { value = a; left = s; first = refl; second 
 -- the parts of a line
 
 -- a test that decides between a value and a refusal
-pub tested_only : {A : Type 0} (t : Bool) (c : ℕ) (v u : A) (fs gs : List (List ℕ)) → cond {A = FieldsGot A} t (got v fs) (no c) ≡ got u gs
+pub tested_only : {A : Type 0} (t : Bool) (c : Fault) (v u : A) (fs gs : List (List ℕ)) → cond {A = FieldsGot A} t (got v fs) (no c) ≡ got u gs
     → (t ≡ true) × (v ≡ u) × (fs ≡ gs)
 tested_only true c v u fs gs h = (refl, cc, cc)
 tested_only false c v u fs gs h = clash cc
@@ -52,7 +55,7 @@ pub word_only : (w : List ℕ) (fs gs : List (List ℕ)) (u : Unit {0}) → byte
 unfolding bytes_due
 word_only w [] gs u h = clash cc
 word_only w (f ∷ fs) gs u h =
-    let p = tested_only (same_bytes f w) 3 tt u fs gs h in
+    let p = tested_only (same_bytes f w) WrongForm tt u fs gs h in
     let q : f ≡ w = same-bytes_eq f w p.0 in
     cc
 
@@ -78,7 +81,7 @@ within_only : (low high : ℕ) (f : List ℕ) (fs : List (List ℕ)) (v : ℕ) (
 unfolding within
 within_only low high f fs v gs none e h = clash cc
 within_only low high f fs v gs (some n) e h =
-    let p = tested_only (leb low n && leb n high) 4 n v fs gs h in
+    let p = tested_only (leb low n && leb n high) WrongFigure n v fs gs h in
     let b = and_both (leb low n) (leb n high) p.0 in
     let d : f ≡ decimal n = decimal_unique f n e in
     record { fields = cc; least = omega (arith, leb-true low n b.0); most = omega (arith, leb-true n high b.1) }
@@ -92,7 +95,7 @@ due-is_only : (n : ℕ) (f : List ℕ) (fs : List (List ℕ)) (u : Unit {0}) (gs
 unfolding due_is
 due-is_only n f fs u gs none e h = clash cc
 due-is_only n f fs u gs (some v) e h =
-    let p = tested_only (eqb v n) 5 tt u fs gs h in
+    let p = tested_only (eqb v n) BrokenRule tt u fs gs h in
     let q : v ≡ n = eqb-true v n p.0 in
     let d : f ≡ decimal v = decimal_unique f v e in
     cc
@@ -108,14 +111,14 @@ flag_only [] b gs h = clash cc
 flag_only (f ∷ fs) b gs h = go (same_bytes f (bytes "0")) refl h
   where
     go : (t : Bool) → same_bytes f (bytes "0") ≡ t
-        → cond {A = FieldsGot Bool} t (got false fs) (cond (same_bytes f (bytes "1")) (got true fs) (no 3)) ≡ got b gs
+        → cond {A = FieldsGot Bool} t (got false fs) (cond (same_bytes f (bytes "1")) (got true fs) (no WrongForm)) ≡ got b gs
         → f ∷ fs ≡ flag_field b ∷ gs
     go true e h =
         let q : f ≡ flag_field false = same-bytes_eq f (bytes "0") e in
         let r : ◌≡◌ {A = FieldsGot Bool} (got false fs) (got b gs) = h in
         cc
     go false e h =
-        let p = tested_only (same_bytes f (bytes "1")) 3 true b fs gs h in
+        let p = tested_only (same_bytes f (bytes "1")) WrongForm true b fs gs h in
         let q : f ≡ flag_field true = same-bytes_eq f (bytes "1") p.0 in
         cc
 
@@ -128,7 +131,7 @@ given-is_only : (high : ℕ) (f : List ℕ) (fs : List (List ℕ)) (z : ℤ) (gs
 unfolding given_is given_field
 given-is_only high f fs z gs none e h = clash cc
 given-is_only high f fs z gs (some v) e h =
-    let p = tested_only (leb v high) 4 (pos v) z fs gs h in
+    let p = tested_only (leb v high) WrongFigure (pos v) z fs gs h in
     let d : f ≡ given_field (pos v) = decimal_unique f v e in
     record { fields = cc; may = ap (may_be high) (sym p.1) ∙ p.0 }
 
@@ -152,7 +155,7 @@ pub named_only : (fs : List (List ℕ)) (f : List ℕ) (gs : List (List ℕ)) �
 unfolding name
 named_only [] f gs h = clash cc
 named_only (g ∷ fs) f gs h =
-    let p = tested_only (is_name g) 3 g f fs gs h in
+    let p = tested_only (is_name g) WrongForm g f fs gs h in
     record { fields = cc; named = ap is_name (sym p.1) ∙ p.0 }
 
 pub rule_only : (b : Bool) (fs gs : List (List ℕ)) (u : Unit {0}) → rule b fs ≡ got u gs → (b ≡ true) × (fs ≡ gs)

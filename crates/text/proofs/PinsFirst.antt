@@ -4,11 +4,13 @@ use Prim.Native.Nat.{ℕ}
 use mathlib.Core.Path.{◌≡◌}
 use mathlib.Core.Bool.{Bool, true}
 use mathlib.Core.List.{List, ◌∷◌}
+use Rattle.units.specs.declared.Fault.TheVariants.{PlannedPins}
+use Rattle.std.specs.Prelude.{Err}
 use Rattle.fields.specs.Bytes.{bytes}
 use Rattle.fields.specs.Readers.{after}
 use Rattle.fields.specs.WrittenLines.{decimal}
 use Rattle.soc.specs.Rules.{pins_rule}
-use Rattle.text_lines.specs.Parts.{whole, closed, refuses, pins}
+use Rattle.text_lines.specs.Parts.{whole, closed, pins}
 use Rattle.text_lines.specs.Kinds.{uses, test_due, test_line}
 use Rattle.text_lines.specs.LineFields.{flag_field, module_fields}
 use Rattle.text.proofs.LineBack.{word_back, due_back, flag_back}
@@ -16,6 +18,6 @@ use Rattle.text.proofs.LineBack.{word_back, due_back, flag_back}
 pub pins-first : (i : ℕ) (scan power : Bool) (behind : List (List ℕ))
     → whole (test_line 0 i power)
     (module_fields 0 (bytes "Test" ∷ decimal i ∷ bytes "ScanUse" ∷ flag_field scan ∷ bytes "TamUse" ∷ flag_field true ∷ behind))
-    ≡ refuses 17
+    ≡ Err PlannedPins
 unfolding test_line test_due uses pins pins_rule after closed
 pins-first i scan power behind = simp (word_back, due_back, flag_back)

@@ -7,18 +7,27 @@ use mathlib.Core.Bool.{Bool}
 use mathlib.Core.List.{List, [], ◌∷◌}
 use mathlib.Core.Logic.{◌⊎◌, inl, inr}
 use native.Mathlib.Omega.{arith}
+use Rattle.units.specs.declared.Fault.TheVariants.{WrongForm, EarlyEnd}
+use Rattle.std.specs.Prelude.{Result, Ok, Err}
+use Rattle.units.specs.declared.Fault.{Fault}
+use Rattle.text_reader.specs.declared.block.Body.{Body}
 use Rattle.units.proofs.TestLaws.{clash}
-use Rattle.units.specs.Refusals.{refused}
+use Rattle.units.specs.Refusals.{number_of, refused}
 use Rattle.units.specs.declared.Refusal.{Refusal}
 use Rattle.fields.specs.Lines.{Line}
 use Rattle.fields.specs.Readers.{no, got, Reader, ◌>>=◌, ◌>>◌, after, each}
-use Rattle.text_lines.specs.Parts.{Whole, refuses, says, whole}
-use Rattle.text_lines.specs.Kinds.{Name, Options, Shape, Second, name_line, total_line}
+use Rattle.text_lines.specs.Parts.{whole}
+use Rattle.text_lines.specs.Kinds.{name_line, total_line}
+use Rattle.text_lines.specs.declared.head.Name.{Name}
+use Rattle.text_lines.specs.declared.head.Options.{Options}
+use Rattle.text_lines.specs.declared.level.Shape.{Shape}
+use Rattle.text_lines.specs.declared.second.SecondLine.{SecondLine}
+use Rattle.text_lines.specs.declared.second.SecondLine.TheVariants.{Position, Tests}
 use Rattle.text_lines.specs.Kinds.{options_line, level_line, second_line, tests_line, test_line}
 use Rattle.text.proofs.LineRefuses.{LineNumber, name-refuses, total-refuses, options_refuses, level-refuses}
 use Rattle.text.proofs.LineRefuses.{second_refuses, tests-refuses, test-refuses}
 use Rattle.text_reader.specs.Lines.{LinesRead, LinesReader, judged, line, no_more}
-use Rattle.text_reader.specs.Reading.{Body, behind, body, tests, module_tests, module_rest, module_lines, modules, behind_name, soc}
+use Rattle.text_reader.specs.Reading.{behind, body, tests, module_tests, module_rest, module_lines, modules, behind_name, soc}
 use Rattle.text_reader.specs.Reading as reading
 use Rattle.text.specs.Numbers.{TextNumber}
 
@@ -31,8 +40,8 @@ module _ (R : ℕ → ℕ → Type 0) where
         → SameFields (l ∷ ls) (m ∷ ms)
 
   pub data Alike {A : Type 0} : LinesRead A → LinesRead A → Type 0 where
-    ended : Alike (no (refused 6 0)) (no (refused 6 0))
-    stopped : {c i j : ℕ} → LineNumber c → R i j → Alike (no (refused c i)) (no (refused c j))
+    ended : Alike (no (refused EarlyEnd 0)) (no (refused EarlyEnd 0))
+    stopped : {c : Fault} {i j : ℕ} → LineNumber (number_of c) → R i j → Alike (no (refused c i)) (no (refused c j))
     going : {a : A} {ls ms : List Line} → SameFields ls ms → Alike (got a ls) (got a ms)
 
   abbrev pub AlikeReader : {A : Type 0} → LinesReader A → Type 0
@@ -60,13 +69,13 @@ module _ (R : ℕ → ℕ → Type 0) where
   alike_each (suc n) f i = alike_bind (f i) (λ x. alike_bind (alike_each n f (suc i)) (λ xs. alike_give (x ∷ xs)))
 
   -- a line of which what is refused is refused with 3 to 5 or 17
-  alike_judged : {A : Type 0} {i j : ℕ} {ls ms : List Line} → R i j → SameFields ls ms → (w : Whole A)
-      → ((c : ℕ) → w ≡ refuses c → LineNumber c) → Alike (judged i ls w) (judged j ms w)
+  alike_judged : {A : Type 0} {i j : ℕ} {ls ms : List Line} → R i j → SameFields ls ms → (w : Result A Fault)
+      → ((c : Fault) → w ≡ Err c → LineNumber (number_of c)) → Alike (judged i ls w) (judged j ms w)
   unfolding judged
-  alike_judged r s (refuses c) h = stopped (h c refl) r
-  alike_judged r s (says a) h = going s
+  alike_judged r s (Err c) h = stopped (h c refl) r
+  alike_judged r s (Ok a) h = going s
 
-  pub alike_line : {A : Type 0} (p : Reader A) → ((fs : List (List ℕ)) (c : ℕ) → whole p fs ≡ refuses c → LineNumber c)
+  pub alike_line : {A : Type 0} (p : Reader A) → ((fs : List (List ℕ)) (c : Fault) → whole p fs ≡ Err c → LineNumber (number_of c))
       → AlikeReader (line p)
   unfolding line
   alike_line p h [] [] none = ended
@@ -79,14 +88,14 @@ module _ (R : ℕ → ℕ → Type 0) where
   alike_no_more [] [] none = going none
   alike_no_more [] (m ∷ ms) s = elim s [ ]
   alike_no_more (l ∷ ls) [] s = elim s [ ]
-  alike_no_more (l ∷ ls) (m ∷ ms) (more r e s) = stopped {c = 3} (inl (omega arith, omega arith)) r
+  alike_no_more (l ∷ ls) (m ∷ ms) (more r e s) = stopped {c = WrongForm} (inl (omega arith, omega arith)) r
 
   -- the parts of a text
 
-  alike_behind : (m : ℕ) (s : Second) → AlikeReader (behind m s)
+  alike_behind : (m : ℕ) (s : SecondLine) → AlikeReader (behind m s)
   unfolding behind
-  alike_behind m (Second.tests t) = alike_give _
-  alike_behind m (Second.position x y) = alike_bind (alike_line (tests_line m) (tests-refuses m)) (λ t. alike_give _)
+  alike_behind m (Tests t) = alike_give _
+  alike_behind m (Position x y) = alike_bind (alike_line (tests_line m) (tests-refuses m)) (λ t. alike_give _)
 
   alike_body : (m : ℕ) (xy : Bool) → AlikeReader (body m xy)
   unfolding body
@@ -133,9 +142,9 @@ same_self P (l ∷ ls) h = more (h l.number) refl (same_self P ls h)
 
 -- what a reading that refuses says, of the line too
 pub record Refuses (P : ℕ → Type 0) (r : Refusal) : Type 0 where
-  pub numbers : (r.number ≡ 6) ⊎ LineNumber r.number
-  pub last : r.number ≡ 6 → r.line ≡ 0
-  pub others : LineNumber r.number → P r.line
+  pub numbers : (number_of r.fault ≡ 6) ⊎ LineNumber (number_of r.fault)
+  pub last : number_of r.fault ≡ 6 → r.line ≡ 0
+  pub others : LineNumber (number_of r.fault) → P r.line
 
 not_six : (c : ℕ) → LineNumber c → c ≡ 6 → ⊥
 not_six c (inl h) e = omega (arith, h.1, e)
@@ -143,11 +152,11 @@ not_six c (inr h) e = omega (arith, h, e)
 
 pub alike_refuses : (P : ℕ → Type 0) {A : Type 0} {g h : LinesRead A} → Alike (λ i j. P i) g h → (r : Refusal) → g ≡ no r → Refuses P r
 alike_refuses P ended r e =
-    let i : refused 6 0 ≡ r = cc in
+    let i : refused EarlyEnd 0 ≡ r = cc in
     rw (← i) (record { numbers = inl refl; last = λ k. refl; others = λ k. absurd (not_six 6 k refl) })
 alike_refuses P (stopped {c} {i} p b) r e =
     let k : refused c i ≡ r = cc in
-    rw (← k) (record { numbers = inr p; last = λ k. absurd (not_six c p k); others = λ k. b })
+    rw (← k) (record { numbers = inr p; last = λ k. absurd (not_six (number_of c) p k); others = λ k. b })
 alike_refuses P (going s) r e = clash cc
 
 pub soc-refuses-so : (P : ℕ → Type 0) (ls : List Line) (r : Refusal) → SameFields (λ i j. P i) ls ls → soc ls ≡ no r → Refuses P r
@@ -159,5 +168,5 @@ refuses-text c (inl e) = inl (omega arith, omega arith)
 refuses-text c (inr (inl h)) = inl (omega (arith, h.0), omega (arith, h.1))
 refuses-text c (inr (inr e)) = inr e
 
-pub soc-refuses : (ls : List Line) (r : Refusal) → soc ls ≡ no r → TextNumber r.number
-soc-refuses ls r h = refuses-text r.number (soc-refuses-so (λ n. Unit {0}) ls r (same_self (λ n. Unit {0}) ls (λ n. tt)) h).numbers
+pub soc-refuses : (ls : List Line) (r : Refusal) → soc ls ≡ no r → TextNumber (number_of r.fault)
+soc-refuses ls r h = refuses-text (number_of r.fault) (soc-refuses-so (λ n. Unit {0}) ls r (same_self (λ n. Unit {0}) ls (λ n. tt)) h).numbers

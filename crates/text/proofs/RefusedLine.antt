@@ -1,7 +1,7 @@
 -- Laws of a refusal's line (document 01, "Refusal numbers"; document 02, item 6): "Number 1 and 6 come with line 0, 2 to 5 with the line,
 -- counted from 1", and "17 with the line". Assumes nothing.
 use Prim.Native.Nat.{ℕ, suc, ◌+◌, ◌≤◌, ◌<◌}
-use mathlib.Core.Path.{◌≡◌, refl, sym, ap, subst}
+use mathlib.Core.Path.{◌≡◌, refl}
 use mathlib.Core.Bool.{Bool, true, false, cond, ◌&&◌}
 use mathlib.Core.List.{List, [], ◌∷◌}
 use mathlib.Core.Logic.{◌⊎◌, inl, inr}
@@ -9,23 +9,22 @@ use native.Mathlib.Omega.{arith}
 use borrow.Author.Tests.{leb-true, leb-false}
 use lib.Dec.{eqb, leb}
 use lib.ListN.{length}
+use Rattle.std.specs.Prelude.{Option, None, Some, Result, Ok, Err, IfErr}
 use Rattle.units.proofs.TestLaws.{clash}
-use Rattle.units.specs.Refusals.{refused}
+use Rattle.units.specs.Refusals.{number_of, refused}
+use Rattle.units.specs.declared.Fault.TheVariants.{LongText}
 use Rattle.units.specs.declared.Refusal.{Refusal}
 use Rattle.fields.specs.Bytes.{lf, cr, lf_next, allowed, bad_byte}
 use Rattle.fields.specs.Fields.{fields_of}
 use Rattle.fields.specs.Lines.{on_line, lines_of, with_line, numbered, lines_from}
 use Rattle.fields.specs.Readers.{no, got}
-use Rattle.fields.specs.declared.byte.BadByte.{BadByte}
-use Rattle.fields.specs.declared.byte.BadByte.TheVariants.{OnLine, Nowhere}
 use Rattle.soc.specs.Limits.{text_max}
 use Rattle.soc.specs.declared.record.Soc.{Soc}
 use Rattle.text_reader.specs.Lines.{LinesRead}
-use Rattle.text_reader.specs.Reading.{refused_soc, accepted_soc, soc, answer, unless_bad, read_soc}
-use Rattle.text_reader.specs.declared.read.SocRead.{SocRead}
+use Rattle.text_reader.specs.Reading.{soc, answer, unless_bad, read_soc}
 use Rattle.text.specs.LineCount.{lines_behind, line_count}
 use Rattle.text.specs.Numbers.{NumberWithLine, TextNumber}
-use Rattle.text.proofs.Acceptance.{accepts_or_refuses}
+use Rattle.text.proofs.Acceptance.{refused-number}
 use Rattle.text.proofs.LineRefuses.{LineNumber}
 use Rattle.text.proofs.Refused.{SameFields, none, more, Refuses, soc-refuses-so}
 
@@ -40,13 +39,13 @@ begun-some [] = omega arith
 begun-some (b ∷ bs) = some b bs (begun-some bs) (eqb b lf)
 
 -- a bad byte stands on a line of the text
-pub bad_within : (n : ℕ) (begun : Bool) (t : List ℕ) (k : ℕ) → bad_byte n t ≡ OnLine k → (n ≤ k) × (k < n + lines_behind begun t)
+pub bad_within : (n : ℕ) (begun : Bool) (t : List ℕ) (k : ℕ) → bad_byte n t ≡ Some k → (n ≤ k) × (k < n + lines_behind begun t)
 unfolding bad_byte lines_behind
 bad_within n begun [] k e = clash cc
 bad_within n begun (b ∷ bs) k e = go (allowed b bs) (eqb b lf) (λ n begun. bad_within n begun bs k) e
   where
-    go : (a u : Bool) → ((n : ℕ) (begun : Bool) → bad_byte n bs ≡ OnLine k → (n ≤ k) × (k < n + lines_behind begun bs))
-        → cond a (bad_byte (cond u (suc n) n) bs) (OnLine n) ≡ OnLine k
+    go : (a u : Bool) → ((n : ℕ) (begun : Bool) → bad_byte n bs ≡ Some k → (n ≤ k) × (k < n + lines_behind begun bs))
+        → cond a (bad_byte (cond u (suc n) n) bs) (Some n) ≡ Some k
         → (n ≤ k) × (k < n + cond u (suc (lines_behind false bs)) (lines_behind true bs))
     go true true f e = let i = f (suc n) false e in (omega (arith, i.0), omega (arith, i.1))
     go true false f e = f n true e
@@ -88,8 +87,8 @@ numbered_within low high n (l ∷ ls) h k = go (fields_of l) (numbered_within lo
 
 -- a number and a line that go together in text t
 pub record Lined (t : List ℕ) (r : Refusal) : Type 0 where
-  pub none : (r.number ≡ 1) ⊎ (r.number ≡ 6) → r.line ≡ 0
-  pub counted : NumberWithLine r.number → (1 ≤ r.line) × (r.line ≤ line_count t)
+  pub none : (number_of r.fault ≡ 1) ⊎ (number_of r.fault ≡ 6) → r.line ≡ 0
+  pub counted : NumberWithLine (number_of r.fault) → (1 ≤ r.line) × (r.line ≤ line_count t)
 
 -- 0 and 1 come with no line
 pub low-none : (c : ℕ) → c ≤ 1 → NumberWithLine c → ⊥
@@ -98,19 +97,19 @@ low-none c h (inr e) = omega (arith, h, e)
 
 -- what a refusal says by its number: 6 comes with line 0, and the others with a line, where 1 and 2 are said before any line is read
 module _ {P : ℕ → Type 0} {r : Refusal} (w : Refuses P r) where
-  pub refuses-none : (r.number ≡ 1) ⊎ (r.number ≡ 6) → r.line ≡ 0
+  pub refuses-none : (number_of r.fault ≡ 1) ⊎ (number_of r.fault ≡ 6) → r.line ≡ 0
   refuses-none = go w.numbers
     where
-      go : (r.number ≡ 6) ⊎ LineNumber r.number → (r.number ≡ 1) ⊎ (r.number ≡ 6) → r.line ≡ 0
+      go : (number_of r.fault ≡ 6) ⊎ LineNumber (number_of r.fault) → (number_of r.fault ≡ 1) ⊎ (number_of r.fault ≡ 6) → r.line ≡ 0
       go (inl e) (inl k) = absurd (omega arith)
       go (inr (inl h)) (inl k) = absurd (omega (arith, h.0))
       go (inr (inr e)) (inl k) = absurd (omega arith)
       go n (inr k) = w.last k
 
-  pub refuses-counted : NumberWithLine r.number → P r.line
+  pub refuses-counted : NumberWithLine (number_of r.fault) → P r.line
   refuses-counted h = w.others (go w.numbers h)
     where
-      go : (r.number ≡ 6) ⊎ LineNumber r.number → NumberWithLine r.number → LineNumber r.number
+      go : (number_of r.fault ≡ 6) ⊎ LineNumber (number_of r.fault) → NumberWithLine (number_of r.fault) → LineNumber (number_of r.fault)
       go (inl e) (inl h) = absurd (omega (arith, h.1))
       go (inl e) (inr h) = absurd (omega arith)
       go (inr n) h = n
@@ -119,44 +118,50 @@ module _ (t : List ℕ) where
   abbrev Within : ℕ → Type 0
   Within n = (1 ≤ n) × (n ≤ line_count t)
 
-  lines_lined : (g : LinesRead Soc) → soc (lines_from 1 t 0) ≡ g → Lined t (answer g).refusal
+  abbrev AllLined : Result Soc Refusal → Type 0
+  AllLined a = IfErr a (Lined t)
+
+  lines_lined : (g : LinesRead Soc) → soc (lines_from 1 t 0) ≡ g → AllLined (answer g)
   unfolding answer
-  lines_lined (got s ls) e = record { none = λ k. refl; counted = λ h. absurd (low-none 0 (omega arith) h) }
+  lines_lined (got s ls) e = tt
   lines_lined (no r) e =
       let k = numbered_within 1 (line_count t) 1 (lines_of t) (omega arith) (omega (arith, lines-within false t)) in
       let w = soc-refuses-so Within (lines_from 1 t 0) r k e in
       record { none = refuses-none w; counted = refuses-counted w }
 
-  bytes_lined : (b : BadByte) → bad_byte 1 t ≡ b → Lined t (unless_bad b (answer (soc (lines_from 1 t 0)))).refusal
+  bytes_lined : (b : Option ℕ) → bad_byte 1 t ≡ b → AllLined (unless_bad b (answer (soc (lines_from 1 t 0))))
   unfolding unless_bad
-  bytes_lined (OnLine n) e =
+  bytes_lined (Some n) e =
       let w = bad_within 1 false t n e in
       record { none = none_2; counted = λ h. (w.0, omega (arith, w.1)) }
     where
       none_2 : ◌⊎◌ (◌≡◌ {A = ℕ} 2 1) (◌≡◌ {A = ℕ} 2 6) → n ≡ 0
       none_2 (inl k) = absurd (omega arith)
       none_2 (inr k) = absurd (omega arith)
-  bytes_lined Nowhere e = lines_lined (soc (lines_from 1 t 0)) refl
+  bytes_lined None e = lines_lined (soc (lines_from 1 t 0)) refl
 
-  lined : Lined t (read_soc t).refusal
+  all-lined : AllLined (read_soc t)
   unfolding read_soc
-  lined = go (leb (length t) text_max)
+  all-lined = go (leb (length t) text_max)
     where
-      read : SocRead
+      read : Result Soc Refusal
       read = unless_bad (bad_byte 1 t) (answer (soc (lines_from 1 t 0)))
 
-      go : (b : Bool) → Lined t (cond b read (refused_soc (refused 1 0))).refusal
+      go : (b : Bool) → AllLined (cond b read (Err (refused LongText 0)))
       go true = bytes_lined (bad_byte 1 t) refl
       go false = record { none = λ k. refl; counted = λ h. absurd (low-none 1 (omega arith) h) }
 
-  -- "Number 1 and 6 come with line 0"
-  pub refused-line-none : ((read_soc t).refusal.number ≡ 1) ⊎ ((read_soc t).refusal.number ≡ 6) → (read_soc t).refusal.line ≡ 0
-  refused-line-none = lined.none
+  module _ (r : Refusal) (e : read_soc t ≡ Err r) where
+    lined : Lined t r
+    lined = rw e at all-lined
 
-  -- "2 to 5 with the line, counted from 1", and "17 with the line"
-  pub refused-line-counted : NumberWithLine (read_soc t).refusal.number
-      → (1 ≤ (read_soc t).refusal.line) × ((read_soc t).refusal.line ≤ line_count t)
-  refused-line-counted = lined.counted
+    -- "Number 1 and 6 come with line 0"
+    pub refused-line-none : (number_of r.fault ≡ 1) ⊎ (number_of r.fault ≡ 6) → r.line ≡ 0
+    refused-line-none = lined.none
+
+    -- "2 to 5 with the line, counted from 1", and "17 with the line"
+    pub refused-line-counted : NumberWithLine (number_of r.fault) → (1 ≤ r.line) × (r.line ≤ line_count t)
+    refused-line-counted = lined.counted
 
 -- a text has no more lines than bytes
 pub lines-most : (begun : Bool) (t : List ℕ) → lines_behind begun t ≤ length t + 1
@@ -181,37 +186,34 @@ number_parts n (inl h) = go (leb n 1) refl (leb n 5) refl
     go false e false f = inl (inr (omega (arith, h.1, leb-false n 5 f)))
 
 -- a refusal of a text that is not too long, or 1: its number and its line
-pub lined_most : (t : List ℕ) (r : Refusal) → Lined t r → TextNumber r.number → length t ≤ text_max ⊎ (r.number ≡ 1)
-    → (r.number ≤ 17) × (r.line ≤ text_max + 1)
-lined_most t r d n l = (most n, line (number_parts r.number n) l)
+pub lined_most : (t : List ℕ) (r : Refusal) → Lined t r → TextNumber (number_of r.fault) → length t ≤ text_max ⊎ (number_of r.fault ≡ 1)
+    → (number_of r.fault ≤ 17) × (r.line ≤ text_max + 1)
+lined_most t r d n l = (most n, line (number_parts (number_of r.fault) n) l)
   where
-    most : TextNumber r.number → r.number ≤ 17
+    most : TextNumber (number_of r.fault) → number_of r.fault ≤ 17
     most (inl h) = omega (arith, h.1)
     most (inr e) = omega arith
 
-    line : ((r.number ≡ 1) ⊎ (r.number ≡ 6)) ⊎ NumberWithLine r.number → length t ≤ text_max ⊎ (r.number ≡ 1) → r.line ≤ text_max + 1
+    line : ((number_of r.fault ≡ 1) ⊎ (number_of r.fault ≡ 6)) ⊎ NumberWithLine (number_of r.fault) → length t ≤ text_max ⊎ (number_of r.fault ≡ 1)
+        → r.line ≤ text_max + 1
     line (inl h) l = omega (arith, d.none h)
     line (inr h) (inl l) = omega (arith, (d.counted h).1, lines-most false t)
-    line (inr h) (inr l) = absurd (low-none r.number (omega (arith, l)) h)
+    line (inr h) (inr l) = absurd (low-none (number_of r.fault) (omega (arith, l)) h)
 
 -- so a refusal's line is at most as many as a text may have
 module _ (t : List ℕ) where
-  long-line : length t ≤ text_max ⊎ ((read_soc t).refusal.number ≡ 1)
+  long-line : IfErr (read_soc t) (λ r. length t ≤ text_max ⊎ (number_of r.fault ≡ 1))
   unfolding read_soc
   long-line = go (leb (length t) text_max) refl
     where
+      short : length t ≤ text_max → (a : Result Soc Refusal) → IfErr a (λ r. length t ≤ text_max ⊎ (number_of r.fault ≡ 1))
+      short h (Err r) = inl h
+      short h (Ok s) = tt
+
       go : (b : Bool) → leb (length t) text_max ≡ b
-          → length t ≤ text_max
-          ⊎ ((cond b (unless_bad (bad_byte 1 t) (answer (soc (lines_from 1 t 0)))) (refused_soc (refused 1 0))).refusal.number ≡ 1)
-      go true e = inl (leb-true (length t) text_max e)
+          → IfErr (cond b (unless_bad (bad_byte 1 t) (answer (soc (lines_from 1 t 0)))) (Err (refused LongText 0))) (λ r. length t ≤ text_max ⊎ (number_of r.fault ≡ 1))
+      go true e = short (leb-true (length t) text_max e) (unless_bad (bad_byte 1 t) (answer (soc (lines_from 1 t 0))))
       go false e = inr refl
 
-  pub refused-line-most : ((read_soc t).refusal.number ≤ 17) × ((read_soc t).refusal.line ≤ text_max + 1)
-  refused-line-most = go (accepts_or_refuses t)
-    where
-      go : ((s : Soc) × (read_soc t ≡ accepted_soc s)) ⊎ ((r : Refusal) × (read_soc t ≡ refused_soc r) × TextNumber r.number)
-          → ((read_soc t).refusal.number ≤ 17) × ((read_soc t).refusal.line ≤ text_max + 1)
-      go (inl (s, e)) = rw e (omega arith, omega arith)
-      go (inr (r, e, k)) =
-          let n : TextNumber (read_soc t).refusal.number = subst TextNumber (ap (λ (q : SocRead). q.refusal.number) (sym e)) k in
-          lined_most t (read_soc t).refusal (lined t) n long-line
+  pub refused-line-most : (r : Refusal) → read_soc t ≡ Err r → (number_of r.fault ≤ 17) × (r.line ≤ text_max + 1)
+  refused-line-most r e = lined_most t r (lined t r e) (refused-number t r e) (rw e at long-line)

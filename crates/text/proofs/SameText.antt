@@ -8,17 +8,17 @@ use mathlib.Core.List.{List, [], ◌∷◌, ◌++◌, map, append-nil}
 use borrow.Author.Tests.{le-leb}
 use lib.Dec.{eqb}
 use lib.ListN.{length}
+use Rattle.std.specs.Prelude.{None}
 use Rattle.units.proofs.TestLaws.{clash}
 use Rattle.fields.specs.Bytes.{lf, cr, lf_next, line_behind, bad_byte}
 use Rattle.fields.specs.Fields.{begins, fields_of}
 use Rattle.fields.specs.Lines.{Line, on_line, lines_of, with_line, numbered, lines_from}
-use Rattle.fields.specs.declared.byte.BadByte.TheVariants.{Nowhere}
 use Rattle.soc.specs.Limits.{text_max}
 use Rattle.soc.specs.declared.record.Soc.{Soc}
 use Rattle.text_reader.specs.Lines.{LinesRead}
 use Rattle.text_reader.specs.Reading.{answer, read_soc}
-use Rattle.text_reader.specs.declared.read.SocRead.{SocRead}
 use Rattle.text.specs.Describes.{fields_in, field_lines}
+use Rattle.text.specs.Numbers.{up_to_line}
 use Rattle.text.specs.Spacing.{ends_in_cr}
 use Rattle.text.proofs.Refused.{SameFields, none, more, Alike, ended, stopped, going, alike_soc}
 use Rattle.text.proofs.RoundTrip.{reads_lines}
@@ -34,20 +34,17 @@ same-fields (l ∷ ls) (m ∷ ms) e =
     let r : map fields_in ls ≡ map fields_in ms = cc in
     more tt f (same-fields ls ms r)
 
-abbrev Same : SocRead → SocRead → Type 0
-Same a b = (a.soc ≡ b.soc) × (a.refusal.number ≡ b.refusal.number)
-
-alike_same : {g h : LinesRead Soc} → Alike (λ i j. Unit {0}) g h → Same (answer g) (answer h)
+alike_same : {g h : LinesRead Soc} → Alike (λ i j. Unit {0}) g h → up_to_line (answer g) ≡ up_to_line (answer h)
 unfolding answer
-alike_same ended = (refl, refl)
-alike_same (stopped p r) = (refl, refl)
-alike_same (going s) = (refl, refl)
+alike_same ended = refl
+alike_same (stopped p r) = refl
+alike_same (going s) = refl
 
 -- "Blank lines are skipped but counted": two texts whose lines that are not blank have the same fields say the same, up to the line of
 -- a refusal
-pub same_but_lines : (t u : List ℕ) → length t ≤ text_max → length u ≤ text_max → bad_byte 1 t ≡ Nowhere → bad_byte 1 u ≡ Nowhere
+pub same_but_lines : (t u : List ℕ) → length t ≤ text_max → length u ≤ text_max → bad_byte 1 t ≡ None → bad_byte 1 u ≡ None
     → field_lines t ≡ field_lines u
-    → ((read_soc t).soc ≡ (read_soc u).soc) × ((read_soc t).refusal.number ≡ (read_soc u).refusal.number)
+    → up_to_line (read_soc t) ≡ up_to_line (read_soc u)
 same_but_lines t u h k b c e =
     let f = same-fields (lines_from 1 t 0) (lines_from 1 u 0) e in
     let s = alike_same (alike_soc (λ i j. Unit {0}) (lines_from 1 t 0) (lines_from 1 u 0) f) in

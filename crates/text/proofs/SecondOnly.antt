@@ -7,14 +7,17 @@ use mathlib.Core.List.{List, [], ◌∷◌}
 use mathlib.Core.Logic.{◌⊎◌, inl, inr}
 use native.Mathlib.Omega.{arith}
 use lib.IntN.{ℤ}
+use Rattle.std.specs.Prelude.{Ok}
 use Rattle.fields.specs.Bytes.{bytes}
 use Rattle.fields.specs.Readers.{got, FieldsGot}
 use Rattle.fields.specs.WrittenLines.{decimal}
 use Rattle.units.proofs.TestLaws.{clash}
 use Rattle.soc.specs.Limits.{tests_max, position_max}
 use Rattle.soc.specs.Rules.{is_not_given, up_to, good_position}
-use Rattle.text_lines.specs.Parts.{whole, says, is_next}
-use Rattle.text_lines.specs.Kinds.{Second, pair_rule, position_part, total_tests, tests_part, second_part, second_line, tests_line}
+use Rattle.text_lines.specs.Parts.{whole, is_next}
+use Rattle.text_lines.specs.Kinds.{pair_rule, position_part, total_tests, tests_part, second_part, second_line, tests_line}
+use Rattle.text_lines.specs.declared.second.SecondLine.{SecondLine}
+use Rattle.text_lines.specs.declared.second.SecondLine.TheVariants.{Position, Tests}
 use Rattle.text_lines.specs.LineFields.{given_field, module_fields}
 use Rattle.text.proofs.LineBack.{may_be}
 use Rattle.text.proofs.PartOnly.{closed_only, after_only, rule_only, keyed_only, key-due_only, key-given_only}
@@ -31,14 +34,14 @@ position-good : (x y : ℤ) → may_be position_max x ≡ true → may_be positi
 unfolding good_position
 position-good x y p q h = neither_or_both (is_not_given x) (is_not_given y) (up_to position_max x) (up_to position_max y) p q h
 
-record PositionPart (fs : List (List ℕ)) (r : Second) : Type 0 where
+record PositionPart (fs : List (List ℕ)) (r : SecondLine) : Type 0 where
   x : ℤ
   y : ℤ
-  is : r ≡ Second.position x y
+  is : r ≡ Position x y
   fields : fs ≡ bytes "X" ∷ given_field x ∷ bytes "Y" ∷ given_field y ∷ []
   good : good_position true x y ≡ true
 
-position-part : (fs : List (List ℕ)) (r : Second) → position_part fs ≡ got r [] → PositionPart fs r
+position-part : (fs : List (List ℕ)) (r : SecondLine) → position_part fs ≡ got r [] → PositionPart fs r
 unfolding position_part
 position-part fs r h =
     let a = after_only h in
@@ -49,13 +52,13 @@ position-part fs r h =
     let p = rule_only (pair_rule a.value b.value) b.left c.left c.value c.first in
     record { x = a.value; y = b.value; is = cc; fields = cc; good = position-good a.value b.value x.may y.may p.0 }
 
-record TestsPart (fs : List (List ℕ)) (r : Second) : Type 0 where
+record TestsPart (fs : List (List ℕ)) (r : SecondLine) : Type 0 where
   count : ℕ
-  is : r ≡ Second.tests count
+  is : r ≡ Tests count
   fields : fs ≡ bytes "TotalTests" ∷ decimal count ∷ []
   most : count ≤ tests_max
 
-tests-part : (fs : List (List ℕ)) (r : Second) → tests_part fs ≡ got r [] → TestsPart fs r
+tests-part : (fs : List (List ℕ)) (r : SecondLine) → tests_part fs ≡ got r [] → TestsPart fs r
 unfolding tests_part total_tests
 tests-part fs r h =
     let a = after_only h in
@@ -63,12 +66,12 @@ tests-part fs r h =
     record { count = a.value; is = cc; fields = cc; most = k.most }
 
 -- with XY 1 a position, or else the count of tests
-second_part_lem : (xy : Bool) (fs : List (List ℕ)) (r : Second) → second_part xy fs ≡ got r [] → ((xy ≡ true) × PositionPart fs r) ⊎ TestsPart fs r
+second_part_lem : (xy : Bool) (fs : List (List ℕ)) (r : SecondLine) → second_part xy fs ≡ got r [] → ((xy ≡ true) × PositionPart fs r) ⊎ TestsPart fs r
 unfolding second_part
 second_part_lem false fs r h = inr (tests-part fs r h)
 second_part_lem true fs r h = go (is_next (bytes "X") fs) h
   where
-    go : (t : Bool) → cond {A = FieldsGot Second} t (position_part fs) (tests_part fs) ≡ got r [] → (◌≡◌ {A = Bool} true true × PositionPart fs r) ⊎ TestsPart fs r
+    go : (t : Bool) → cond {A = FieldsGot SecondLine} t (position_part fs) (tests_part fs) ≡ got r [] → (◌≡◌ {A = Bool} true true × PositionPart fs r) ⊎ TestsPart fs r
     go true h = inl (refl, position-part fs r h)
     go false h = inr (tests-part fs r h)
 
@@ -83,32 +86,32 @@ pub record TestsSay (m : ℕ) (fs : List (List ℕ)) (t : ℕ) : Type 0 where
   pub fields : fs ≡ module_fields m (bytes "TotalTests" ∷ decimal t ∷ [])
   pub most : t ≤ tests_max
 
-pub second_only_position : (m : ℕ) (xy : Bool) (fs : List (List ℕ)) (x y : ℤ) → whole (second_line m xy) fs ≡ says (Second.position x y) → PositionSays m xy fs x y
+pub second_only_position : (m : ℕ) (xy : Bool) (fs : List (List ℕ)) (x y : ℤ) → whole (second_line m xy) fs ≡ Ok (Position x y) → PositionSays m xy fs x y
 unfolding second_line
 second_only_position m xy fs x y h =
-    let a = after_only (closed_only (second_line m xy fs) (Second.position x y) h) in
-    go a.left (key-due_only (bytes "Module") fs a.left m a.value a.first) (second_part_lem xy a.left (Second.position x y) a.second)
+    let a = after_only (closed_only (second_line m xy fs) (Position x y) h) in
+    go a.left (key-due_only (bytes "Module") fs a.left m a.value a.first) (second_part_lem xy a.left (Position x y) a.second)
   where
-    go : (gs : List (List ℕ)) → fs ≡ module_fields m gs → ((xy ≡ true) × PositionPart gs (Second.position x y)) ⊎ TestsPart gs (Second.position x y) → PositionSays m xy fs x y
+    go : (gs : List (List ℕ)) → fs ≡ module_fields m gs → ((xy ≡ true) × PositionPart gs (Position x y)) ⊎ TestsPart gs (Position x y) → PositionSays m xy fs x y
     go gs e (inl (o, p)) =
         let i : p.x ≡ x = cc in
         let j : p.y ≡ y = cc in
         record { option = o; fields = cc; good = rw (i, j) at p.good }
     go gs e (inr p) = let q = p.is in clash cc
 
-pub second_only_tests : (m : ℕ) (xy : Bool) (fs : List (List ℕ)) (t : ℕ) → whole (second_line m xy) fs ≡ says (Second.tests t) → TestsSay m fs t
+pub second_only_tests : (m : ℕ) (xy : Bool) (fs : List (List ℕ)) (t : ℕ) → whole (second_line m xy) fs ≡ Ok (Tests t) → TestsSay m fs t
 unfolding second_line
 second_only_tests m xy fs t h =
-    let a = after_only (closed_only (second_line m xy fs) (Second.tests t) h) in
-    go a.left (key-due_only (bytes "Module") fs a.left m a.value a.first) (second_part_lem xy a.left (Second.tests t) a.second)
+    let a = after_only (closed_only (second_line m xy fs) (Tests t) h) in
+    go a.left (key-due_only (bytes "Module") fs a.left m a.value a.first) (second_part_lem xy a.left (Tests t) a.second)
   where
-    go : (gs : List (List ℕ)) → fs ≡ module_fields m gs → ((xy ≡ true) × PositionPart gs (Second.tests t)) ⊎ TestsPart gs (Second.tests t) → TestsSay m fs t
+    go : (gs : List (List ℕ)) → fs ≡ module_fields m gs → ((xy ≡ true) × PositionPart gs (Tests t)) ⊎ TestsPart gs (Tests t) → TestsSay m fs t
     go gs e (inl (o, p)) = let q = p.is in clash cc
     go gs e (inr p) =
         let i : p.count ≡ t = cc in
         record { fields = cc; most = omega (arith, p.most) }
 
-pub tests_only : (m : ℕ) (fs : List (List ℕ)) (t : ℕ) → whole (tests_line m) fs ≡ says t → TestsSay m fs t
+pub tests_only : (m : ℕ) (fs : List (List ℕ)) (t : ℕ) → whole (tests_line m) fs ≡ Ok t → TestsSay m fs t
 unfolding tests_line total_tests
 tests_only m fs t h =
     let a = after_only (closed_only (tests_line m fs) t h) in

@@ -8,6 +8,7 @@ use mathlib.Core.Logic.{◌⊎◌, inl, inr}
 use native.Mathlib.Omega.{arith}
 use borrow.Author.Tests.{le-leb}
 use lib.IntN.{ℤ}
+use Rattle.std.specs.Prelude.{Ok}
 use Rattle.units.proofs.TestLaws.{clash}
 use Rattle.fields.specs.Bytes.{bytes}
 use Rattle.fields.specs.Readers.{got, FieldsGot}
@@ -16,8 +17,9 @@ use Rattle.soc.specs.Limits.{patterns_max, power_max}
 use Rattle.soc.specs.Record.{not_given}
 use Rattle.soc.specs.Rules.{good_power, pins_rule, good_test}
 use Rattle.soc.specs.declared.record.Test.{Test}
-use Rattle.text_lines.specs.Parts.{whole, says, pins}
-use Rattle.text_lines.specs.Kinds.{Uses, power_part, uses, test_due, patterns_part, test_line}
+use Rattle.text_lines.specs.Parts.{whole, pins}
+use Rattle.text_lines.specs.Kinds.{power_part, uses, test_due, patterns_part, test_line}
+use Rattle.text_lines.specs.declared.test.Uses.{Uses}
 use Rattle.text_lines.specs.LineFields.{flag_field, given_field, module_fields, power_fields, test_fields}
 use Rattle.text.specs.Describes.{Sayable, PowerPart}
 use Rattle.text.proofs.LineBack.{may_say}
@@ -114,7 +116,7 @@ pub record TestSays (m i : ℕ) (power : Bool) (fs : List (List ℕ)) (t : Test)
   pub good : good_test m power t ≡ true
   pub behind : PowerPart power t last
 
-pub test_only : (m i : ℕ) (power : Bool) (fs : List (List ℕ)) (t : Test) → whole (test_line m i power) fs ≡ says t → TestSays m i power fs t
+pub test_only : (m i : ℕ) (power : Bool) (fs : List (List ℕ)) (t : Test) → whole (test_line m i power) fs ≡ Ok t → TestSays m i power fs t
 unfolding test_line test_fields power_fields
 test_only m i power fs t h =
     let a = after_only (closed_only (test_line m i power fs) t h) in

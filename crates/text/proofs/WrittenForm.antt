@@ -9,9 +9,9 @@ use native.Mathlib.Omega.{arith}
 use lib.Dec.{leb}
 use lib.IntN.{ℤ, pos, negsuc}
 use lib.ListN.{drop}
+use Rattle.std.specs.Prelude.{None}
 use Rattle.units.specs.declared.FlipFlops.{FlipFlops}
 use Rattle.fields.specs.Bytes.{bad_byte}
-use Rattle.fields.specs.declared.byte.BadByte.TheVariants.{Nowhere}
 use Rattle.fields.specs.Fields.{blank}
 use Rattle.fields.specs.Lines.{lines_of, numbered, lines_from}
 use Rattle.fields.specs.Names.{name_max, is_name}
@@ -211,7 +211,7 @@ written-fields-from n (l ∷ ls) h =
 pub written-fields : (ls : List (List (List ℕ))) → all_of text_line ls ≡ true → field_lines (written_lines ls) ≡ ls
 written-fields = written-fields-from 1
 
-pub written-allowed-from : (n : ℕ) (ls : List (List (List ℕ))) → all_of text_line ls ≡ true → bad_byte n (written_lines ls) ≡ Nowhere
+pub written-allowed-from : (n : ℕ) (ls : List (List (List ℕ))) → all_of text_line ls ≡ true → bad_byte n (written_lines ls) ≡ None
 unfolding written_lines all_of bad_byte
 written-allowed-from n [] h = refl
 written-allowed-from n (l ∷ ls) h =
@@ -219,7 +219,7 @@ written-allowed-from n (l ∷ ls) h =
     let t = text-line l q.0 in
     bad_written n (joined l) (written_lines ls) (joined_printable l t.prints) ∙ written-allowed-from (suc n) ls q.1
 
-pub written-allowed : (s : Soc) → good_soc s ≡ true → bad_byte 1 (written_soc s) ≡ Nowhere
+pub written-allowed : (s : Soc) → good_soc s ≡ true → bad_byte 1 (written_soc s) ≡ None
 unfolding written_soc
 written-allowed s h = written-allowed-from 1 (soc_lines s) (written_plain s h)
 

@@ -2,5 +2,5 @@
 // a record, and that a record written and read again is the same.
 #![tactic(auto)]
 
-pub use text_reader::{SocRead, read_soc};
+pub use text_reader::read_soc;
 pub use text_writer::write_soc;

@@ -1,21 +1,18 @@
--- Laws of a good record that is written: the counts of each module keep their limits. Assumes nothing.
+-- Laws of a good record that is written: the counts of each of its modules keep their limits. Assumes nothing.
 use Prim.Native.Nat.{ℕ, zero, suc, ◌<◌}
 use mathlib.Core.Path.{◌≡◌, refl}
 use mathlib.Core.Bool.{true}
 use mathlib.Core.List.{List, [], ◌∷◌}
 use native.Mathlib.Omega.{arith}
 use lib.ListN.{length, get_or}
-use lib.Seq.{get_or-take}
-use Rattle.soc.specs.Record.{no_module, modules_of}
+use Rattle.soc.specs.Record.{modules_of}
 use Rattle.soc.specs.Rules.{good_soc}
 use Rattle.soc.specs.declared.record.Soc.{Soc}
 use Rattle.soc.proofs.GoodSocLaws.{soc-figures, modules-counts}
 use Rattle.text_writer.specs.WrittenSoc.{Countable}
 
-pub good_countable : (s : Soc) → good_soc s ≡ true → Countable s
-good_countable s h i k =
-    let e = modules-counts s.power s.xy 0 0 (modules_of s) (soc-figures s h).modules i in
-    rw (get_or-take s.module_count s.modules i no_module k) at e
+pub good_countable : (s : Soc) → good_soc s ≡ true → Countable (modules_of s)
+good_countable s h i k = modules-counts s.power s.xy 0 0 (modules_of s) (soc-figures s h).modules i
 
 -- an element that is there is read whatever is taken for one that is not
 pub get_or-same : {A : Type 0} (l : List A) (i : ℕ) (y z : A) → i < length l → get_or l i y ≡ get_or l i z

@@ -6,8 +6,8 @@ use mathlib.Core.Bool.{Bool, cond}
 use mathlib.Core.List.{List, [], ◌∷◌, ◌++◌, append_assoc}
 use native.Mathlib.Omega.{arith}
 use native.Mathlib.Numerals.{add-one}
-use lib.ListN.{length, get_or, take, drop, length-take, drop_of_length-le}
-use lib.Seq.{drop-cons, get_or-take}
+use lib.ListN.{length, get_or, drop, drop_of_length-le}
+use lib.Seq.{drop-cons}
 use Rattle.units.specs.declared.FlipFlops.{FlipFlops}
 use Rattle.fields.specs.Bytes.{bytes}
 use Rattle.fields.specs.WrittenLines.{decimal, written_lines}
@@ -19,20 +19,17 @@ use Rattle.soc.specs.declared.record.Soc.{Soc}
 use Rattle.text_lines.specs.LineFields.{length_field, name_fields, total_fields, options_fields, level_fields, tests_fields, power_fields, test_fields}
 use Rattle.text_writer.specs.WrittenSoc.{test_lines, position_lines, module_lines_of, module_lines_from, soc_lines, written_soc, spaced_lengths}
 
--- of the first n of a list, those from i on: the next before the others, and none at the end
-module _ {A : Type 0} (n : ℕ) (l : List A) (i : ℕ) where
-  pub rest_more : (z : A) → i < n → n ≤ length l → drop i (take n l) ≡ get_or l i z ∷ drop (i + 1) (take n l)
-  rest_more z h k =
-      let e : i < length (take n l) = rw length-take (omega arith) in
-      drop-cons (take n l) i z e ∙ rw (get_or-take n l i z h, add-one)
+-- the next of a list before the others, and at the end none
+module _ {A : Type 0} (l : List A) (i : ℕ) where
+  rest_more : (z : A) → i < length l → drop i l ≡ get_or l i z ∷ drop (i + 1) l
+  rest_more z h = drop-cons l i z h ∙ rw add-one
 
-  pub rest-none : n ≤ i → drop i (take n l) ≡ []
-  rest-none h = drop_of_length-le (take n l) {i = i} (rw length-take (omega arith))
+  pub rest-none : length l ≤ i → drop i l ≡ []
+  rest-none h = drop_of_length-le l {i = i} h
 
-pub spaced_more : (n : ℕ) (l : List FlipFlops) (i : ℕ) (z : FlipFlops) → i < n → n ≤ length l
-    → spaced_lengths (drop i (take n l)) ≡ bytes " " ++ decimal (get_or l i z).0 ++ spaced_lengths (drop (i + 1) (take n l))
+pub spaced_more : (l : List FlipFlops) (i : ℕ) (z : FlipFlops) → i < length l → spaced_lengths (drop i l) ≡ bytes " " ++ decimal (get_or l i z).0 ++ spaced_lengths (drop (i + 1) l)
 unfolding spaced_lengths length_field
-spaced_more n l i z h k = ap spaced_lengths (rest_more n l i z h k)
+spaced_more l i z h = ap spaced_lengths (rest_more l i z h)
 
 -- the text of tests, the first of which has number i
 module _ (power : Bool) (m : ℕ) where
@@ -42,31 +39,30 @@ module _ (power : Bool) (m : ℕ) where
   abbrev pub test_text : ℕ → Test → List ℕ
   test_text i t = written_lines (test_fields m i t (cond power (power_fields t) []) ∷ [])
 
-  pub tests-more : (n : ℕ) (l : List Test) (i : ℕ) (z : Test) → i < n → n ≤ length l
-      → tests_text (i + 1) (drop i (take n l)) ≡ test_text (i + 1) (get_or l i z) ++ tests_text (i + 1 + 1) (drop (i + 1) (take n l))
+  pub tests-more : (l : List Test) (i : ℕ) (z : Test) → i < length l
+      → tests_text (i + 1) (drop i l) ≡ test_text (i + 1) (get_or l i z) ++ tests_text (i + 1 + 1) (drop (i + 1) l)
   unfolding test_lines
-  tests-more n l i z h k =
+  tests-more l i z h =
       let t = get_or l i z in
-      let e : suc (i + 1) ≡ i + 1 + 1 = omega arith in
-      ap (tests_text (i + 1)) (rest_more n l i z h k)
-      ∙ written-append (test_fields m (i + 1) t _ ∷ []) (test_lines power m (suc (i + 1)) (drop (i + 1) (take n l)))
-      ∙ ap (λ j. test_text (i + 1) t ++ tests_text j (drop (i + 1) (take n l))) e
+      let n : suc (i + 1) ≡ i + 1 + 1 = omega arith in
+      ap (tests_text (i + 1)) (rest_more l i z h)
+      ∙ written-append (test_fields m (i + 1) t _ ∷ []) (test_lines power m (suc (i + 1)) (drop (i + 1) l))
+      ∙ ap (λ j. test_text (i + 1) t ++ tests_text j (drop (i + 1) l)) n
 
 -- the text of modules, the first of which has number m
 module _ (power xy : Bool) where
   abbrev pub modules_text : ℕ → List Module → List ℕ
   modules_text m ds = written_lines (module_lines_from power xy m ds)
 
-  pub modules-more : (n : ℕ) (l : List Module) (i : ℕ) (z : Module) → i < n → n ≤ length l
-      → modules_text i (drop i (take n l))
-      ≡ written_lines (module_lines_of power xy i (get_or l i z)) ++ modules_text (i + 1) (drop (i + 1) (take n l))
+  pub modules-more : (l : List Module) (i : ℕ) (z : Module) → i < length l
+      → modules_text i (drop i l) ≡ written_lines (module_lines_of power xy i (get_or l i z)) ++ modules_text (i + 1) (drop (i + 1) l)
   unfolding module_lines_from
-  modules-more n l i z h k =
+  modules-more l i z h =
       let d = get_or l i z in
-      let e : suc i ≡ i + 1 = omega arith in
-      ap (modules_text i) (rest_more n l i z h k)
-      ∙ written-append (module_lines_of power xy i d) (module_lines_from power xy (suc i) (drop (i + 1) (take n l)))
-      ∙ ap (λ j. written_lines (module_lines_of power xy i d) ++ modules_text j (drop (i + 1) (take n l))) e
+      let n : suc i ≡ i + 1 = omega arith in
+      ap (modules_text i) (rest_more l i z h)
+      ∙ written-append (module_lines_of power xy i d) (module_lines_from power xy (suc i) (drop (i + 1) l))
+      ∙ ap (λ j. written_lines (module_lines_of power xy i d) ++ modules_text j (drop (i + 1) l)) n
 
 -- the text of a module, and of the whole record, part by part
 pub module_text : (power xy : Bool) (m : ℕ) (d : Module) → written_lines (module_lines_of power xy m d)

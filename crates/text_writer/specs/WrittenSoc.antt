@@ -1,12 +1,14 @@
 -- The written form of a record (document 01, "The SOC text"): "The written form has single spaces, LF after every line, no blank line,
 -- and where an option is 1 every X, Y and Power, as -1 when not given; bytes of the lent buffer past it keep their values."
-use Rattle.std.specs.Prelude.{ℕ, suc, ◌≤◌, ◌<◌, Bool, true, false, cond, List, [], ◌∷◌, ◌++◌, get_or}
+use Rattle.std.specs.Prelude.{ℕ, suc, ◌≤◌, ◌<◌, Bool, true, false, cond, List, [], ◌∷◌, ◌++◌, length, get_or, Result, Err}
 use Rattle.buffer.specs.Puts.{put_front}
-use Rattle.buffer.specs.WriterAnswers.{refused_write, written}
-use Rattle.buffer.specs.declared.written.Written.{Written}
+use Rattle.buffer.specs.WriterAnswers.{written}
 use Rattle.fields.specs.Bytes.{bytes, lf, space}
 use Rattle.fields.specs.WrittenLines.{written_lines}
+use Rattle.units.specs.Refusals.{refused}
+use Rattle.units.specs.declared.Fault.TheVariants.{BadSoc}
 use Rattle.units.specs.declared.FlipFlops.{FlipFlops}
+use Rattle.units.specs.declared.Refusal.{Refusal}
 use Rattle.soc.specs.Limits.{chains_max, tests_max}
 use Rattle.soc.specs.Record.{no_module, modules_of, tests_of}
 use Rattle.soc.specs.Rules.{good_soc}
@@ -48,13 +50,13 @@ unfoldable pub power_end : Bool → Test → List ℕ
 power_end false t = lf ∷ []
 power_end true t = bytes " Power " ++ given_field t.power ++ lf ∷ []
 
--- the counts of each module keep their limits
-abbrev pub Countable : Soc → Type 0
-Countable s = (i : ℕ) → i < s.module_count → ((get_or s.modules i no_module).chain_count ≤ chains_max) × ((get_or s.modules i no_module).test_count ≤ tests_max)
+-- the counts of each of the modules keep their limits
+abbrev pub Countable : List Module → Type 0
+Countable ds = (i : ℕ) → i < length ds → ((get_or ds i no_module).chain_count ≤ chains_max) × ((get_or ds i no_module).test_count ≤ tests_max)
 
 -- "SOC writer: 14, 11": what is answered, and what the lent buffer then holds
-unfoldable pub write_answer : Soc → List ℕ → Written
-write_answer s buf = cond (good_soc s) (written (written_soc s) buf) (refused_write 14)
+unfoldable pub write_answer : Soc → List ℕ → Result ℕ Refusal
+write_answer s buf = cond (good_soc s) (written (written_soc s) buf) (Err (refused BadSoc 0))
 
 unfoldable pub write_leaves : Soc → List ℕ → List ℕ
 write_leaves s buf = cond (good_soc s) (put_front (written_soc s) buf) buf

@@ -1,5 +1,5 @@
 // The lines of a record put into a buffer, each with its figures, single spaces and LF.
-ghost use Rattle.std.specs.Prelude.{◌+◌, ◌≤◌, cond, [], ◌∷◌, length, take};
+ghost use Rattle.std.specs.Prelude.{◌+◌, ◌≤◌, cond, [], ◌∷◌, length};
 ghost use Rattle.soc.specs.Limits.{chains_max};
 ghost use Rattle.text_lines.specs.LineFields.{name_fields, total_fields, options_fields, level_fields, tests_fields, power_fields, test_fields};
 ghost use Rattle.fields.specs.Names.{name_max};
@@ -9,6 +9,7 @@ ghost use Rattle.buffer.specs.Puts.{Put};
 
 use super::put::{put_flag, put_given};
 use soc::{Module, Soc, Test};
+use units::FlipFlops;
 
 // `SocName` name, `TotalModules` n, `Options Power` 0/1 `XY` 0/1.
 pub(crate) fn put_head(buf: &mut [u8], at: usize, s: Soc) -> usize
@@ -25,17 +26,14 @@ pub(crate) fn put_head(buf: &mut [u8], at: usize, s: Soc) -> usize
     buffer::put_bytes(&mut *buf, e, b"\n")
 }
 
-// The first n lengths, each behind a space.
-fn put_lengths(buf: &mut [u8], at: usize, d: Module, n: usize) -> usize
-    requires { (n ≤ chains_max) × (at + length (spaced_lengths (take n d.chains)) ≤ length buf.old) }
-    ensures { Put (spaced_lengths (take n d.chains)) at buf.old buf.new result }
+// Lengths, each behind a space.
+fn put_lengths(buf: &mut [u8], at: usize, lengths: &[FlipFlops]) -> usize
+    requires { at + length (spaced_lengths lengths.now) ≤ length buf.old }
+    ensures { Put (spaced_lengths lengths.now) at buf.old buf.new result }
 {
     let mut e = at;
-    let mut i: usize = 0;
-    while i < n {
-        let f = d.chains[i];
-        e = fields::put_key(&mut *buf, e, b" ", f.0 as u64);
-        i += 1;
+    for f in lengths {
+        e = fields::put_key(&mut *buf, e, b" ", u64::from(f.0));
     }
     e
 }
@@ -44,15 +42,14 @@ pub(crate) fn put_level_line(buf: &mut [u8], at: usize, m: u64, d: Module) -> us
     requires { (d.chain_count ≤ chains_max) × (at + length (written_lines (level_fields m d ∷ [])) ≤ length buf.old) }
     ensures { Put (written_lines (level_fields m d ∷ [])) at buf.old buf.new result }
 {
-    let n = d.chain_count;
     let a = fields::put_key(&mut *buf, at, b"Module ", m);
     let b = fields::put_key(&mut *buf, a, b" Level ", d.level as u64);
     let c = fields::put_key(&mut *buf, b, b" Inputs ", d.inputs as u64);
     let e = fields::put_key(&mut *buf, c, b" Outputs ", d.outputs as u64);
     let f = fields::put_key(&mut *buf, e, b" Bidirs ", d.bidirs as u64);
-    let g = fields::put_key(&mut *buf, f, b" ScanChains ", n as u64);
+    let g = fields::put_key(&mut *buf, f, b" ScanChains ", d.chain_count as u64);
     let h = buffer::put_bytes(&mut *buf, g, b" :");
-    let i = put_lengths(&mut *buf, h, d, n);
+    let i = put_lengths(&mut *buf, h, &d.chains[..d.chain_count]);
     buffer::put_bytes(&mut *buf, i, b"\n")
 }
 

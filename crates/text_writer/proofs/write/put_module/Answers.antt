@@ -67,7 +67,7 @@ pub put_tests_line-c-requires : goal.put_tests_line-c-requires
 put_tests_line-c-requires c = due-room (part3 (start2 (goal.at.put_tests_line-c-requires c).After-put_position_line-b)) (rest3 (start2 (goal.at.put_tests_line-c-requires c).After-put_position_line-b)) (due2 (goal.at.put_tests_line-c-requires c).After-put_position_line-b)
 
 pub put_tests-requires : goal.put_tests-requires
-put_tests-requires c = ((start3 (goal.at.put_tests-requires c).After-put_tests_line-c).requires.1, (due3 (goal.at.put_tests-requires c).After-put_tests_line-c).room)
+put_tests-requires c = (due3 (goal.at.put_tests-requires c).After-put_tests_line-c).room
 
 pub returns : goal.returns
 returns c = (due3 (goal.at.returns c).After-put_tests_line-c).done _ _ c.put_tests.ensures

@@ -36,9 +36,12 @@ due1 c = due-next (part1 (start1 c)) (part2 (start1 c)) (due0 (start1 c)) c.put_
 pub put_head-a-requires : goal.put_head-a-requires
 put_head-a-requires c = ((soc-figures c.args.s c.requires.0).name_len, due-room (part1 (goal.at.put_head-a-requires c).Start) (part2 (goal.at.put_head-a-requires c).Start) (due0 (goal.at.put_head-a-requires c).Start))
 
+pub shared_ref_as_front-put_modules : goal.shared_ref_as_front-put_modules
+shared_ref_as_front-put_modules c = (soc-figures c.args.s c.requires.0).module_count
+
 pub put_modules-requires : goal.put_modules-requires
 put_modules-requires c = let s = start1 (goal.at.put_modules-requires c).After-put_head-a in
-    ((soc-figures s.args.s s.requires.0).module_count, omega arith, good_countable s.args.s s.requires.0, (due1 (goal.at.put_modules-requires c).After-put_head-a).room)
+    (good_countable s.args.s s.requires.0, (due1 (goal.at.put_modules-requires c).After-put_head-a).room)
 
 pub returns : goal.returns
 returns c = (due1 (goal.at.returns c).After-put_head-a).done _ _ c.put_modules.ensures

@@ -23,7 +23,7 @@ good c = sym c.is_good.ensures ∙ c.if-not-is_good.false
 pub returns-then-not-is_good : goal.returns-then-not-is_good
 unfolding write_answer write_leaves
 returns-then-not-is_good c = let e : good_soc c.args.s ≡ false = sym c.is_good.ensures ∙ c.if-not-is_good.true in
-    (c.refused_write.ensures ∙ simp e, simp e)
+    (rw (c.at.ensures, e), simp e)
 
 pub put_soc-n-requires : goal.put_soc-n-requires
 put_soc-n-requires c = (good (goal.at.put_soc-n-requires c).Else-not-is_good, fits text_max 0 (written_soc c.args.s) (written-short c.args.s (good (goal.at.put_soc-n-requires c).Else-not-is_good)))

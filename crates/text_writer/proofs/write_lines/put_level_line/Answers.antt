@@ -1,5 +1,4 @@
 -- `text_writer::write_lines::put_level_line` meets its contract: each call puts what is due behind the call before it. Assumes nothing.
-use native.Mathlib.Omega.{arith}
 use mathlib.Core.List.{[], ◌∷◌, ◌++◌}
 use Rattle.fields.specs.Bytes.{bytes, lf}
 use Rattle.fields.specs.WrittenLines.{decimal, written_lines}
@@ -32,7 +31,7 @@ due c = let d = c.args.d in
     due-put (bytes " :") _ d6 c.put_bytes-h.ensures
 
 pub put_lengths-i-requires : goal.put_lengths-i-requires
-put_lengths-i-requires c = (omega (arith, c.requires.0), due-room (spaced_lengths (chains_of c.args.d)) _ (due (goal.at.put_lengths-i-requires c).After-put_bytes-h))
+put_lengths-i-requires c = due-room (spaced_lengths (chains_of c.args.d)) _ (due (goal.at.put_lengths-i-requires c).After-put_bytes-h)
 
 pub returns : goal.returns
 returns c = let d8 = due-next (spaced_lengths (chains_of c.args.d)) _ (due (goal.at.returns c).After-put_bytes-h) c.put_lengths-i.ensures in
