@@ -5,12 +5,13 @@ use mathlib.Core.Path.{◌≡◌, refl, sym, ◌∙◌}
 use mathlib.Core.Bool.{Bool, true, false, cond}
 use mathlib.Core.List.{List, [], ◌∷◌}
 use native.Mathlib.Omega.{arith}
-use native.Mathlib.Numerals.{add-one}
 use lib.Dec.{leb, ltb}
 use lib.ListN.{length, get_or, drop, set, replicate, length-set, drop_of_length-le}
 use lib.Seq.{drop-cons}
 use borrow.Author.Count.{below_more}
 use borrow.Author.Tests.{ltb-true, ltb-false, leb-true, leb-false, lt-ltb, le-ltb, le-leb, lt-leb}
+use Rattle.std.specs.List.{fold, reduce}
+use Rattle.std.specs.Option.{unwrap_or}
 use Rattle.wrapper_fit.specs.Fit.{longest, total, better, best_from, goes, placed, with_cells}
 
 -- what both ways have, the answer has
@@ -18,14 +19,16 @@ either : {A : Type 0} (P : A → Type 0) (t : Bool) (a b : A) → (t ≡ true �
 either P true a b f g = f refl
 either P false a b f g = g refl
 
--- the longest of those passed and those to come
-pub longest_step : (l : List ℕ) (i m : ℕ) → i < length l → max m (longest (drop i l)) ≡ max (max m (get_or l i 0)) (longest (drop (i + 1) l))
+-- the longest is the largest of the lengths, or 0
+fold-longest : (a : ℕ) (l : List ℕ) → fold max a l ≡ max a (longest l)
 unfolding longest
-longest_step l i m h = rw (add-one, drop-cons l i 0 h) (omega arith)
+fold-longest a [] = omega arith
+fold-longest a (x ∷ l) = omega (arith, fold-longest (max a x) l)
 
-pub longest-end : (l : List ℕ) (i m : ℕ) → length l ≤ i → max m (longest (drop i l)) ≡ m
+pub largest-longest : (l : List ℕ) → unwrap_or (reduce max l) 0 ≡ longest l
 unfolding longest
-longest-end l i m h = rw (drop_of_length-le l h) (omega arith)
+largest-longest [] = refl
+largest-longest (x ∷ l) = fold-longest x l
 
 pub longest-at : (l : List ℕ) (i : ℕ) → get_or l i 0 ≤ longest l
 unfolding longest

@@ -12,26 +12,18 @@ use super::maxima::WIDTH_PLACES;
 pub fn longest_of(l: &[u64]) -> u64
     ensures { result ≡ longest l.now }
 {
-    let mut m: u64 = 0;
-    let mut i: usize = 0;
-    while i < l.len() {
-        let x = l[i];
-        if m < x {
-            m = x;
-        }
-        i += 1;
-    }
-    m
+    l.iter().copied().max().unwrap_or(0)
 }
 
+#[tactic(auto, unfolding(crate::specs::Fit::better))]
 fn is_better(n: u64, m: u64, x: u64, y: u64) -> bool
     requires { (x + n < 18446744073709551616) × (y + n < 18446744073709551616) }
     ensures { result ≡ better n m x y }
 {
-    if y + n <= m {
-        if x + n <= m { x < y } else { true }
-    } else {
-        if x + n <= m { false } else { y < x }
+    match (x + n <= m, y + n <= m) {
+        (true, true) => x < y,
+        (false, false) => y < x,
+        (_, y_fits) => y_fits,
     }
 }
 
@@ -40,21 +32,13 @@ pub fn goes_to(l: &[u64], n: u64, m: u64) -> usize
     requires { (m ≡ longest l.now) × (longest l.now + n < 18446744073709551616) }
     ensures { result ≡ goes n l.now }
 {
-    if l.len() == 0 {
-        return 0;
-    }
-    let mut i: usize = 0;
-    let mut x = l[0];
-    let mut j: usize = 1;
-    while j < l.len() {
-        let y = l[j];
-        if is_better(n, m, x, y) {
-            i = j;
-            x = y;
+    let mut best: usize = 0;
+    for j in 1..l.len() {
+        if is_better(n, m, l[best], l[j]) {
+            best = j;
         }
-        j += 1;
     }
-    i
+    best
 }
 
 // The longest of k wrapper chains that start empty, after elements of these lengths were put in their places, one after another. Where
@@ -68,16 +52,11 @@ pub fn longest_with(chains: &[u64], k: usize) -> u64
     }
     let mut lengths = [0u64; WIDTH_PLACES];
     let mut m: u64 = 0;
-    let mut i: usize = 0;
-    while i < chains.len() {
-        let n = chains[i];
+    for &n in chains {
         let at = goes_to(&lengths[..k], n, m);
         let x = lengths[at] + n;
         lengths[at] = x;
-        if m < x {
-            m = x;
-        }
-        i += 1;
+        m = m.max(x);
     }
     m
 }
@@ -87,6 +66,6 @@ pub fn longest_after(m: u64, t: u64, n: u64, k: u64) -> u64
     requires { (0 < k) × (k ≤ width_max) × (t + n + k < 18446744073709551616) }
     ensures { result ≡ evened m t n k }
 {
-    let even = (t + n + (k - 1)) / k;
-    if m < even { even } else { m }
+    let even = (t + n).div_ceil(k);
+    m.max(even)
 }

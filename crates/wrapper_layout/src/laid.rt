@@ -31,13 +31,12 @@ pub struct WrapperLayout {
 }
 
 // The lengths with n cells in their places in the first k wrapper chains.
-fn with_cells(lengths: [u64; WIDTH_PLACES], k: usize, n: u64) -> [u64; WIDTH_PLACES]
+fn with_cells(mut lengths: [u64; WIDTH_PLACES], k: usize, n: u64) -> [u64; WIDTH_PLACES]
     requires { (0 < k) × (k ≤ width_max) × (longest (take k lengths) + n < 18446744073709551616) }
     ensures { result ≡ with_cells n (take k lengths) ++ drop k lengths }
 {
-    let mut after = lengths;
-    add_cells(&mut after[..k], n);
-    after
+    add_cells(&mut lengths[..k], n);
+    lengths
 }
 
 // By how much each length grew.
@@ -45,12 +44,8 @@ fn gained_by(before: [u64; WIDTH_PLACES], after: [u64; WIDTH_PLACES]) -> [u64; W
     ensures { result ≡ gained before after }
 {
     let mut cells = [0u64; WIDTH_PLACES];
-    let mut i: usize = 0;
-    while i < WIDTH_PLACES {
-        let x = before[i];
-        let y = after[i];
-        cells[i] = if x < y { y - x } else { 0 };
-        i += 1;
+    for i in 0..WIDTH_PLACES {
+        cells[i] = after[i].saturating_sub(before[i]);
     }
     cells
 }
@@ -60,10 +55,8 @@ fn flip_flops_of(lengths: [u64; WIDTH_PLACES]) -> [FlipFlops; WIDTH_PLACES]
     ensures { result ≡ map flip_flops lengths }
 {
     let mut f = [FlipFlops(0); WIDTH_PLACES];
-    let mut i: usize = 0;
-    while i < WIDTH_PLACES {
-        f[i] = FlipFlops(lengths[i] as u32);
-        i += 1;
+    for (i, n) in lengths.iter().enumerate() {
+        f[i] = FlipFlops(*n as u32);
     }
     f
 }

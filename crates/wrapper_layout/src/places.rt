@@ -34,10 +34,8 @@ pub(crate) fn add_cells(l: &mut [u64], n: u64)
     requires { (0 < length l.old) × (longest l.old + n < 18446744073709551616) }
     ensures { l.new ≡ with_cells n l.old }
 {
-    let mut i: u64 = 0;
-    while i < n {
+    for _ in 0..n {
         place(&mut *l, 1);
-        i += 1;
     }
 }
 
@@ -46,16 +44,11 @@ pub(crate) fn thread_chains(o: Order, k: usize) -> Threading
     requires { (0 < k) × (k ≤ width_max) × Threadable o }
     ensures { result ≡ threading_of (thread (front o) (empty k)) }
 {
-    let count = o.count;
     let mut lengths = [0u64; WIDTH_PLACES];
     let mut places = [0usize; CHAINS_MAX];
-    let mut i: usize = 0;
-    while i < count {
-        let c = o.chains[i];
+    for c in &o.chains[..o.count] {
         let at = place(&mut lengths[..k], c.length);
-        let number = c.number;
-        places[number] = at + 1;
-        i += 1;
+        places[c.number] = at + 1;
     }
     Threading { lengths, places }
 }

@@ -22,12 +22,12 @@ pub fn scan_at(d: Module, c: ChainLengths, k: usize) -> Scan
     requires { (0 < k) × (k ≤ width_max) × Measured c }
     ensures { result ≡ scan_of d c k }
 {
-    let count = c.count;
-    let lengths = c.lengths;
-    let m = longest_with(&lengths[..count], k);
+    let m = longest_with(&c.lengths[..c.count], k);
+    let k = k as u64;
+    let bidirs = u64::from(d.bidirs);
     Scan {
-        si: longest_after(m, c.total, d.inputs as u64 + d.bidirs as u64, k as u64),
-        so: longest_after(m, c.total, d.outputs as u64 + d.bidirs as u64, k as u64),
+        si: longest_after(m, c.total, u64::from(d.inputs) + bidirs, k),
+        so: longest_after(m, c.total, u64::from(d.outputs) + bidirs, k),
     }
 }
 
@@ -36,11 +36,10 @@ pub fn cycles_of(s: Scan, patterns: u32, capture: u32) -> u64
     requires { Short s × (patterns ≤ patterns_max) × (capture ≤ capture_max) }
     ensures { result ≡ test_cycles capture s.si s.so patterns }
 {
-    let p = patterns as u64;
-    let captured = (capture as u64) * p;
-    if s.si < s.so {
-        captured + s.so * p + s.si
-    } else {
-        captured + s.si * p + s.so
-    }
+    let p = u64::from(patterns);
+    let each = u64::from(capture);
+    let captured = each * p;
+    let longer = s.si.max(s.so);
+    let shorter = s.si.min(s.so);
+    captured + longer * p + shorter
 }

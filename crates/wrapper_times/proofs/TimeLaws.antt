@@ -10,6 +10,7 @@ use lib.ListN.{length, get_or, drop, replicate, length-take, set, length-map, dr
 use lib.Seq.{get_or-take, drop-cons, get_or_at}
 use lib.Dec.{ltb}
 use borrow.Author.Tests.{lt-ltb, le-ltb}
+use Rattle.std.specs.Prelude.{Some, None, IfSome}
 use Rattle.units.specs.Places.{any_of, padded}
 use Rattle.units.proofs.PlaceLaws.{padded-set}
 use Rattle.soc.specs.Limits.{patterns_max}
@@ -18,21 +19,30 @@ use Rattle.soc.specs.declared.record.Test.{Test}
 use Rattle.soc.specs.declared.record.Module.{Module}
 use Rattle.wrapper_fit.specs.Maxima.{test_time_max, module_time_max, width_max, capture_max}
 use Rattle.wrapper_scans.specs.Chains.{used_chains}
-use Rattle.wrapper_scans.specs.Held.{chain_lengths}
+use Rattle.wrapper_scans.specs.Held.{chain_lengths, Measured}
 use Rattle.wrapper_scans.specs.Scans.{scan_with, Short, Kept}
 use Rattle.wrapper_scans.specs.TestTimes.{scan_in, scan_out, test_cycles, test_time}
 use Rattle.wrapper_scans.specs.declared.scans.Scan.{Scan}
-use Rattle.wrapper_scans.proofs.KeptLaws.{short-scan}
+use Rattle.wrapper_scans.proofs.KeptLaws.{short-scan, kept_measured}
 use Rattle.wrapper_scans.proofs.TestTimeLaws.{cycles-most, scan-is, test-most}
-use Rattle.wrapper_times.specs.Sums.{scan_if, scan_needed, planned_with, planned_cycles, sum_scans}
+use Rattle.wrapper_times.specs.Sums.{needed, scan_if, scan_needed, planned_with, planned_cycles, sum_scans}
 use Rattle.wrapper_times.specs.Times.{sum_times, figure, Best, best_to, module_best}
 use Rattle.wrapper_times.specs.TimeAnswers.{bests_from}
 
-pub short-scan_if : (needed : Bool) (d : Module) (scan : Bool) (w : ℕ) → Kept d
-    → Short (scan_if needed d (chain_lengths (used_chains d scan)) w)
+pub short-scan_needed : (d : Module) (scan : Bool) (w : ℕ) → Kept d → Short (scan_needed d scan w)
 unfolding scan_if
-short-scan_if true d scan w k = short-scan d scan w k
-short-scan_if false d scan w k = record { si = omega arith; so = omega arith }
+short-scan_needed d scan w k = go (any_of (planned_with scan) (tests_of d))
+  where
+    go : (x : Bool) → Short (scan_if d (cond x (Some (chain_lengths (used_chains d scan))) None) w)
+    go true = short-scan d scan w k
+    go false = record { si = omega arith; so = omega arith }
+
+pub needed_measured : (d : Module) (scan : Bool) → Kept d → IfSome (needed d scan) Measured
+needed_measured d scan k = go (any_of (planned_with scan) (tests_of d))
+  where
+    go : (x : Bool) → IfSome (cond x (Some (chain_lengths (used_chains d scan))) None) Measured
+    go true = kept_measured d scan k
+    go false = tt
 
 pub planned-most : (c : ℕ) (a b : Scan) (t : Test) → c ≤ capture_max → Short a → Short b → t.patterns ≤ 16777215
     → planned_cycles c a b t ≤ test_time_max
@@ -59,14 +69,15 @@ sum-most c d w (t ∷ ts) l k h =
     go true a b = omega arith
     go false a b = omega arith
 
+pub few-patterns : (d : Module) → Kept d → (i : ℕ) → i < length (tests_of d) → (get_or (tests_of d) i no_test).patterns ≤ patterns_max
+few-patterns d k i h =
+    let n : i < d.test_count = omega (arith, length-take d.test_count d.tests) in
+    rw (get_or-take d.test_count d.tests i no_test n) (k.patterns i)
+
 pub module_most : (c : ℕ) (d : Module) (w : ℕ) → c ≤ capture_max → Kept d → figure c d w ≤ module_time_max
 unfolding figure
-module_most c d w l k = omega (arith, sum-most c d w (tests_of d) l k few, length-take d.test_count d.tests, k.tests)
-  where
-    few : (i : ℕ) → i < length (tests_of d) → (get_or (tests_of d) i no_test).patterns ≤ patterns_max
-    few i h =
-        let n : i < d.test_count = omega (arith, length-take d.test_count d.tests) in
-        rw (get_or-take d.test_count d.tests i no_test n) (k.patterns i)
+module_most c d w l k =
+    omega (arith, sum-most c d w (tests_of d) l k (few-patterns d k), length-take d.test_count d.tests, k.tests)
 
 -- the sum over the tests with TamUse 1, by the scan lengths with chains and without
 sum_scans_lem : (c : ℕ) (d : Module) (w : ℕ) (ts : List Test)
@@ -116,17 +127,15 @@ same_sum c a b a' b' (t ∷ ts) e f =
           (λ h. f (or_second (planned_with false t) (any_of (planned_with false) ts) h)),
     )
 
-if_needed : (needed : Bool) (d : Module) (scan : Bool) (w : ℕ) → needed ≡ true
-    → scan_if needed d (chain_lengths (used_chains d scan)) w ≡ scan_with d scan w
+if_needed : (d : Module) (scan : Bool) (w : ℕ) → any_of (planned_with scan) (tests_of d) ≡ true → scan_needed d scan w ≡ scan_with d scan w
 unfolding scan_if
-if_needed needed d scan w e = rw e
+if_needed d scan w e = rw e
 
 -- a module's figure, where each scan is computed only if a test needs it
 pub figure_scans : (c : ℕ) (d : Module) (w : ℕ) → sum_scans c (scan_needed d true w) (scan_needed d false w) (tests_of d) ≡ figure c d w
 unfolding figure
 figure_scans c d w =
-    same_sum c _ _ _ _ (tests_of d) (if_needed (any_of (planned_with true) (tests_of d)) d true w)
-    (if_needed (any_of (planned_with false) (tests_of d)) d false w)
+    same_sum c _ _ _ _ (tests_of d) (if_needed d true w) (if_needed d false w)
     ∙ sum_scans_lem c d w (tests_of d)
 
 -- a loop over the tests

@@ -1,5 +1,5 @@
 -- How a module's figure is computed: scan lengths with chains and without, each at most once for a width.
-use Rattle.std.specs.Prelude.{ℕ, ◌+◌, Bool, true, false, cond, ◌&&◌, List, [], ◌∷◌}
+use Rattle.std.specs.Prelude.{ℕ, ◌+◌, Bool, true, false, cond, ◌&&◌, List, [], ◌∷◌, Option, Some, None}
 use Rattle.std.specs.Bool.{beq}
 use Rattle.units.specs.Places.{any_of}
 use Rattle.soc.specs.Record.{tests_of}
@@ -20,13 +20,17 @@ planned_with scan t = t.tam_use && beq t.scan_use scan
 abbrev pub no_scan : Scan
 no_scan = record { si = 0; so = 0 }
 
-unfoldable pub scan_if : Bool → Module → ChainLengths → ℕ → Scan
-scan_if true d c k = scan_of d c k
-scan_if false d c k = no_scan
+-- the chains' lengths, where a test with TamUse 1 has this ScanUse
+abbrev pub needed : Module → Bool → Option ChainLengths
+needed d scan = cond (any_of (planned_with scan) (tests_of d)) (Some (chain_lengths (used_chains d scan))) None
+
+unfoldable pub scan_if : Module → Option ChainLengths → ℕ → Scan
+scan_if d (Some c) k = scan_of d c k
+scan_if d None k = no_scan
 
 -- with them, where a test with TamUse 1 needs it
 abbrev pub scan_needed : Module → Bool → ℕ → Scan
-scan_needed d scan k = scan_if (any_of (planned_with scan) (tests_of d)) d (chain_lengths (used_chains d scan)) k
+scan_needed d scan k = scan_if d (needed d scan) k
 
 -- a test's cycles where the scan lengths are known; 0 with TamUse 0
 unfoldable pub planned_cycles : ℕ → Scan → Scan → Test → ℕ
@@ -40,10 +44,4 @@ sum_scans c a b [] = 0
 sum_scans c a b (t ∷ ts) = planned_cycles c a b t + sum_scans c a b ts
 
 abbrev pub plain_of : Module → Plain
-plain_of d =
-    record {
-      with = chain_lengths (used_chains d true);
-      without = chain_lengths (used_chains d false);
-      needs_with = any_of (planned_with true) (tests_of d);
-      needs_without = any_of (planned_with false) (tests_of d);
-    }
+plain_of d = record { with = needed d true; without = needed d false }

@@ -1,6 +1,6 @@
 // A module's time and wires (document 01, "The wrapper rule"; document 02, item 5): the least figure at any width up to the bus's, and the
 // smallest such width.
-ghost use Rattle.std.specs.Prelude.{◌≡◌, true, false, ◌≤◌, ◌<◌};
+ghost use Rattle.std.specs.Prelude.{◌≡◌, true, false, ◌≤◌, ◌<◌, IfSome};
 ghost use Rattle.units.specs.Places.{any_of};
 ghost use Rattle.soc.specs.Limits.{patterns_max};
 ghost use Rattle.soc.specs.Record.{tests_of};
@@ -9,7 +9,7 @@ ghost use Rattle.wrapper_scans.specs.Held.{Measured};
 ghost use Rattle.wrapper_scans.specs.Scans.{Short, Kept};
 ghost use Rattle.wrapper_times.specs.Times.{figure};
 ghost use Rattle.wrapper_times.specs.TimeAnswers.{times_of};
-ghost use Rattle.wrapper_times.specs.Sums.{planned_with, sum_scans, planned_cycles, scan_if, plain_of};
+ghost use Rattle.wrapper_times.specs.Sums.{planned_with, sum_scans, planned_cycles, needed, scan_if, plain_of};
 
 use soc::{Module, Test};
 use units::{Cycles, Wires};
@@ -24,36 +24,26 @@ pub struct Times {
 }
 
 // Whether a test with TamUse 1 has this ScanUse.
+#[tactic(auto, unfolding(units::specs::Places::any_of))]
 fn is_planned_with(d: Module, scan: bool) -> bool
     requires { Kept d }
     ensures { result ≡ any_of (planned_with scan) (tests_of d) }
 {
-    let n = d.test_count;
-    let mut i: usize = 0;
-    while i < n {
-        let t = d.tests[i];
-        if t.tam_use {
-            if t.scan_use == scan {
-                return true;
-            }
-        }
-        i += 1;
-    }
-    false
+    d.tests[..d.test_count]
+        .iter()
+        .any(|t| t.tam_use && t.scan_use == scan)
 }
 
 // A test's cycles where the scan lengths with chains and without are known; 0 with TamUse 0.
+#[tactic(auto, unfolding(crate::specs::Sums::planned_cycles))]
 fn planned_cycles(t: Test, with: Scan, without: Scan, capture: u32) -> u64
     requires { Short with × Short without × (t.patterns ≤ patterns_max) × (capture ≤ capture_max) }
     ensures { result ≡ planned_cycles capture with without t }
 {
-    if !t.tam_use {
-        return 0;
-    }
-    if t.scan_use {
-        cycles_of(with, t.patterns, capture)
-    } else {
-        cycles_of(without, t.patterns, capture)
+    match (t.tam_use, t.scan_use) {
+        (true, true) => cycles_of(with, t.patterns, capture),
+        (true, false) => cycles_of(without, t.patterns, capture),
+        (false, _) => 0,
     }
 }
 
@@ -61,36 +51,42 @@ fn sum_of(d: Module, with: Scan, without: Scan, capture: u32) -> u64
     requires { Kept d × Short with × Short without × (capture ≤ capture_max) }
     ensures { result ≡ sum_scans capture with without (tests_of d) }
 {
-    let n = d.test_count;
     let mut sum: u64 = 0;
-    let mut i: usize = 0;
-    while i < n {
-        let t = d.tests[i];
-        sum += planned_cycles(t, with, without, capture);
-        i += 1;
+    for t in &d.tests[..d.test_count] {
+        sum += planned_cycles(*t, with, without, capture);
     }
     sum
 }
 
-// The scan lengths, where they are needed.
-fn scan_if(needed: bool, d: Module, c: ChainLengths, k: usize) -> Scan
-    requires { (0 < k) × (k ≤ width_max) × Measured c }
-    ensures { result ≡ scan_if needed d c k }
+// The lengths of the chains that tests with TamUse 1 and this ScanUse use, where there are such tests.
+fn needed(d: Module, scan: bool) -> Option<ChainLengths>
+    requires { Kept d }
+    ensures { result ≡ needed d scan }
 {
-    if needed {
-        scan_at(d, c, k)
+    if is_planned_with(d, scan) {
+        Some(lengths_of(d, scan))
     } else {
-        Scan { si: 0, so: 0 }
+        None
     }
 }
 
-// What the figures of a module at all widths have in common: its chains' lengths in order, and which scan lengths are needed.
+// The scan lengths, where they are needed.
+#[tactic(auto, unfolding(crate::specs::Sums::scan_if))]
+fn scan_if(d: Module, c: Option<ChainLengths>, k: usize) -> Scan
+    requires { (0 < k) × (k ≤ width_max) × IfSome c Measured }
+    ensures { result ≡ scan_if d c k }
+{
+    match c {
+        Some(c) => scan_at(d, c, k),
+        None => Scan { si: 0, so: 0 },
+    }
+}
+
+// What the figures of a module at all widths have in common: its chains' lengths in order, for tests with chains and for those without.
 #[derive(Clone, Copy)]
 pub struct Plain {
-    pub with: ChainLengths,
-    pub without: ChainLengths,
-    pub needs_with: bool,
-    pub needs_without: bool,
+    pub with: Option<ChainLengths>,
+    pub without: Option<ChainLengths>,
 }
 
 fn plain_of(d: Module) -> Plain
@@ -98,10 +94,8 @@ fn plain_of(d: Module) -> Plain
     ensures { result ≡ plain_of d }
 {
     Plain {
-        with: lengths_of(d, true),
-        without: lengths_of(d, false),
-        needs_with: is_planned_with(d, true),
-        needs_without: is_planned_with(d, false),
+        with: needed(d, true),
+        without: needed(d, false),
     }
 }
 
@@ -109,11 +103,9 @@ fn figure_at(d: Module, p: Plain, k: usize, capture: u32) -> u64
     requires { Kept d × (p ≡ plain_of d) × (0 < k) × (k ≤ width_max) × (capture ≤ capture_max) }
     ensures { result ≡ figure capture d k }
 {
-    let with = p.with;
-    let without = p.without;
-    let a = scan_if(p.needs_with, d, with, k);
-    let b = scan_if(p.needs_without, d, without, k);
-    sum_of(d, a, b, capture)
+    let with = scan_if(d, p.with, k);
+    let without = scan_if(d, p.without, k);
+    sum_of(d, with, without, capture)
 }
 
 // The times and wires at the widths 1 to w, each figure computed once.
@@ -128,8 +120,7 @@ pub(crate) fn times_of(d: Module, w: usize, capture: u32) -> Times
     let mut at: u32 = 1;
     cycles[0] = Cycles(best);
     wires[0] = Wires(at);
-    let mut u: usize = 1;
-    while u < w {
+    for u in 1..w {
         let f = figure_at(d, p, u + 1, capture);
         if f < best {
             best = f;
@@ -137,7 +128,6 @@ pub(crate) fn times_of(d: Module, w: usize, capture: u32) -> Times
         }
         cycles[u] = Cycles(best);
         wires[u] = Wires(at);
-        u += 1;
     }
     Times { cycles, wires }
 }

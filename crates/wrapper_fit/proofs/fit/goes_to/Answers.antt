@@ -12,15 +12,10 @@ use Rattle.wrapper_fit.proofs.FitLaws.{longest-at}
 use Rattle.wrapper_fit.proofs.fit.goes_to.Goals as goal
 use Rattle.wrapper_fit.proofs.fit.goes_to.Goals.{then-is_better, else-is_better}
 
-goes_none : (n : ℕ) (l : List ℕ) → length l ≡ 0 → goes n l ≡ 0
-unfolding goes
-goes_none n [] e = refl
-goes_none n (x ∷ l) e = omega arith
-
-goes-start : (n : ℕ) (l : List ℕ) → 0 < length l → goes n l ≡ best_from (better n (longest l)) 0 (get_or l 0 0) 1 (drop 1 l)
-unfolding goes
-goes-start n [] h = omega arith
-goes-start n (x ∷ l) h = refl
+goes-start : (n : ℕ) (l : List ℕ) → goes n l ≡ best_from (better n (longest l)) 0 (get_or l 0 0) 1 (drop 1 l)
+unfolding goes best_from
+goes-start n [] = refl
+goes-start n (x ∷ l) = refl
 
 module _ (b : ℕ → ℕ → Bool) (i x j : ℕ) (l : List ℕ) where
   best-found : j < length l → b x (get_or l j 0) ≡ true → best_from b i x j (drop j l) ≡ best_from b j (get_or l j 0) (j + 1) (drop (j + 1) l)
@@ -35,30 +30,26 @@ module _ (b : ℕ → ℕ → Bool) (i x j : ℕ) (l : List ℕ) where
   unfolding best_from
   best-end h = rw (drop_of_length-le l h)
 
-pub returns-then-l-eq0 : goal.returns-then-l-eq0
-returns-then-l-eq0 c = sym (goes_none c.args.n c.args.l.now c.if-l-eq0.true)
-
 pub loop-j-init : goal.loop-j-init
-loop-j-init c = (longest-at c.args.l.now 0, goes-start c.args.n c.args.l.now (omega arith))
+loop-j-init c = (omega arith, goes-start c.args.n c.args.l.now)
 
 pub is_better-requires : goal.is_better-requires
-is_better-requires c = omega (arith, c.loop-j.invariant.0, c.requires.1, longest-at c.args.l.now c.loop-j.j)
+is_better-requires c = let xs = c.args.l.now in omega (arith, c.requires.1, longest-at xs c.loop-j.best, longest-at xs c.loop-j.j)
 
 pub loop-j-preserved : goal.loop-j-preserved
 loop-j-preserved c = let xs = c.args.l.now in
+    let i = c.loop-j.best in
+    let j = c.loop-j.j in
     let b = better c.args.n (longest xs) in
-    let m : c.args.m ≡ longest xs = c.requires.0 in
-    let e : c.is_better.result ≡ b c.loop-j.x (get_or xs c.loop-j.j 0) =
-    c.is_better.ensures ∙ ap (λ k. better c.args.n k c.loop-j.x (get_or xs c.loop-j.j 0)) m
+    let e : c.is_better.result ≡ b (get_or xs i 0) (get_or xs j 0) =
+    c.is_better.ensures ∙ ap (λ k. better c.args.n k (get_or xs i 0) (get_or xs j 0)) c.requires.0
     in
-    let h : c.loop-j.j < length xs = c.loop-j-test.true in
+    let k = c.loop-j.invariant.1 in
     (elim c.if-is_better.branch [
-      | then-is_better w ↦ let f = best-found b c.loop-j.i c.loop-j.x c.loop-j.j xs h (sym e ∙ w.if-is_better.true) in
-          rw (w.i-is, w.x-is) (longest-at xs c.loop-j.j, c.loop-j.invariant.1 ∙ f)
-      | else-is_better w ↦ let f = best_stays b c.loop-j.i c.loop-j.x c.loop-j.j xs h (sym e ∙ w.if-is_better.false) in
-          rw (w.i-is, w.x-is) (c.loop-j.invariant.0, c.loop-j.invariant.1 ∙ f)
+      | then-is_better w ↦ rw w.best-is (omega arith, k ∙ best-found b i (get_or xs i 0) j xs c.loop-j-test.true (sym e ∙ w.if-is_better.true))
+      | else-is_better w ↦ rw w.best-is (omega arith, k ∙ best_stays b i (get_or xs i 0) j xs c.loop-j-test.true (sym e ∙ w.if-is_better.false))
     ])
 
 pub returns : goal.returns
 returns c = let xs = c.args.l.now in
-    sym (c.loop-j.invariant.1 ∙ best-end (better c.args.n (longest xs)) c.loop-j.i c.loop-j.x c.loop-j.j xs c.loop-j-test.false)
+    sym (c.loop-j.invariant.1 ∙ best-end (better c.args.n (longest xs)) c.loop-j.best (get_or xs c.loop-j.best 0) c.loop-j.j xs c.loop-j-test.false)

@@ -13,26 +13,15 @@ use Rattle.wrapper_layout.proofs.laid.flip_flops_of.Goals.{Start}
 len : (c : Start) → length c.args.lengths ≡ 64
 len c = search rules
 
-pub loop-i-init : goal.loop-i-init
-loop-i-init c = (omega arith, refl)
-
-pub overflow_cast-f : goal.overflow_cast-f
-overflow_cast-f c = omega (arith, c.requires c.loop-i.i)
-
-pub loop-i-smaller : goal.loop-i-smaller
-loop-i-smaller c = omega arith
-
 pub loop-i-preserved : goal.loop-i-preserved
 loop-i-preserved c = let xs = c.args.lengths in
     let i = c.loop-i.i in
     let h : i < length (map flip_flops xs) = simp length-map (omega (arith, len (goal.at.loop-i-preserved c).Start, c.loop-i-test.true)) in
-    let e : flip_flops (get_or xs i 0) ≡ get_or (map flip_flops xs) i (flip_flops 0) = sym (get_or-map flip_flops xs i 0) in (
-      omega arith,
-      ap (λ y. set c.loop-i.f i y) e ∙ ap (λ fs. set fs i (get_or (map flip_flops xs) i (flip_flops 0))) c.loop-i.invariant.1
-          ∙ over-set (flip_flops 0) (map flip_flops xs) (replicate 64 (flip_flops 0)) i h c.loop-i-test.true,
-    )
+    let e : flip_flops (get_or xs i 0) ≡ get_or (map flip_flops xs) i (flip_flops 0) = sym (get_or-map flip_flops xs i 0) in
+    ap (λ y. set c.loop-i.f i y) e ∙ ap (λ fs. set fs i (get_or (map flip_flops xs) i (flip_flops 0))) c.loop-i.invariant
+    ∙ over-set (flip_flops 0) (map flip_flops xs) (replicate 64 (flip_flops 0)) i h (omega (arith, len (goal.at.loop-i-preserved c).Start, c.loop-i-test.true))
 
 pub returns : goal.returns
 returns c = let xs = c.args.lengths in
     let n : length (map flip_flops xs) ≤ c.loop-i.i = simp length-map (omega (arith, len (goal.at.returns c).Start, c.loop-i-test.false)) in
-    c.loop-i.invariant.1 ∙ over-end (map flip_flops xs) (replicate 64 (flip_flops 0)) c.loop-i.i n c.loop-i-test.false
+    c.loop-i.invariant ∙ over-end (map flip_flops xs) (replicate 64 (flip_flops 0)) c.loop-i.i n (omega (arith, len (goal.at.returns c).Start, c.loop-i-test.false))

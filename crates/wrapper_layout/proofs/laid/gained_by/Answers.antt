@@ -8,7 +8,7 @@ use Rattle.wrapper_scans.proofs.ChainLaws.{over-set, over-end}
 use Rattle.wrapper_layout.specs.LayoutAnswers.{gained}
 use Rattle.wrapper_layout.proofs.LaidLaws.{gained-at, gained-length}
 use Rattle.wrapper_layout.proofs.laid.gained_by.Goals as goal
-use Rattle.wrapper_layout.proofs.laid.gained_by.Goals.{Joined-x-y, Start, then-x-y, else-x-y}
+use Rattle.wrapper_layout.proofs.laid.gained_by.Goals.{Start}
 
 before-long : (c : Start) → length c.args.before ≡ 64
 before-long c = search rules
@@ -19,17 +19,6 @@ after-long c = search rules
 grown-long : (c : Start) → length (gained c.args.before c.args.after) ≡ 64
 grown-long c = gained-length c.args.before c.args.after (before-long c ∙ sym (after-long c)) ∙ before-long c
 
--- by how much the place of this turn grew
-grew : (c : Joined-x-y) →
-    c.if-x-y.cells ≡ get_or c.args.after c.loop-i.i 0 - get_or c.args.before c.loop-i.i 0
-grew c = (elim c.if-x-y.branch [ then-x-y w ↦ w.cells-is | else-x-y w ↦ w.cells-is ∙ omega (arith, w.if-x-y.false) ])
-
-pub loop-i-init : goal.loop-i-init
-loop-i-init c = (omega arith, refl)
-
-pub loop-i-smaller : goal.loop-i-smaller
-loop-i-smaller c = omega arith
-
 pub loop-i-preserved : goal.loop-i-preserved
 loop-i-preserved c = let xs = c.args.before in
     let ys = c.args.after in
@@ -37,14 +26,12 @@ loop-i-preserved c = let xs = c.args.before in
     let a : i < length xs = omega (arith, before-long (goal.at.loop-i-preserved c).Start, c.loop-i-test.true) in
     let b : i < length ys = omega (arith, after-long (goal.at.loop-i-preserved c).Start, c.loop-i-test.true) in
     let h : i < length (gained xs ys) = omega (arith, grown-long (goal.at.loop-i-preserved c).Start, c.loop-i-test.true) in
-    let e : c.if-x-y.cells ≡ get_or (gained xs ys) i 0 = grew c ∙ sym (gained-at xs ys i a b) in (
-      omega arith,
-      ap (λ x. set c.loop-i.cells i x) e
-          ∙ ap (λ x. set x i (get_or (gained xs ys) i 0)) c.loop-i.invariant.1
-          ∙ over-set 0 (gained xs ys) (replicate 64 0) i h c.loop-i-test.true,
-    )
+    let e : c.saturating_sub.result ≡ get_or (gained xs ys) i 0 = c.saturating_sub.ensures ∙ sym (gained-at xs ys i a b) in
+    ap (λ x. set c.loop-i.cells i x) e
+    ∙ ap (λ x. set x i (get_or (gained xs ys) i 0)) c.loop-i.invariant
+    ∙ over-set 0 (gained xs ys) (replicate 64 0) i h c.loop-i-test.true
 
 pub returns : goal.returns
-returns c = c.loop-i.invariant.1
+returns c = c.loop-i.invariant
     ∙ over-end (gained c.args.before c.args.after) (replicate 64 0) c.loop-i.i (omega (arith, grown-long (goal.at.returns c).Start, c.loop-i-test.false))
     c.loop-i-test.false

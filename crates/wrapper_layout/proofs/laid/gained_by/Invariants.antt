@@ -1,6 +1,5 @@
 -- `wrapper_layout::laid::gained_by` meets its contract. The loop's invariant: the first `i` places hold by how much they grew, and the
--- others what they held. The measure is what is left of the array. Assumes nothing.
-use Prim.Native.Nat.{◌-◌, ◌≤◌}
+-- others what they held. Assumes nothing.
 use mathlib.Core.Path.{◌≡◌}
 use mathlib.Core.List.{◌++◌}
 use lib.ListN.{take, drop}
@@ -8,7 +7,4 @@ use Rattle.wrapper_layout.specs.LayoutAnswers.{gained}
 use Rattle.wrapper_layout.proofs.laid.gained_by.Given as goal
 
 abbrev pub invariant-loop-i : goal.invariant-loop-i
-invariant-loop-i l = (l.i ≤ 64) × (l.cells ≡ take l.i (gained l.before l.after) ++ drop l.i l.initial.cells)
-
-abbrev pub decreases-loop-i : goal.decreases-loop-i
-decreases-loop-i l = 64 - l.i
+invariant-loop-i l = l.cells ≡ take l.i (gained l.before l.after) ++ drop l.i l.initial.cells

@@ -19,20 +19,18 @@ cells-end : (n i : ℕ) (l : List ℕ) → n ≤ i → with_cells (n - i) l ≡ 
 unfolding with_cells
 cells-end n i l h = let e : n - i ≡ 0 = omega arith in rw e
 
-pub loop-i-init : goal.loop-i-init
-loop-i-init c = (omega arith, refl, omega arith, cells-start c.args.n c.args.l.now)
+pub loop-init : goal.loop-init
+loop-init c = (omega arith, cells-start c.args.n c.args.l.now)
 
 pub place-requires : goal.place-requires
-place-requires c = omega (arith, c.loop-i.invariant, c.requires)
+place-requires c = omega (arith, c.loop.invariant, c.requires, c.loop.auto.l)
 
-pub loop-i-preserved : goal.loop-i-preserved
-loop-i-preserved c = let p = c.place in
-    let e : p.new.l ≡ placed 1 c.loop-i.l = p.ensures.1 in (
-      omega arith,
-      ap length e ∙ placed-length 1 c.loop-i.l ∙ c.loop-i.invariant.1,
-      rw e (omega (arith, c.loop-i.invariant.2, longest-placed 1 c.loop-i.l)),
-      c.loop-i.invariant.3 ∙ rw e (cells-step c.args.n c.loop-i.i c.loop-i.l (omega arith)),
+pub loop-preserved : goal.loop-preserved
+loop-preserved c =
+    let e : c.place.new.l ≡ placed 1 c.loop.l = c.place.ensures.1 in (
+      rw e (omega (arith, c.loop.invariant.0, longest-placed 1 c.loop.l)),
+      c.loop.invariant.1 ∙ rw e (cells-step c.args.n c.loop.counter c.loop.l c.loop-test.true),
     )
 
 pub returns : goal.returns
-returns c = sym (c.loop-i.invariant.3 ∙ cells-end c.args.n c.loop-i.i c.loop-i.l c.loop-i-test.false)
+returns c = sym (c.loop.invariant.1 ∙ cells-end c.args.n c.loop.counter c.loop.l c.loop-test.false)

@@ -18,7 +18,7 @@ use Rattle.wrapper_scans.proofs.ChainLaws.{front_length, front_at, thread_step, 
 use Rattle.wrapper_layout.specs.Held.{threading_of}
 use Rattle.wrapper_layout.specs.declared.places.Threading.{Threading}
 use Rattle.wrapper_layout.proofs.places.thread_chains.Goals as goal
-use Rattle.wrapper_layout.proofs.places.thread_chains.Goals.{At-loop-i, Start}
+use Rattle.wrapper_layout.proofs.places.thread_chains.Goals.{At-loop-c, Start}
 
 -- nothing is threaded yet
 zeros : {A : Type 0} (k n : ℕ) (z : A) → k ≤ n → replicate n z ≡ replicate k z ++ replicate (n - k) z
@@ -49,12 +49,11 @@ len c = c.well_formed.0.1.1.1.0.1.0.1
 long : (c : Start) → length (front c.args.o) ≡ c.args.o.count
 long c = front_length c.args.o (len c) c.requires.2.count
 
-part : (c : At-loop-i) → length (take c.args.k c.loop-i.lengths) ≡ c.args.k
-part c = length-take-le c.args.k c.loop-i.lengths (omega (arith, c.requires.1, c.loop-i.invariant.1))
+part : (c : At-loop-c) → length (take c.args.k c.loop-c.lengths) ≡ c.args.k
+part c = length-take-le c.args.k c.loop-c.lengths (omega (arith, c.requires.1, c.loop-c.invariant.0))
 
-pub loop-i-init : goal.loop-i-init
-loop-i-init c = let k = c.args.k in (
-  omega arith,
+pub loop-c-init : goal.loop-c-init
+loop-c-init c = let k = c.args.k in (
   refl,
   refl,
   zeros-drop k 64 0 c.requires.1,
@@ -62,53 +61,37 @@ loop-i-init c = let k = c.args.k in (
   ap (λ l. thread (front c.args.o) (record { lengths = l; places = replicate chains_max 0 })) (sym (zeros-take k 64 0 c.requires.1)),
 )
 
-pub slice_bounds-lengths-end : goal.slice_bounds-lengths-end
-slice_bounds-lengths-end c = omega (arith, c.requires.1, c.loop-i.invariant.1)
-
-pub slice_bounds-place-end : goal.slice_bounds-place-end
-slice_bounds-place-end c = sym (part (goal.at.slice_bounds-place-end c).At-loop-i)
-
-pub place-at-requires : goal.place-at-requires
-place-at-requires c = omega
-    (arith, part (goal.at.place-at-requires c).At-loop-i, c.requires.0, c.requires.2.count, c.requires.2.length c.loop-i.i c.loop-i-test.true, c.loop-i.invariant.4)
-
 pub overflow_add-places : goal.overflow_add-places
-overflow_add-places c = let n = (get_or c.args.o.chains c.loop-i.i no_chain).length in
-    let h = goes-below n (take c.args.k c.loop-i.lengths) (omega (arith, part (goal.at.overflow_add-places c).At-loop-i, c.requires.0)) in
-    omega (arith, part (goal.at.overflow_add-places c).At-loop-i, c.requires.1, c.place-at.ensures.0, h)
+overflow_add-places c = let n = (get_or (front c.args.o) c.loop-c.c-index no_chain).length in
+    let h = goes-below n (take c.args.k c.loop-c.lengths) (omega (arith, part (goal.at.overflow_add-places c).At-loop-c, c.requires.0)) in
+    omega (arith, part (goal.at.overflow_add-places c).At-loop-c, c.requires.1, c.place-at.ensures.0, h)
 
-pub offset_bounds-places-number : goal.offset_bounds-places-number
-offset_bounds-places-number c = omega (arith, c.requires.2.number c.loop-i.i c.loop-i-test.true)
-
-pub bounds-places-number : goal.bounds-places-number
-bounds-places-number c = c.requires.2.number c.loop-i.i c.loop-i-test.true
-
-pub loop-i-preserved : goal.loop-i-preserved
-loop-i-preserved c = let k = c.args.k in
-    let i = c.loop-i.i in
+pub loop-c-preserved : goal.loop-c-preserved
+loop-c-preserved c = let k = c.args.k in
+    let i = c.loop-c.c-index in
     let o = c.args.o in
-    let ch = get_or o.chains i no_chain in
-    let ls = take k c.loop-i.lengths in
+    let ch = get_or (front o) i no_chain in
+    let ls = take k c.loop-c.lengths in
     let last = c.place-at.new.l in
-    let below : i < o.count = c.loop-i-test.true in
+    let turn : i < length (front o) = c.loop-c-test.true in
+    let below : i < o.count = omega (arith, long (goal.at.loop-c-preserved c).Start) in
+    let short : ch.length < 4294967296 = rw (front_at o i below) (c.requires.2.length i below) in
     let e : last ≡ placed ch.length ls = c.place-at.ensures.1 in
-    let n : length last ≡ k = ap length e ∙ placed-length ch.length ls ∙ part (goal.at.loop-i-preserved c).At-loop-i in
-    let t : take k (last ++ drop k c.loop-i.lengths) ≡ last = take_at last (drop k c.loop-i.lengths) k n in
-    let at : Threaded = record { lengths = ls; places = c.loop-i.places } in
-    let x : thread (front o) (empty k) ≡ thread (drop i (front o)) at = c.loop-i.invariant.5 in (
-      omega arith,
-      length_front c.loop-i.lengths last k (n ∙ sym (part (goal.at.loop-i-preserved c).At-loop-i)) ∙ c.loop-i.invariant.1,
-      length-set c.loop-i.places ch.number (c.place-at.result + 1) ∙ c.loop-i.invariant.2,
-      drop_at last (drop k c.loop-i.lengths) k n ∙ c.loop-i.invariant.3,
-      rw (t, e) (omega (arith, longest-placed ch.length ls, c.loop-i.invariant.4, c.requires.2.length i below)),
+    let n : length last ≡ k = ap length e ∙ placed-length ch.length ls ∙ part (goal.at.loop-c-preserved c).At-loop-c in
+    let t : take k (last ++ drop k c.loop-c.lengths) ≡ last = take_at last (drop k c.loop-c.lengths) k n in
+    let at : Threaded = record { lengths = ls; places = c.loop-c.places } in
+    let x : thread (front o) (empty k) ≡ thread (drop i (front o)) at = c.loop-c.invariant.4 in (
+      length_front c.loop-c.lengths last k (n ∙ sym (part (goal.at.loop-c-preserved c).At-loop-c)) ∙ c.loop-c.invariant.0,
+      length-set c.loop-c.places ch.number (c.place-at.result + 1) ∙ c.loop-c.invariant.1,
+      drop_at last (drop k c.loop-c.lengths) k n ∙ c.loop-c.invariant.2,
+      rw (t, e) (omega (arith, longest-placed ch.length ls, c.loop-c.invariant.3, short)),
       x
-          ∙ thread_step (front o) i at (omega (arith, long (goal.at.loop-i-preserved c).Start))
-          ∙ ap (λ b. thread (drop (i + 1) (front o)) (with_one b at)) (front_at o i below)
+          ∙ thread_step (front o) i at turn
           ∙ ap (thread (drop (i + 1) (front o))) (one-is ch at
-          (take k (last ++ drop k c.loop-i.lengths)) c.place-at.result (t ∙ e) c.place-at.ensures.0),
+          (take k (last ++ drop k c.loop-c.lengths)) c.place-at.result (t ∙ e) c.place-at.ensures.0),
     )
 
 pub returns : goal.returns
-returns c = held c.args.k c.loop-i.lengths c.loop-i.places (part (goal.at.returns c).At-loop-i) c.loop-i.invariant.3
-    ∙ ap threading_of (sym (c.loop-i.invariant.5 ∙ thread-end (front c.args.o) c.loop-i.i
-    (record { lengths = take c.args.k c.loop-i.lengths; places = c.loop-i.places }) (omega (arith, long (goal.at.returns c).Start))))
+returns c = held c.args.k c.loop-c.lengths c.loop-c.places (part (goal.at.returns c).At-loop-c) c.loop-c.invariant.2
+    ∙ ap threading_of (sym (c.loop-c.invariant.4 ∙ thread-end (front c.args.o) c.loop-c.c-index
+    (record { lengths = take c.args.k c.loop-c.lengths; places = c.loop-c.places }) (omega (arith, long (goal.at.returns c).Start))))

