@@ -4,7 +4,6 @@ use mathlib.Core.Bool.{true}
 use lib.ListN.{length}
 use lib.Dec.{leb}
 use borrow.Author.Tests.{leb-true}
-use Rattle.std.specs.Prelude.{Ok, Err}
 use Rattle.std.proofs.lemmas.Result.{err_from_is_err_and}
 use Rattle.units.proofs.TestLaws.{and_both}
 use Rattle.soc.specs.Rules.{good_soc}
