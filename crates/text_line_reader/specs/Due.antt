@@ -1,12 +1,11 @@
 -- A place among the lines of a text, and what it means that a line is due there (document 01, "The SOC text"): "The line reader holds the text and its
 -- place in it."
-use Rattle.std.specs.Prelude.{ℕ, ◌+◌, ◌≤◌, ◌≡◌, List, [], ◌∷◌, length}
+use Rattle.std.specs.Prelude.{ℕ, ◌+◌, ◌≤◌, ◌≡◌, List, [], ◌∷◌, length, Option, None, Some}
 use Rattle.fields.specs.Fields.{fields_of, part}
 use Rattle.fields.specs.Lines.{Line, lines_from}
 use Rattle.text_line_reader.specs.declared.line_reader.LineReader.{LineReader}
 use Rattle.text_line_reader.specs.declared.place.Place.{Place}
-use Rattle.text_line_reader.specs.declared.place.Due.{Due}
-use Rattle.text_line_reader.specs.declared.place.Due.TheVariants as due
+use Rattle.text_line_reader.specs.declared.place.DueLine.{DueLine}
 
 -- the place with a beginning and a line's number, and the place that a line reader holds
 abbrev pub place_at : ℕ → ℕ → Place
@@ -31,6 +30,6 @@ pub record LineIs (t : List ℕ) (p : Place) (a e n : ℕ) (q : Place) : Type 0 
   pub inside : Inside t q
   pub is : lines_at t p ≡ record { number = n; fields = fields_of (part t a e) } ∷ lines_at t q
 
-abbrev pub DueIs : List ℕ → Place → Due → Type 0
-DueIs t p (due.Line a e n q) = LineIs t p a e n q
-DueIs t p due.Missing = lines_at t p ≡ []
+abbrev pub DueIs : List ℕ → Place → Option DueLine → Type 0
+DueIs t p (Some l) = LineIs t p l.from l.to l.number l.behind
+DueIs t p None = lines_at t p ≡ []

@@ -5,4 +5,4 @@ mod line_reader;
 mod place;
 
 pub use line_reader::due_line;
-pub use place::{Due, Place};
+pub use place::{DueLine, Place};

@@ -3,8 +3,7 @@
 ghost use Rattle.std.specs.Prelude.{◌≡◌};
 ghost use Rattle.text_line_reader.specs.Due.{Inside, DueIs, place_at, place_of};
 
-use super::place::{Due, Place};
-use fields::NextLine;
+use super::place::{DueLine, Place};
 
 #[derive(Drop)]
 pub struct LineReader<'a> {
@@ -16,22 +15,21 @@ pub struct LineReader<'a> {
 }
 
 // The next line that is not blank, from a place on.
-fn line_from(text: &[u8], at: usize, line: usize) -> Due
+fn line_from(text: &[u8], at: usize, line: usize) -> Option<DueLine>
     requires { Inside text.now (place_at at line) }
     ensures { DueIs text.now (place_at at line) result }
 {
-    match fields::next_line(text, at) {
-        NextLine::End => Due::Missing,
-        NextLine::Found(a, e, next, k) => Due::Line(
-            a,
-            e,
-            line + k,
-            Place {
-                at: next,
-                line: line + k + 1,
-            },
-        ),
-    }
+    let l = fields::next_line(text, at)?;
+    let number = line + l.passed;
+    Some(DueLine {
+        from: l.from,
+        to: l.to,
+        number,
+        behind: Place {
+            at: l.next,
+            line: number + 1,
+        },
+    })
 }
 
 impl<'a> LineReader<'a> {
@@ -58,7 +56,7 @@ impl<'a> LineReader<'a> {
     }
 
     // The next line that is not blank, with its number.
-    pub(crate) fn next_line(self) -> Due
+    pub(crate) fn next_line(self) -> Option<DueLine>
         requires { Inside self.text.now (place_of self) }
         ensures { DueIs self.entry.text.now (place_of self.entry) result }
     {
@@ -67,7 +65,7 @@ impl<'a> LineReader<'a> {
 }
 
 // The one function above the reader whose parameters are plain: whoever calls it needs no walk.
-pub fn due_line(text: &[u8], p: Place) -> Due
+pub fn due_line(text: &[u8], p: Place) -> Option<DueLine>
     requires { Inside text.now p }
     ensures { DueIs text.now p result }
 {

@@ -9,7 +9,9 @@ pub struct Place {
 
 // The line that is due: where it begins and ends, its number, and the place behind it.
 #[derive(Clone, Copy)]
-pub enum Due {
-    Line(usize, usize, usize, Place),
-    Missing,
+pub struct DueLine {
+    pub from: usize,
+    pub to: usize,
+    pub number: usize,
+    pub behind: Place,
 }

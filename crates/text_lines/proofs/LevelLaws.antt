@@ -10,14 +10,17 @@ use lib.Seq.{length-take-le, drop-drop, drop_at, drop-set-lt}
 use Rattle.units.proofs.TestLaws.{clash}
 use borrow.Author.Tests.{leb-true}
 use lib.Dec.{leb}
-use Rattle.fields.specs.Readers.{Got, Reads, no, got, after, between}
+use Rattle.std.specs.Prelude.{Ok}
+use Rattle.units.specs.declared.Fault.{Fault}
+use Rattle.units.specs.declared.FlipFlops.{FlipFlops}
+use Rattle.fields.specs.Readers.{Got, Reads, FieldsGot, no, got, after, give, each, between}
 use Rattle.fields.specs.Bytes.{bytes}
 use Rattle.fields.proofs.ReaderLaws.{after-no, after-got, key-between-within}
-use Rattle.soc.specs.Limits.{modules_max, level_max, length_max}
+use Rattle.soc.specs.Limits.{modules_max, level_max, chains_max, length_max}
 use Rattle.units.specs.Places.{padded}
 use Rattle.soc.specs.Record.{flip_flops}
-use Rattle.text_lines.specs.Parts.{rule, says, whole}
-use Rattle.text_lines.specs.Kinds.{BlockStart, level, chain_length, block_number, block_line}
+use Rattle.text_lines.specs.Parts.{rule, whole}
+use Rattle.text_lines.specs.Kinds.{Terminals, Shape, BlockStart, level, chain_length, lengths, lengths_part, block_number, block_line}
 use Rattle.text_lines.proofs.BoundLaws.{closed-got}
 
 module _ {A : Type 0} (n : ℕ) (z : A) where
@@ -47,13 +50,34 @@ module _ {A : Type 0} (n : ℕ) (z : A) (xs : List A) (i : ℕ) (spare : drop i 
 
 -- a chain's length is a number
 module _ (fs : List (List ℕ)) where
-  pub chain_no : (c : ℕ) → between 1 length_max fs ≡ no c → chain_length fs ≡ no c
+  pub chain_no : (c : Fault) → between 1 length_max fs ≡ no c → chain_length fs ≡ no c
   unfolding chain_length
   chain_no c e = after-no (between 1 length_max fs) _ c e
 
   pub chain_got : (n : ℕ) (gs : List (List ℕ)) → between 1 length_max fs ≡ got n gs → chain_length fs ≡ got (flip_flops n) gs
   unfolding chain_length
   chain_got n gs e = after-got (between 1 length_max fs) _ n gs e
+
+-- the lengths of the chains, as they stand in what the line says
+module _ (s v : ℕ) (t : Terminals) (fs : List (List ℕ)) where
+  pub lengths-no : (c : Fault) → lengths s fs ≡ no c → lengths_part s v t fs ≡ no c
+  unfolding lengths lengths_part after
+  lengths-no c h = go (each s (λ _. chain_length) 0 fs) h
+    where
+      go : (g : FieldsGot (List FlipFlops)) → after g (λ xs. give (padded chains_max (flip_flops 0) xs)) ≡ no c
+          → after {B = Shape} g (λ xs. give (record { level = v; terminals = t; chains = record { count = s; lengths = padded chains_max (flip_flops 0) xs } })) ≡ no c
+      go (no d) h = let k : d ≡ c = cc in ap no k
+      go (got xs gs) h = clash cc
+
+  pub lengths-got : (xs : List FlipFlops) (gs : List (List ℕ)) → lengths s fs ≡ got xs gs
+      → lengths_part s v t fs ≡ got (record { level = v; terminals = t; chains = record { count = s; lengths = xs } }) gs
+  unfolding lengths lengths_part after
+  lengths-got xs gs h = go (each s (λ _. chain_length) 0 fs) h
+    where
+      go : (g : FieldsGot (List FlipFlops)) → after g (λ xs. give (padded chains_max (flip_flops 0) xs)) ≡ got xs gs
+          → after {B = Shape} g (λ xs. give (record { level = v; terminals = t; chains = record { count = s; lengths = padded chains_max (flip_flops 0) xs } })) ≡ got (record { level = v; terminals = t; chains = record { count = s; lengths = xs } }) gs
+      go (no d) h = clash cc
+      go (got ys hs) h = let k : padded chains_max (flip_flops 0) ys ≡ xs = cc in let l : hs ≡ gs = cc in rw (k, l) refl
 
 -- what stands behind a value that two readings gave: the first gave one, with which the second went on
 record Came {E S A B : Type 0} (g : Got E S A) (k : A → Reads E S B) (b : B) (t : S) : Type 0 where
@@ -94,7 +118,7 @@ number-within low fs m gs h =
     let r = leb-true low key.value (rule-holds (leb low key.value) key.left kept.value kept.left kept.first) in
     (omega (arith, r, e), omega (arith, b, e))
 
-pub start-within : (low : ℕ) (fs : List (List ℕ)) (s : BlockStart) → whole (block_line low) fs ≡ says s → (low ≤ s.number) × (s.number ≤ modules_max - 1)
+pub start-within : (low : ℕ) (fs : List (List ℕ)) (s : BlockStart) → whole (block_line low) fs ≡ Ok s → (low ≤ s.number) × (s.number ≤ modules_max - 1)
 unfolding block_line
 start-within low fs s h =
     let m = came _ _ s [] (closed-got _ s h) in

@@ -1,67 +1,52 @@
--- Laws of the parts of a line: what a field's number, which an answer has cut at a cap, says of a number that is due and of a figure that
--- may be not given, both below the cap; when a rule is kept; and when a line ends. Assumes nothing.
-use Prim.Native.Nat.{ℕ, ◌≤◌, ◌<◌, min}
-use mathlib.Core.Path.{◌≡◌, refl}
-use mathlib.Core.Bool.{Bool, true, false, true≢false, false≢true}
+-- Laws of the parts of a line: what a field's number, which an answer has cut at a cap, says of a number that is due, below the cap; when a
+-- rule is kept; what a `?` hands on; and what keywords that are there or not say of a flag and of a figure that may be not given. Assumes
+-- nothing.
+use Prim.Native.Nat.{ℕ, ◌<◌, min}
+use mathlib.Core.Path.{◌≡◌, refl, sym, ap, ◌∙◌}
+use mathlib.Core.Bool.{Bool, true, false, cond}
 use mathlib.Core.List.{List, [], ◌∷◌}
 use mathlib.Core.Option.{Option, some, none}
 use native.Mathlib.Omega.{arith}
-use borrow.Author.Tests.{eq-eqb, ne_eqb, le-leb, lt-leb}
-use lib.IntN.{pos}
+use borrow.Author.Tests.{eq-eqb, ne_eqb, le-leb}
+use lib.Dec.{leb}
+use lib.IntN.{ℤ, pos}
+use Rattle.std.specs.Prelude as prelude
+use Rattle.std.specs.Prelude.{Result, Ok, Err}
+use Rattle.std.specs.Result.{IsErrAnd, is_ok}
+use Rattle.std.proofs.lemmas.Result.{err_from_is_err_and}
+use Rattle.units.specs.declared.Fault.{Fault}
+use Rattle.units.specs.declared.Fault.TheVariants.{WrongForm, WrongFigure, BrokenRule, PlannedPins}
 use Rattle.units.proofs.TestLaws.{clash}
-use Rattle.fields.specs.Fields.{blank}
-use Rattle.fields.specs.Numbers.{cap, cut}
-use Rattle.fields.specs.Readers.{no, got}
-use Rattle.fields.specs.declared.number.Number.TheVariants.{Bad, Value}
-use Rattle.text_lines.specs.Parts.{due_is, given_is, rule, pins, refuses, says, closed}
+use Rattle.fields.specs.Bytes.{bytes, same_bytes}
+use Rattle.fields.specs.Numbers.{cap, cut, decimal_of}
+use Rattle.fields.specs.Readers.{no, got, FieldsGot, bytes_due, within, between, past_is}
+use Rattle.soc.specs.Record.{not_given}
+use Rattle.text_lines.specs.Parts.{due_is, flag, given_is, or_not_given, rule, pins, is_next}
 
--- the field is no number
+-- the field is no number, the number v, or where v is the cap, some number from there on
 module _ (n : ℕ) (fs : List (List ℕ)) where
-  pub due_bad : (o : Option ℕ) → cut o ≡ Bad → due_is n o fs ≡ no 4
+  pub due_bad : (o : Option ℕ) → cut o ≡ prelude.None → due_is n o fs ≡ no WrongFigure
   unfolding due_is cut
   due_bad none h = refl
   due_bad (some m) h = clash cc
 
-  pub given_bad : (o : Option ℕ) → cut o ≡ Bad → given_is n o fs ≡ no 4
-  unfolding given_is cut
-  given_bad none h = refl
-  given_bad (some m) h = clash cc
-
--- the field is the number v, or where v is the cap, some number from there on
-module _ (n v : ℕ) (fs : List (List ℕ)) where
-  pub due-got : (o : Option ℕ) → cut o ≡ Value v → v ≡ n → n < cap → due_is n o fs ≡ got tt fs
+  pub due-got : (v : ℕ) (o : Option ℕ) → cut o ≡ prelude.Some v → v ≡ n → n < cap → due_is n o fs ≡ got tt fs
   unfolding due_is cut
-  due-got none h k l = clash cc
-  due-got (some m) h k l =
+  due-got v none h k l = clash cc
+  due-got v (some m) h k l =
       let q : min m cap ≡ v = cc in
       let e : m ≡ n = omega arith in
       simp (eq-eqb m n e)
 
-  pub due_other : (o : Option ℕ) → cut o ≡ Value v → (v ≡ n → ⊥) → n < cap → due_is n o fs ≡ no 5
+  pub due_other : (v : ℕ) (o : Option ℕ) → cut o ≡ prelude.Some v → (v ≡ n → ⊥) → n < cap → due_is n o fs ≡ no BrokenRule
   unfolding due_is cut
-  due_other none h k l = clash cc
-  due_other (some m) h k l =
+  due_other v none h k l = clash cc
+  due_other v (some m) h k l =
       let q : min m cap ≡ v = cc in
       simp (ne_eqb m n (λ e. k (omega arith)))
 
-  pub given-got : (o : Option ℕ) → cut o ≡ Value v → v ≤ n → n < cap → given_is n o fs ≡ got (pos v) fs
-  unfolding given_is cut
-  given-got none h k l = clash cc
-  given-got (some m) h k l =
-      let q : min m cap ≡ v = cc in
-      let e : m ≡ v = omega arith in
-      simp (e, le-leb v n k)
-
-  pub given_above : (o : Option ℕ) → cut o ≡ Value v → n < v → given_is n o fs ≡ no 4
-  unfolding given_is cut
-  given_above none h k = clash cc
-  given_above (some m) h k =
-      let q : min m cap ≡ v = cc in
-      let b : n < m = omega arith in
-      simp (lt-leb m n b)
-
 module _ (t : Bool) (fs : List (List ℕ)) where
-  pub rule_broken : t ≡ false → rule t fs ≡ no 5
+  pub rule_broken : t ≡ false → rule t fs ≡ no BrokenRule
   unfolding rule
   rule_broken e = rw e
 
@@ -69,7 +54,7 @@ module _ (t : Bool) (fs : List (List ℕ)) where
   unfolding rule
   rule-kept e = rw e
 
-  pub pins_broken : t ≡ false → pins t fs ≡ no 17
+  pub pins_broken : t ≡ false → pins t fs ≡ no PlannedPins
   unfolding pins
   pins_broken e = rw e
 
@@ -77,14 +62,73 @@ module _ (t : Bool) (fs : List (List ℕ)) where
   unfolding pins
   pins-kept e = rw e
 
--- nothing is left of the line, or a field that is one too many
-module _ {A : Type 0} (a : A) where
-  pub closed-end : (fs : List (List ℕ)) → blank fs ≡ true → closed (got a fs) ≡ says a
-  unfolding blank closed
-  closed-end [] h = refl
-  closed-end (f ∷ fs) h = absurd (false≢true h)
+-- what a `?` hands on
+pub exit : {A : Type 0} {e : Fault} (r : Result A Fault) → IsErrAnd r (λ y. y ≡ e) → r ≡ Err e
+exit r h = let p = err_from_is_err_and r h in p.1 ∙ ap Err p.2
 
-  pub closed-more : (fs : List (List ℕ)) → blank fs ≡ false → closed (got a fs) ≡ refuses 3
-  unfolding blank closed
-  closed-more [] h = absurd (true≢false h)
-  closed-more (f ∷ fs) h = refl
+-- a keyword that is there is the first field, and one that is not is refused for its form
+module _ (w f : List ℕ) (fs : List (List ℕ)) where
+  due-same : (u : Unit {0}) (gs : List (List ℕ)) → bytes_due w (f ∷ fs) ≡ got u gs → (same_bytes f w ≡ true) × (fs ≡ gs)
+  unfolding bytes_due
+  due-same u gs h = go (same_bytes f w) h
+    where
+      go : (t : Bool) → cond {A = FieldsGot (Unit {0})} t (got tt fs) (no WrongForm) ≡ got u gs → (t ≡ true) × (fs ≡ gs)
+      go true k = (refl, cc)
+      go false k = clash cc
+
+  due-not : (c : Fault) → bytes_due w (f ∷ fs) ≡ no c → (same_bytes f w ≡ false) × (WrongForm ≡ c)
+  unfolding bytes_due
+  due-not c h = go (same_bytes f w) h
+    where
+      go : (t : Bool) → cond {A = FieldsGot (Unit {0})} t (got tt fs) (no WrongForm) ≡ no c → (t ≡ false) × (WrongForm ≡ c)
+      go true k = clash cc
+      go false k = (refl, cc)
+
+-- the keyword w is next where it was read
+pub next-word : (l w : List ℕ) (fs : List (List ℕ)) (r : Result ℕ Fault) → past_is l r ≡ bytes_due w fs → is_ok r ≡ is_next w fs
+unfolding bytes_due is_next
+next-word l w [] (Ok e) h = clash cc
+next-word l w [] (Err c) h = refl
+next-word l w (f ∷ fs) (Ok e) h = sym (due-same w f fs _ _ (sym h)).0
+next-word l w (f ∷ fs) (Err c) h = sym (due-not w f fs _ (sym h)).0
+
+-- a flag is the keyword `0`, or else the keyword `1`
+pub flag-0 : (fs gs : List (List ℕ)) → bytes_due (bytes "0") fs ≡ got tt gs → flag fs ≡ got false gs
+unfolding bytes_due flag
+flag-0 [] gs h = clash cc
+flag-0 (f ∷ fs) gs h = let k = due-same (bytes "0") f fs tt gs h in simp (k.0, k.1)
+
+pub flag-1 : (fs gs : List (List ℕ)) (c : Fault) → bytes_due (bytes "0") fs ≡ no c → bytes_due (bytes "1") fs ≡ got tt gs → flag fs ≡ got true gs
+unfolding bytes_due flag
+flag-1 [] gs c h k = clash cc
+flag-1 (f ∷ fs) gs c h k = let z = due-not (bytes "0") f fs c h in let o = due-same (bytes "1") f fs tt gs k in simp (z.0, o.0, o.1)
+
+pub flag-no : (fs : List (List ℕ)) (c d : Fault) → bytes_due (bytes "0") fs ≡ no c → bytes_due (bytes "1") fs ≡ no d → flag fs ≡ no d
+unfolding bytes_due flag
+flag-no [] c d h k = cc
+flag-no (f ∷ fs) c d h k = let z = due-not (bytes "0") f fs c h in let o = due-not (bytes "1") f fs d k in simp (z.0, o.0, o.1)
+
+-- a figure that may be not given is the keyword `-1`, or else a number from 0 on
+abbrev pub signed : FieldsGot ℕ → FieldsGot ℤ
+signed (no c) = no c
+signed (got v fs) = got (pos v) fs
+
+module _ (high : ℕ) where
+  pub given-word : (fs gs : List (List ℕ)) → bytes_due (bytes "-1") fs ≡ got tt gs → or_not_given high fs ≡ got not_given gs
+  unfolding bytes_due or_not_given
+  given-word [] gs h = clash cc
+  given-word (f ∷ fs) gs h = let k = due-same (bytes "-1") f fs tt gs h in simp (k.0, k.1)
+
+  given-within : (o : Option ℕ) (fs : List (List ℕ)) → given_is high o fs ≡ signed (within 0 high o fs)
+  unfolding given_is within
+  given-within none fs = refl
+  given-within (some v) fs = rw (le-leb 0 v (omega arith)) (go (leb v high))
+    where
+      go : (t : Bool) → cond {A = FieldsGot ℤ} t (got (pos v) fs) (no WrongFigure) ≡ signed (cond {A = FieldsGot ℕ} t (got v fs) (no WrongFigure))
+      go true = refl
+      go false = refl
+
+  pub given-figure : (fs : List (List ℕ)) (c : Fault) → bytes_due (bytes "-1") fs ≡ no c → or_not_given high fs ≡ signed (between 0 high fs)
+  unfolding or_not_given between
+  given-figure [] c h = refl
+  given-figure (f ∷ fs) c h = simp (due-not (bytes "-1") f fs c h).0 (given-within (decimal_of f) fs)

@@ -10,12 +10,16 @@ use Rattle.soc.specs.Record.{flip_flops, not_given}
 use Rattle.soc.specs.Rules.{level_rule, pins_rule, is_not_given}
 use Rattle.soc.specs.declared.record.Test.{Test}
 use Rattle.text_lines.specs.Parts.{keyed, key_due, key_flag, key_given, name, rule, pins, is_next}
+pub use Rattle.text_lines.specs.declared.head.Name.{Name}
+pub use Rattle.text_lines.specs.declared.head.Options.{Options}
+pub use Rattle.text_lines.specs.declared.level.Terminals.{Terminals}
+pub use Rattle.text_lines.specs.declared.level.Chains.{Chains}
+pub use Rattle.text_lines.specs.declared.level.Shape.{Shape}
+pub use Rattle.text_lines.specs.declared.second.SecondLine.{SecondLine}
+pub use Rattle.text_lines.specs.declared.second.SecondLine.TheVariants.{Position, Tests}
+pub use Rattle.text_lines.specs.declared.test.Uses.{Uses}
 
 -- "`SocName` name"
-pub record Name : Type 0 where
-  pub len : ℕ
-  pub bytes : List ℕ
-
 unfoldable pub name_part : Reader Name
 name_part = do
   f ← name
@@ -41,10 +45,6 @@ unfoldable pub total_line : Reader ℕ
 total_line = keyed "TotalModules" 1 modules_max
 
 -- "`Options Power` 0/1 `XY` 0/1"
-pub record Options : Type 0 where
-  pub power : Bool
-  pub xy : Bool
-
 unfoldable pub options_part : Reader Options
 options_part = do
   p ← key_flag (bytes "Power")
@@ -73,11 +73,6 @@ level m last = do
   give v
 
 -- "`Inputs` n `Outputs` n `Bidirs` n"
-pub record Terminals : Type 0 where
-  pub inputs : ℕ
-  pub outputs : ℕ
-  pub bidirs : ℕ
-
 unfoldable pub terminals : Reader Terminals
 terminals = do
   i ← keyed "Inputs" 0 terminals_max
@@ -91,16 +86,11 @@ chain_length = do
   n ← between 1 length_max
   give (flip_flops n)
 
--- how many there are, and the places for them
-pub record Chains : Type 0 where
-  pub count : ℕ
-  pub lengths : List FlipFlops
-
--- a module's first line
-pub record Shape : Type 0 where
-  pub level : ℕ
-  pub terminals : Terminals
-  pub chains : Chains
+-- s of them, at the front of the places
+unfoldable pub lengths : ℕ → Reader (List FlipFlops)
+lengths s = do
+  fs ← each s (λ _. chain_length) 0
+  give (padded chains_max (flip_flops 0) fs)
 
 -- "`ScanChains` s `:` then s lengths"
 unfoldable pub lengths_part : ℕ → ℕ → Terminals → Reader Shape
@@ -154,31 +144,27 @@ abbrev pub pair_rule : ℤ → ℤ → Bool
 pair_rule x y = cond (is_not_given x) (is_not_given y) (not (is_not_given y))
 
 -- the line behind it: "`X` x `Y` y", or "`TotalTests` t"
-pub data Second : Type 0 where
-  position : ℤ → ℤ → Second
-  tests : ℕ → Second
-
-unfoldable pub position_part : Reader Second
+unfoldable pub position_part : Reader SecondLine
 position_part = do
   x ← key_given (bytes "X") position_max
   y ← key_given (bytes "Y") position_max
   rule (pair_rule x y)
-  give (position x y)
+  give (Position x y)
 
 unfoldable pub total_tests : Reader ℕ
 total_tests = keyed "TotalTests" 0 tests_max
 
-unfoldable pub tests_part : Reader Second
+unfoldable pub tests_part : Reader SecondLine
 tests_part = do
   t ← total_tests
-  give (tests t)
+  give (Tests t)
 
 -- "with XY 1, optionally `Module` m `X` x `Y` y": what stands behind the module's number decides
-unfoldable pub second_part : Bool → Reader Second
+unfoldable pub second_part : Bool → Reader SecondLine
 second_part false fs = tests_part fs
 second_part true fs = cond (is_next (bytes "X") fs) (position_part fs) (tests_part fs)
 
-unfoldable pub second_line : ℕ → Bool → Reader Second
+unfoldable pub second_line : ℕ → Bool → Reader SecondLine
 second_line m xy = do
   module_due m
   second_part xy
@@ -195,12 +181,7 @@ power_part false fs = got not_given fs
 power_part true [] = got not_given []
 power_part true (f ∷ fs) = key_given (bytes "Power") power_max (f ∷ fs)
 
--- "`ScanUse` 0/1 `TamUse` 0/1"
-pub record Uses : Type 0 where
-  pub scan : Bool
-  pub tam : Bool
-
--- of a test of module m: "17 .. once TamUse has passed 3 on that line and before Patterns is looked at"
+-- "`ScanUse` 0/1 `TamUse` 0/1" of a test of module m: "17 .. once TamUse has passed 3 on that line and before Patterns is looked at"
 unfoldable pub uses : ℕ → Reader Uses
 uses m = do
   s ← key_flag (bytes "ScanUse")

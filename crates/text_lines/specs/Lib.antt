@@ -1,4 +1,3 @@
 pub mod Parts
 pub mod Kinds
-pub mod LineAnswers
 pub mod LineFields

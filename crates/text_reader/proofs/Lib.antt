@@ -1,4 +1,3 @@
-pub mod ReadAnswerLaws
 pub mod StepLaws
 pub mod CountLaws
 pub mod ModulesLaws

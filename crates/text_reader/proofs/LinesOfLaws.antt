@@ -15,64 +15,73 @@ use Rattle.fields.specs.Readers.{no, got, FieldsGot, Reader, after, each, bytes_
 use Rattle.fields.proofs.BackLaws.{same-bytes_eq}
 use Rattle.soc.specs.declared.record.Module.{Module}
 use Rattle.soc.specs.declared.record.Test.{Test}
-use Rattle.text_lines.specs.Parts.{Whole, refuses, says, closed, whole, due, due_is}
-use Rattle.text_lines.specs.Kinds.{Name, Options, Shape, Second, name_line, total_line, options_line}
+use Rattle.std.specs.Prelude.{Result, Ok, Err}
+use Rattle.units.specs.declared.Fault.{Fault}
+use Rattle.units.specs.declared.Fault.TheVariants.{WrongForm, BrokenRule}
+use Rattle.text_lines.specs.Parts.{closed, whole, due, due_is}
+use Rattle.text_lines.specs.Kinds.{name_line, total_line, options_line}
+use Rattle.text_lines.specs.declared.head.Name.{Name}
+use Rattle.text_lines.specs.declared.head.Options.{Options}
+use Rattle.text_lines.specs.declared.level.Shape.{Shape}
+use Rattle.text_lines.specs.declared.second.SecondLine.{SecondLine}
+use Rattle.text_lines.specs.declared.second.SecondLine.TheVariants.{Tests, Position}
 use Rattle.text_lines.specs.Kinds.{module_due, level, level_line, second_line, tests_line, test_due, test_line}
 use Rattle.text_reader.specs.Lines.{LinesRead, judged, line}
-use Rattle.text_reader.specs.Reading.{Body, behind, body, module_tests, module_rest, module_lines}
+use Rattle.text_reader.specs.declared.block.Body.{Body}
+use Rattle.text_reader.specs.Reading.{behind, body, module_tests, module_rest, module_lines}
 use Rattle.text_reader.specs.Marks.{Of, Other, Passes, LinesOf}
 use Rattle.text_reader.proofs.CountLaws.{after_gives}
 
 -- the line that was read, and the lines behind it
-pub line_first : {A C : Type 0} (r : Reader A) (a : A) (ls ms : List Line) → ((l : Line) → ls ≡ l ∷ ms → whole r l.fields ≡ says a → C)
+pub line_first : {A C : Type 0} (r : Reader A) (a : A) (ls ms : List Line) → ((l : Line) → ls ≡ l ∷ ms → whole r l.fields ≡ Ok a → C)
     → line r ls ≡ got a ms → C
 unfolding line judged
 line_first r a [] ms f h = clash cc
 line_first {A = A} {C = C} r a (l ∷ ls) ms f h = go (whole r l.fields) refl h
   where
-    go : (w : Whole A) → whole r l.fields ≡ w → judged l.number ls w ≡ got a ms → C
-    go (refuses c) e k = clash cc
-    go (says b) e k =
+    go : (w : Result A Fault) → whole r l.fields ≡ w → judged l.number ls w ≡ got a ms → C
+    go (Err c) e k = clash cc
+    go (Ok b) e k =
         let q : ls ≡ ms = cc in
         let i : b ≡ a = cc in
-        f l (ap (λ r. l ∷ r) q) (e ∙ ap says i)
+        f l (ap (λ r. l ∷ r) q) (e ∙ ap Ok i)
 
 -- a line that begins with "`Module` m"
 
 abbrev Begins : ℕ → List (List ℕ) → Type 0
 Begins m fs = (gs : List (List ℕ)) × (module_due m fs ≡ got tt gs)
 
-begins-one : {A : Type 0} (m : ℕ) (fs : List (List ℕ)) (k : Unit {0} → Reader A) (a : A) → closed (after (module_due m fs) k) ≡ says a
+begins-one : {A : Type 0} (m : ℕ) (fs : List (List ℕ)) (k : Unit {0} → Reader A) (a : A) → closed (after (module_due m fs) k) ≡ Ok a
     → Begins m fs
 unfolding closed after
 begins-one {A} m fs k a h = go (module_due m fs) refl h
   where
-    go : (g : FieldsGot (Unit {0})) → module_due m fs ≡ g → closed (after g k) ≡ says a → Begins m fs
+    go : (g : FieldsGot (Unit {0})) → module_due m fs ≡ g → closed (after g k) ≡ Ok a → Begins m fs
     go (no c) e h = clash cc
     go (got tt gs) e h = (gs, e)
 
 begins_two : {A B : Type 0} (m : ℕ) (fs : List (List ℕ)) (j : Unit {0} → Reader A) (k : A → Reader B) (b : B)
-    → closed (after (after (module_due m fs) j) k) ≡ says b → Begins m fs
+    → closed (after (after (module_due m fs) j) k) ≡ Ok b → Begins m fs
 unfolding closed after
 begins_two {A} m fs j k b h = go (module_due m fs) refl h
   where
-    go : (g : FieldsGot (Unit {0})) → module_due m fs ≡ g → closed (after (after g j) k) ≡ says b → Begins m fs
+    go : (g : FieldsGot (Unit {0})) → module_due m fs ≡ g → closed (after (after g j) k) ≡ Ok b → Begins m fs
     go (no c) e h = clash cc
     go (got tt gs) e h = (gs, e)
 
-level-begins : (m last : ℕ) (fs : List (List ℕ)) (s : Shape) → whole (level_line m last) fs ≡ says s → Begins m fs
+level-begins : (m last : ℕ) (fs : List (List ℕ)) (s : Shape) → whole (level_line m last) fs ≡ Ok s → Begins m fs
 unfolding level_line level
 level-begins m last fs s h = begins_two m fs _ _ s h
 
-second_begins : (m : ℕ) (xy : Bool) (fs : List (List ℕ)) (s : Second) → whole (second_line m xy) fs ≡ says s → Begins m fs
+second_begins : (m : ℕ) (xy : Bool) (fs : List (List ℕ)) (s : SecondLine) → whole (second_line m xy) fs ≡ Ok s → Begins m fs
 unfolding second_line
 second_begins m xy fs s h = begins-one m fs _ s h
 
-tests-begins : (m : ℕ) (fs : List (List ℕ)) (n : ℕ) → whole (tests_line m) fs ≡ says n → Begins m fs
+tests-begins : (m : ℕ) (fs : List (List ℕ)) (n : ℕ) → whole (tests_line m) fs ≡ Ok n → Begins m fs
 unfolding tests_line
 tests-begins m fs n h = begins-one m fs _ n h
 
-test-begins : (m i : ℕ) (power : Bool) (fs : List (List ℕ)) (t : Test) → whole (test_line m i power) fs ≡ says t → Begins m fs
+test-begins : (m i : ℕ) (power : Bool) (fs : List (List ℕ)) (t : Test) → whole (test_line m i power) fs ≡ Ok t → Begins m fs
 unfolding test_line test_due
 test-begins m i power fs t h = begins_two m fs _ _ t h
 
@@ -90,7 +99,7 @@ passes_as f Passes.none = Passes.none
 passes_as f (Passes.more {l = l} o p) = Passes.more (f l o) (passes_as f p)
 
 -- a line that was read passes it
-read-passes : {A : Type 0} (m : ℕ) (r : Reader A) → ((fs : List (List ℕ)) (a : A) → whole r fs ≡ says a → Begins m fs) → (a : A)
+read-passes : {A : Type 0} (m : ℕ) (r : Reader A) → ((fs : List (List ℕ)) (a : A) → whole r fs ≡ Ok a → Begins m fs) → (a : A)
     → (ls ms : List Line) → line r ls ≡ got a ms → Passes (Of m) ls ms
 read-passes m r f a ls ms h =
     line_first r a ls ms (λ l e w. passes-one l ls ms e (record { left = (f l.fields a w).0; begins = (f l.fields a w).1 })) h
@@ -100,10 +109,10 @@ read-passes m r f a ls ms h =
 given : {P : Line → Type 0} {A : Type 0} (a b : A) (ms ns : List Line) → ◌≡◌ {A = LinesRead A} (got a ms) (got b ns) → Passes P ms ns
 given a b ms ns h = let q : ms ≡ ns = cc in rw q Passes.none
 
-behind-passes : (m : ℕ) (b : Body) (s : Second) (ms ns : List Line) → behind m s ms ≡ got b ns → Passes (Of m) ms ns
+behind-passes : (m : ℕ) (b : Body) (s : SecondLine) (ms ns : List Line) → behind m s ms ≡ got b ns → Passes (Of m) ms ns
 unfolding behind
-behind-passes m b (Second.tests t) ms ns h = given _ b ms ns h
-behind-passes m b (Second.position x y) ms ns h =
+behind-passes m b (Tests t) ms ns h = given _ b ms ns h
+behind-passes m b (Position x y) ms ns h =
     after_gives _ b ns (line (tests_line m) ms)
     (λ t ks e k. passes_both (read-passes m (tests_line m) (tests-begins m) t ms ks e) (given _ b ks ns k)) h
 
@@ -159,8 +168,8 @@ unfolding due due_is
 due_once k m [] gs hs e h = clash cc
 due_once k m (f ∷ fs) gs hs e h = go (decimal_of f) e h
   where
-    same : (v : ℕ) (t u : Bool) → eqb v k ≡ t → eqb v m ≡ u → cond {A = FieldsGot (Unit {0})} t (got tt fs) (no 5) ≡ got tt gs
-        → cond {A = FieldsGot (Unit {0})} u (got tt fs) (no 5) ≡ got tt hs → k ≡ m
+    same : (v : ℕ) (t u : Bool) → eqb v k ≡ t → eqb v m ≡ u → cond {A = FieldsGot (Unit {0})} t (got tt fs) (no BrokenRule) ≡ got tt gs
+        → cond {A = FieldsGot (Unit {0})} u (got tt fs) (no BrokenRule) ≡ got tt hs → k ≡ m
     same v true true i j e h = sym (eqb-true v k i) ∙ eqb-true v m j
     same v true false i j e h = clash cc
     same v false u i j e h = clash cc
@@ -183,26 +192,26 @@ of_other k m l n o hs h = n (module_once k m l.fields o.left hs o.begins h)
 -- a line that begins with another word is of no module
 pub word_other : {A : Type 0} (m : ℕ) (w : List ℕ) (k : Unit {0} → Reader A) (a : A) (fs gs : List (List ℕ))
     → same_bytes w (bytes "Module") ≡ false
-    → closed (after (bytes_due w fs) k) ≡ says a → module_due m fs ≡ got tt gs → ⊥
+    → closed (after (bytes_due w fs) k) ≡ Ok a → module_due m fs ≡ got tt gs → ⊥
 unfolding closed after bytes_due
 word_other m w k a [] gs z h e = clash cc
 word_other m w k a (f ∷ fs) gs z h e = go (same_bytes f w) refl h
   where
-    go : (t : Bool) → same_bytes f w ≡ t → closed (after (cond {A = FieldsGot (Unit {0})} t (got tt fs) (no 3)) k) ≡ says a → ⊥
+    go : (t : Bool) → same_bytes f w ≡ t → closed (after (cond {A = FieldsGot (Unit {0})} t (got tt fs) (no WrongForm)) k) ≡ Ok a → ⊥
     go false i h = clash cc
     go true i h =
         let q : same_bytes f (bytes "Module") ≡ false = ap (λ x. same_bytes x (bytes "Module")) (same-bytes_eq f w i) ∙ z in
-        let j : after (cond {A = FieldsGot (Unit {0})} false (got tt fs) (no 3)) (λ _. due m) ≡ got tt gs = rw q at e in
+        let j : after (cond {A = FieldsGot (Unit {0})} false (got tt fs) (no WrongForm)) (λ _. due m) ≡ got tt gs = rw q at e in
         clash cc
 
-pub name_other : (m : ℕ) (l : Line) (a : Name) → whole name_line l.fields ≡ says a → Other m l
+pub name_other : (m : ℕ) (l : Line) (a : Name) → whole name_line l.fields ≡ Ok a → Other m l
 unfolding name_line same_bytes
 name_other m l a h gs e = word_other m (bytes "SocName") _ a l.fields gs refl h e
 
-pub total_other : (m : ℕ) (l : Line) (a : ℕ) → whole total_line l.fields ≡ says a → Other m l
+pub total_other : (m : ℕ) (l : Line) (a : ℕ) → whole total_line l.fields ≡ Ok a → Other m l
 unfolding total_line same_bytes
 total_other m l a h gs e = word_other m (bytes "TotalModules") _ a l.fields gs refl h e
 
-pub options_other : (m : ℕ) (l : Line) (a : Options) → whole options_line l.fields ≡ says a → Other m l
+pub options_other : (m : ℕ) (l : Line) (a : Options) → whole options_line l.fields ≡ Ok a → Other m l
 unfolding options_line same_bytes
 options_other m l a h gs e = word_other m (bytes "Options") _ a l.fields gs refl h e

@@ -10,18 +10,15 @@ use Rattle.units.specs.declared.Refusal.{Refusal}
 use Rattle.fields.specs.Lines.{Line}
 use Rattle.fields.specs.Readers.{got, Reader}
 use Rattle.soc.specs.declared.record.Soc.{Soc}
-use Rattle.text_lines.specs.Parts.{says, whole}
+use Rattle.std.specs.Prelude.{Result, Ok, Err}
+use Rattle.text_lines.specs.Parts.{whole}
 use Rattle.text_line_reader.specs.Due.{lines_at}
 use Rattle.text_line_reader.specs.declared.place.Place.{Place}
 use Rattle.text_reader.specs.Lines.{line}
-use Rattle.text_reader.specs.Reading.{refused_soc, accepted_soc}
-use Rattle.text_reader.specs.Marks.{Of, Other, Passes, LinesOf, Marked, new_marks, StepMarked}
-use Rattle.text_reader.specs.Marks.{refused_marked, accepted_marked, ReadMarked}
+use Rattle.text_reader.specs.Marks.{Of, Other, Passes, LinesOf, Marked, new_marks}
+use Rattle.text_reader.specs.Marks.{ReadMarked}
 use Rattle.text_reader.specs.declared.marks.Marks.{Marks}
 use Rattle.text_reader.specs.declared.read.SocMarked.{SocMarked}
-use Rattle.text_reader.specs.declared.read.SocRead.{SocRead}
-use Rattle.text_reader.specs.declared.step.Step.{Step}
-use Rattle.text_reader.specs.declared.step.Step.TheVariants as step
 use Rattle.text_reader.proofs.LinesOfLaws.{line_first, passes-one, passes_both, passes_as, of_other}
 
 -- modules with numbers below low are read, from ls up to ms; module m is among them or not
@@ -94,28 +91,16 @@ next-number m i n = go (ltb m i) refl
     go true e = lt-ltb m (i + 1) (omega (arith, ltb-true m i e))
     go false e = le-ltb m (i + 1) (go_on (ltb-false m i e))
 
--- what a step says of the marks
-pub step_marked : (m : ℕ) (t : List ℕ) (has : Bool) (ls : List Line) (a : Step) (s : Marks) (q : Place) → StepMarked m t has ls a s
-    → a ≡ step.Next q → has ≡ true → lines_at t q ≡ [] → Marked m t ls [] s.from s.to
-step_marked m t has ls a s q is e h z =
-    let k : StepMarked m t has ls (step.Next q) s = rw e at is in
-    rw z at (k h)
-
--- a text that is refused, or accepted
-module _ (m : ℕ) (t : List ℕ) (ls : List Line) (a : SocRead) (r : SocMarked) where
-  pub refused_marked_lem : (f : Refusal) → r ≡ refused_marked f → refused_soc f ≡ a → ReadMarked m t ls a r
-  refused_marked_lem f e h = rw e (record { read = h; marks = λ k. absurd (omega (arith, k)) })
-
-  pub accepted_marked_lem : (s : Soc) (marks : Marks) → r ≡ accepted_marked s marks → accepted_soc s ≡ a
-      → (ltb m s.module_count ≡ true → Marked m t ls [] marks.from marks.to)
-      → ReadMarked m t ls a r
-  accepted_marked_lem s marks e h f = rw e (record { read = h; marks = λ k. f (lt-ltb m s.module_count k) })
-
 -- a line of no module before the others
 module _ {A : Type 0} (m : ℕ) (t : List ℕ) (r : Reader A) (v : A) (ls ms : List Line) (is : line r ls ≡ got v ms)
-    (other : (l : Line) → whole r l.fields ≡ says v → Other m l) where
+    (other : (l : Line) → whole r l.fields ≡ Ok v → Other m l) where
   pub marked_line : {ns : List Line} {from to : ℕ} → Marked m t ms ns from to → Marked m t ls ns from to
   marked_line k = marked_before (line_first r v ls ms (λ l i w. passes-one l ls ms i (other l w)) is) k
 
-  pub marked_behind : (a b : SocRead) (s : SocMarked) → a ≡ b → ReadMarked m t ms a s → ReadMarked m t ls b s
-  marked_behind a b s e k = record { read = k.read ∙ e; marks = λ h. marked_line (k.marks h) }
+  pub marked_behind : (a b : Result Soc Refusal) (s : Result SocMarked Refusal) → a ≡ b → ReadMarked m t ms a s → ReadMarked m t ls b s
+  marked_behind a b (Err f) e k = record { read = k.read ∙ e; marks = tt }
+  marked_behind a b (Ok s) e k = record { read = k.read ∙ e; marks = λ h. marked_line (k.marks h) }
+
+-- a text that is refused
+pub refused_marked : (m : ℕ) (t : List ℕ) (ls : List Line) (a : Result Soc Refusal) (f : Refusal) → Err f ≡ a → ReadMarked m t ls a (Err f)
+refused_marked m t ls a f h = record { read = h; marks = tt }

@@ -8,7 +8,7 @@ use Rattle.fields.specs.Lines.{Line}
 use Rattle.fields.specs.Readers.{no, got, after}
 use Rattle.fields.proofs.ReaderLaws.{prepend, prepend_after}
 use Rattle.soc.specs.declared.record.Module.{Module}
-use Rattle.text_lines.specs.Kinds.{Options}
+use Rattle.text_lines.specs.declared.head.Options.{Options}
 use Rattle.text_reader.specs.Reading.{module_lines, modules}
 
 -- n modules of which i are read, ds, the last of them with level last

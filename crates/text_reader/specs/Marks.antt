@@ -1,27 +1,22 @@
 -- Where the lines of a module stand among those that a reader passes (document 02, item 3): a line of module m begins with "`Module` m",
 -- and the marks are a place before the first of them and a place behind the last.
-use Rattle.std.specs.Prelude.{ℕ, ◌<◌, ◌≡◌, Bool, true, cond, List, [], ◌∷◌, ltb, eqb, take}
+use Rattle.std.specs.Prelude.{ℕ, ◌<◌, ◌≡◌, true, cond, List, [], ◌∷◌, ltb, eqb, take, Result, Ok, Err, IfOk}
 use Rattle.fields.specs.Lines.{Line, lines_from}
-use Rattle.fields.specs.Readers.{got}
+use Rattle.fields.specs.Readers.{no, got}
 use Rattle.soc.specs.Limits.{modules_max}
 use Rattle.soc.specs.Record.{no_module}
-use Rattle.soc.specs.declared.record.Module.{Module}
 use Rattle.soc.specs.declared.record.Soc.{Soc}
 use Rattle.units.specs.Places.{padded}
 use Rattle.units.specs.declared.Refusal.{Refusal}
-use Rattle.text_line_reader.specs.Due.{place_at, lines_at}
+use Rattle.text_line_reader.specs.Due.{place_at, lines_at, Inside}
 use Rattle.text_line_reader.specs.declared.place.Place.{Place}
-use Rattle.text_lines.specs.Kinds.{Options, module_due}
-use Rattle.text_lines.specs.declared.head.NameLine.{NameLine}
+use Rattle.text_lines.specs.Kinds.{module_due}
+use Rattle.text_lines.specs.declared.head.Options.{Options}
 use Rattle.text_reader.specs.Lines.{LinesReader}
-use Rattle.text_reader.specs.Reading.{modules, refused_soc, accepted_soc, answer, read_soc}
-use Rattle.text_reader.specs.Steps.{StepMeans}
+use Rattle.text_reader.specs.Reading.{modules, answer, read_soc}
 use Rattle.text_reader.specs.declared.marks.Marks.{Marks}
-use Rattle.text_reader.specs.declared.read.ModulesStep.{ModulesStep}
+use Rattle.text_reader.specs.declared.read.ModulesMarked.{ModulesMarked}
 use Rattle.text_reader.specs.declared.read.SocMarked.{SocMarked}
-use Rattle.text_reader.specs.declared.read.SocRead.{SocRead}
-use Rattle.text_reader.specs.declared.step.Step.{Step}
-use Rattle.text_reader.specs.declared.step.Step.TheVariants as step
 
 -- a line of module m
 pub record Of (m : ℕ) (l : Line) : Type 0 where
@@ -53,50 +48,32 @@ pub record Marked (m : ℕ) (t : List ℕ) (ls ms : List Line) (from to : ℕ) :
   pub lines : LinesOf m (lines_from from_line t from) (lines_from to_line t to)
   pub behind : Passes (Other m) (lines_from to_line t to) ms
 
-abbrev pub no_marks : Marks
-no_marks = record { from = 0; to = 0 }
-
 -- the marks of module m, where they were s before the lines of module i were read from a place to a place
 abbrev pub new_marks : Marks → ℕ → ℕ → ℕ → ℕ → Marks
 new_marks s m i from to = cond (eqb i m) (record { from = from; to = to }) s
 
--- the marks at the end of a step over lines from ls on that has module m or not
-abbrev pub StepMarked : ℕ → List ℕ → Bool → List Line → Step → Marks → Type 0
-StepMarked m t has ls (step.No r) s = Unit {0}
-StepMarked m t has ls (step.Next q) s = has ≡ true → Marked m t ls (lines_at t q) s.from s.to
-
--- n modules were read from a place on, and module m has its marks
-abbrev pub ModulesMean : List ℕ → Place → ℕ → Options → ℕ → ModulesStep → Type 0
-ModulesMean t p n o m r =
-    StepMeans t (take n r.modules) r.step (modules o n 0 0 (lines_at t p))
+-- n modules were read from a place on, at the front of the places for them, and module m, where it is among them, has its marks
+abbrev pub ModulesMean : List ℕ → Place → ℕ → Options → ℕ → Result (ModulesMarked × Place) Refusal → Type 0
+ModulesMean t p n o m (Err f) = no f ≡ modules o n 0 0 (lines_at t p)
+ModulesMean t p n o m (Ok (r, q)) =
+    (got (take n r.modules) (lines_at t q) ≡ modules o n 0 0 (lines_at t p))
+    × Inside t q
     × (r.modules ≡ padded modules_max no_module (take n r.modules))
-    × StepMarked m t (ltb m n) (lines_at t p) r.step r.marks
+    × (ltb m n ≡ true → Marked m t (lines_at t p) (lines_at t q) r.marks.from r.marks.to)
 
-abbrev pub refused_marked : Refusal → SocMarked
-refused_marked r = record { read = refused_soc r; marks = no_marks }
-
-abbrev pub accepted_marked : Soc → Marks → SocMarked
-accepted_marked s marks = record { read = accepted_soc s; marks = marks }
-
-abbrev pub soc_in : NameLine → ℕ → Bool → Bool → List Module → Soc
-soc_in l n p x ds =
-    record {
-      name_len = l.len;
-      name = l.name;
-      power = p;
-      xy = x;
-      module_count = n;
-      modules = ds;
-    }
+-- the record alone
+abbrev pub soc_read : Result SocMarked Refusal → Result Soc Refusal
+soc_read (Err r) = Err r
+soc_read (Ok s) = Ok s.soc
 
 -- what a text with the lines ls says, and the marks of module m where the text has it
-pub record ReadMarked (m : ℕ) (t : List ℕ) (ls : List Line) (a : SocRead) (r : SocMarked) : Type 0 where
-  pub read : r.read ≡ a
-  pub marks : m < r.read.soc.module_count → Marked m t ls [] r.marks.from r.marks.to
+pub record ReadMarked (m : ℕ) (t : List ℕ) (ls : List Line) (a : Result Soc Refusal) (r : Result SocMarked Refusal) : Type 0 where
+  pub read : soc_read r ≡ a
+  pub marks : IfOk r (λ s. m < s.soc.module_count → Marked m t ls [] s.marks.from s.marks.to)
 
 -- the same of the lines from a place on
-abbrev pub ReadsMarked : ℕ → List ℕ → Place → LinesReader Soc → SocMarked → Type 0
+abbrev pub ReadsMarked : ℕ → List ℕ → Place → LinesReader Soc → Result SocMarked Refusal → Type 0
 ReadsMarked m t p g r = ReadMarked m t (lines_at t p) (answer (g (lines_at t p))) r
 
-abbrev pub TextMarked : ℕ → List ℕ → SocMarked → Type 0
+abbrev pub TextMarked : ℕ → List ℕ → Result SocMarked Refusal → Type 0
 TextMarked m t r = ReadMarked m t (lines_at t (place_at 0 1)) (read_soc t) r

@@ -1,32 +1,30 @@
 -- What a SOC text says (document 01, "The SOC text"): its lines in order, and the record that they make; or the first refusal.
-use Rattle.std.specs.Prelude.{ℕ, zero, suc, Bool, cond, List, [], ◌∷◌, length, leb, ℤ}
-use Rattle.units.specs.Refusals.{accepted, refused}
+use Rattle.std.specs.Prelude.{ℕ, zero, suc, Bool, cond, List, [], ◌∷◌, length, leb, ℤ, Option, None, Some, Result, Ok, Err}
+use Rattle.units.specs.Refusals.{refused}
+use Rattle.units.specs.declared.Fault.TheVariants.{LongText, ForbiddenByte}
 use Rattle.units.specs.declared.Refusal.{Refusal}
 use Rattle.fields.specs.Bytes.{bad_byte}
-use Rattle.fields.specs.declared.byte.BadByte.{BadByte}
-use Rattle.fields.specs.declared.byte.BadByte.TheVariants.{OnLine, Nowhere}
 use Rattle.fields.specs.Lines.{lines_from}
 use Rattle.fields.specs.Readers.{no, got, ◌>>=◌, ◌>>◌, give, each}
 use Rattle.soc.specs.Limits.{text_max, modules_max, tests_max}
 use Rattle.units.specs.Places.{padded}
-use Rattle.soc.specs.Record.{not_given, no_test, no_module, no_soc}
+use Rattle.soc.specs.Record.{not_given, no_test, no_module}
 use Rattle.soc.specs.declared.record.Test.{Test}
 use Rattle.soc.specs.declared.record.Module.{Module}
 use Rattle.soc.specs.declared.record.Soc.{Soc}
-use Rattle.text_lines.specs.Kinds.{Name, Options, Shape, Second, name_line, total_line, options_line, level_line, second_line, tests_line, test_line}
+use Rattle.text_lines.specs.Kinds.{name_line, total_line, options_line, level_line, second_line, tests_line, test_line}
+use Rattle.text_lines.specs.declared.head.Name.{Name}
+use Rattle.text_lines.specs.declared.head.Options.{Options}
+use Rattle.text_lines.specs.declared.level.Shape.{Shape}
+use Rattle.text_lines.specs.declared.second.SecondLine.{SecondLine}
+use Rattle.text_lines.specs.declared.second.SecondLine.TheVariants.{Tests, Position}
 use Rattle.text_reader.specs.Lines.{LinesRead, LinesReader, line, no_more}
-use Rattle.text_reader.specs.declared.read.SocRead.{SocRead}
-
--- a module's position, where it is given, and its number of tests
-pub record Body : Type 0 where
-  pub x : ℤ
-  pub y : ℤ
-  pub tests : ℕ
+use Rattle.text_reader.specs.declared.block.Body.{Body}
 
 -- "with XY 1, optionally `Module` m `X` x `Y` y; `Module` m `TotalTests` t"
-unfoldable pub behind : ℕ → Second → LinesReader Body
-behind m (Second.tests t) = give (record { x = not_given; y = not_given; tests = t })
-behind m (Second.position px py) = do
+unfoldable pub behind : ℕ → SecondLine → LinesReader Body
+behind m (Tests t) = give (record { x = not_given; y = not_given; tests = t })
+behind m (Position px py) = do
   t ← line (tests_line m)
   give (record { x = px; y = py; tests = t })
 
@@ -110,20 +108,14 @@ soc = do
   behind_name name
 
 -- "A refusal returns its number and line and no other figure"
-abbrev pub refused_soc : Refusal → SocRead
-refused_soc r = record { refusal = r; soc = no_soc }
+unfoldable pub answer : LinesRead Soc → Result Soc Refusal
+answer (no r) = Err r
+answer (got s ls) = Ok s
 
-abbrev pub accepted_soc : Soc → SocRead
-accepted_soc s = record { refusal = accepted; soc = s }
-
-unfoldable pub answer : LinesRead Soc → SocRead
-answer (no r) = refused_soc r
-answer (got s ls) = accepted_soc s
-
-unfoldable pub unless_bad : BadByte → SocRead → SocRead
-unless_bad (OnLine n) a = refused_soc (refused 2 n)
-unless_bad Nowhere a = a
+unfoldable pub unless_bad : Option ℕ → Result Soc Refusal → Result Soc Refusal
+unless_bad (Some n) a = Err (refused ForbiddenByte n)
+unless_bad None a = a
 
 -- "Text: 1, then 2 anywhere, then fields from the top"
-unfoldable pub read_soc : List ℕ → SocRead
-read_soc t = cond (leb (length t) text_max) (unless_bad (bad_byte 1 t) (answer (soc (lines_from 1 t 0)))) (refused_soc (refused 1 0))
+unfoldable pub read_soc : List ℕ → Result Soc Refusal
+read_soc t = cond (leb (length t) text_max) (unless_bad (bad_byte 1 t) (answer (soc (lines_from 1 t 0)))) (Err (refused LongText 0))

@@ -1,158 +1,99 @@
 // The lines of one module.
 ghost use Rattle.std.specs.Prelude.{◌≡◌, ◌≤◌, take};
-ghost use Rattle.text_lines.specs.Kinds.{level_line, tests_line, test_line};
+ghost use Rattle.text_lines.specs.Kinds.{level_line, second_line, tests_line, test_line};
 ghost use Rattle.soc.specs.Limits.{tests_max};
-ghost use Rattle.units.specs.Places.{padded};
-ghost use Rattle.soc.specs.Record.{no_test};
 ghost use Rattle.text_reader.specs.Lines.{line};
 ghost use Rattle.text_reader.specs.Reading.{body, tests, module_tests, module_rest, module_lines};
 ghost use Rattle.text_line_reader.specs.Due.{Inside, lines_at};
-ghost use Rattle.text_reader.specs.Steps.{StepMeans, shape_in, CountMeans, BodyMeans, TestMeans};
+ghost use Rattle.text_reader.specs.Steps.{StepMeans, TestsMean};
 
-use super::head::CountStep;
-use super::step::{Step, missing};
+use super::step::{due, taken};
 use soc::{Module, NOT_GIVEN, TESTS_MAX, Test};
-use text_line_reader::{Due, Place, due_line};
-use text_lines::{Count, LevelLine, SecondLine, TestLine, Verdict};
+use text_line_reader::Place;
+use text_lines::{Options, SecondLine, Shape};
 use units::Refusal;
 
+// The position of a module, where it is given, and its number of tests.
 #[derive(Clone, Copy)]
-pub struct LevelStep {
-    pub step: Step,
-    pub line: LevelLine,
+pub struct Body {
+    pub x: i32,
+    pub y: i32,
+    pub tests: usize,
 }
 
-#[derive(Clone, Copy)]
-pub enum BodyStep {
-    No(Refusal),
-    Is(i32, i32, usize, Place),
-}
-
-#[derive(Clone, Copy)]
-pub enum TestStep {
-    No(Refusal),
-    Is(Test, Place),
-}
-
-#[derive(Clone, Copy)]
-pub struct TestsStep {
-    pub step: Step,
-    pub tests: [Test; TESTS_MAX],
-}
-
-#[derive(Clone, Copy)]
-pub struct ModuleStep {
-    pub step: Step,
-    pub module: Module,
-}
-
-fn level_step(text: &[u8], p: Place, m: u32, last: u32) -> LevelStep
+fn level_step(text: &[u8], p: Place, m: u32, last: u32) -> Result<(Shape, Place), Refusal>
     requires { Inside text.now p }
-    ensures { StepMeans text.now (shape_in result.line) result.step (line (level_line m last) (lines_at text.now p)) }
+    ensures { StepMeans text.now result (line (level_line m last) (lines_at text.now p)) }
 {
-    match due_line(text, p) {
-        Due::Missing => LevelStep {
-            step: Step::No(missing()),
-            line: text_lines::level_line(b"", m, last),
-        },
-        Due::Line(a, e, n, next) => {
-            let line = text_lines::level_line(&text[a..e], m, last);
-            let verdict = line.verdict;
-            match verdict {
-                Verdict::Refused(c) => LevelStep {
-                    step: Step::No(Refusal::at(c, n)),
-                    line,
-                },
-                Verdict::Taken => LevelStep {
-                    step: Step::Next(next),
-                    line,
-                },
-            }
-        }
-    }
+    let l = due(text, p)?;
+    taken(text_lines::level_line(&text[l.from..l.to], m, last), l)
+}
+
+fn second_step(text: &[u8], p: Place, m: u32, xy: bool) -> Result<(SecondLine, Place), Refusal>
+    requires { Inside text.now p }
+    ensures { StepMeans text.now result (line (second_line m xy) (lines_at text.now p)) }
+{
+    let l = due(text, p)?;
+    taken(text_lines::second_line(&text[l.from..l.to], m, xy), l)
 }
 
 // The line with the number of tests, behind a position.
-fn tests_count_step(text: &[u8], p: Place, m: u32) -> CountStep
+fn tests_count_step(text: &[u8], p: Place, m: u32) -> Result<(usize, Place), Refusal>
     requires { Inside text.now p }
-    ensures { CountMeans text.now result (line (tests_line m) (lines_at text.now p)) }
+    ensures { StepMeans text.now result (line (tests_line m) (lines_at text.now p)) }
 {
-    match due_line(text, p) {
-        Due::Missing => CountStep::No(missing()),
-        Due::Line(a, e, n, next) => match text_lines::tests_line(&text[a..e], m) {
-            Count::No(c) => CountStep::No(Refusal::at(c, n)),
-            Count::Is(v) => CountStep::Is(v, next),
-        },
-    }
+    let l = due(text, p)?;
+    taken(text_lines::tests_line(&text[l.from..l.to], m), l)
 }
 
-// The position, where it is given, and the number of tests.
-fn body_step(text: &[u8], p: Place, m: u32, xy: bool) -> BodyStep
+fn body_step(text: &[u8], p: Place, m: u32, xy: bool) -> Result<(Body, Place), Refusal>
     requires { Inside text.now p }
-    ensures { BodyMeans text.now result (body m xy (lines_at text.now p)) }
+    ensures { StepMeans text.now result (body m xy (lines_at text.now p)) }
 {
-    match due_line(text, p) {
-        Due::Missing => BodyStep::No(missing()),
-        Due::Line(a, e, n, next) => match text_lines::second_line(&text[a..e], m, xy) {
-            SecondLine::No(c) => BodyStep::No(Refusal::at(c, n)),
-            SecondLine::Tests(t) => BodyStep::Is(NOT_GIVEN, NOT_GIVEN, t, next),
-            SecondLine::Position(x, y) => match tests_count_step(text, next, m) {
-                CountStep::No(f) => BodyStep::No(f),
-                CountStep::Is(t, q) => BodyStep::Is(x, y, t, q),
+    let (second, next) = second_step(text, p, m, xy)?;
+    match second {
+        SecondLine::Tests(tests) => Ok((
+            Body {
+                x: NOT_GIVEN,
+                y: NOT_GIVEN,
+                tests,
             },
-        },
+            next,
+        )),
+        SecondLine::Position(x, y) => {
+            let (tests, q) = tests_count_step(text, next, m)?;
+            Ok((Body { x, y, tests }, q))
+        }
     }
 }
 
-fn test_step(text: &[u8], p: Place, m: u32, i: u32, power: bool) -> TestStep
+fn test_step(text: &[u8], p: Place, m: u32, i: u32, power: bool) -> Result<(Test, Place), Refusal>
     requires { Inside text.now p }
-    ensures { TestMeans text.now result (line (test_line m i power) (lines_at text.now p)) }
+    ensures { StepMeans text.now result (line (test_line m i power) (lines_at text.now p)) }
 {
-    match due_line(text, p) {
-        Due::Missing => TestStep::No(missing()),
-        Due::Line(a, e, n, next) => match text_lines::test_line(&text[a..e], m, i, power) {
-            TestLine::No(c) => TestStep::No(Refusal::at(c, n)),
-            TestLine::Is(t) => TestStep::Is(t, next),
-        },
-    }
+    let l = due(text, p)?;
+    taken(text_lines::test_line(&text[l.from..l.to], m, i, power), l)
 }
 
 // The lines of n tests, at the front of the places for tests.
-fn tests_step(text: &[u8], p: Place, m: u32, n: usize, power: bool) -> TestsStep
+fn tests_step(
+    text: &[u8],
+    p: Place,
+    m: u32,
+    n: usize,
+    power: bool,
+) -> Result<([Test; TESTS_MAX], Place), Refusal>
     requires { Inside text.now p × (n ≤ tests_max) }
-    ensures { StepMeans text.now (take n result.tests) result.step (tests n m power (lines_at text.now p)) × (result.tests ≡ padded tests_max no_test (take n result.tests)) }
+    ensures { TestsMean text.now n result (tests n m power (lines_at text.now p)) }
 {
     let mut list = [soc::no_test(); TESTS_MAX];
     let mut place = p;
-    let mut i: usize = 0;
-    while i < n {
-        match test_step(text, place, m, i as u32 + 1, power) {
-            TestStep::No(f) => {
-                return TestsStep {
-                    step: Step::No(f),
-                    tests: list,
-                };
-            }
-            TestStep::Is(t, q) => {
-                list[i] = t;
-                place = q;
-                i += 1;
-            }
-        }
+    for i in 0..n {
+        let (test, next) = test_step(text, place, m, i as u32 + 1, power)?;
+        list[i] = test;
+        place = next;
     }
-    TestsStep {
-        step: Step::Next(place),
-        tests: list,
-    }
-}
-
-fn refused_module(f: Refusal) -> ModuleStep
-    ensures { result.step ≡ Step.No f }
-{
-    ModuleStep {
-        step: Step::No(f),
-        module: soc::no_module(),
-    }
+    Ok((list, place))
 }
 
 // The tests of a module whose first line, position and number of tests are read.
@@ -160,35 +101,28 @@ fn module_tests(
     text: &[u8],
     p: Place,
     m: u32,
-    line: LevelLine,
-    x: i32,
-    y: i32,
-    n: usize,
-    power: bool,
-    xy: bool,
-) -> ModuleStep
-    requires { Inside text.now p × (n ≤ tests_max) }
-    ensures { StepMeans text.now result.module result.step (module_tests (record { power = power; xy = xy }) m (shape_in line) (record { x = x; y = y; tests = n }) (lines_at text.now p)) }
+    shape: Shape,
+    body: Body,
+    o: Options,
+) -> Result<(Module, Place), Refusal>
+    requires { Inside text.now p × (body.tests ≤ tests_max) }
+    ensures { StepMeans text.now result (module_tests o m shape body (lines_at text.now p)) }
 {
-    let read = tests_step(text, p, m, n, power);
-    let step = read.step;
-    let tests = read.tests;
-    let chains = line.chains;
-    ModuleStep {
-        step,
-        module: Module {
-            level: line.level,
-            inputs: line.inputs,
-            outputs: line.outputs,
-            bidirs: line.bidirs,
-            chain_count: line.chain_count,
-            chains,
-            x,
-            y,
-            test_count: n,
-            tests,
-        },
-    }
+    let (tests, behind) = tests_step(text, p, m, body.tests, o.power)?;
+    let chains = shape.chains.lengths;
+    let module = Module {
+        level: shape.level,
+        inputs: shape.terminals.inputs,
+        outputs: shape.terminals.outputs,
+        bidirs: shape.terminals.bidirs,
+        chain_count: shape.chains.count,
+        chains,
+        x: body.x,
+        y: body.y,
+        test_count: body.tests,
+        tests,
+    };
+    Ok((module, behind))
 }
 
 // A module whose first line is read.
@@ -196,17 +130,14 @@ pub fn module_rest(
     text: &[u8],
     p: Place,
     m: u32,
-    line: LevelLine,
-    power: bool,
-    xy: bool,
-) -> ModuleStep
+    shape: Shape,
+    o: Options,
+) -> Result<(Module, Place), Refusal>
     requires { Inside text.now p }
-    ensures { StepMeans text.now result.module result.step (module_rest (record { power = power; xy = xy }) m (shape_in line) (lines_at text.now p)) }
+    ensures { StepMeans text.now result (module_rest o m shape (lines_at text.now p)) }
 {
-    match body_step(text, p, m, xy) {
-        BodyStep::No(f) => refused_module(f),
-        BodyStep::Is(x, y, n, q) => module_tests(text, q, m, line, x, y, n, power, xy),
-    }
+    let (body, next) = body_step(text, p, m, o.xy)?;
+    module_tests(text, next, m, shape, body, o)
 }
 
 // The lines of module m, where the previous module has level last.
@@ -215,19 +146,11 @@ pub(crate) fn module_step(
     p: Place,
     m: u32,
     last: u32,
-    power: bool,
-    xy: bool,
-) -> ModuleStep
+    o: Options,
+) -> Result<(Module, Place), Refusal>
     requires { Inside text.now p }
-    ensures { StepMeans text.now result.module result.step (module_lines (record { power = power; xy = xy }) m last (lines_at text.now p)) }
+    ensures { StepMeans text.now result (module_lines o m last (lines_at text.now p)) }
 {
-    let read = level_step(text, p, m, last);
-    let step = read.step;
-    match step {
-        Step::No(f) => refused_module(f),
-        Step::Next(q) => {
-            let line = read.line;
-            module_rest(text, q, m, line, power, xy)
-        }
-    }
+    let (shape, next) = level_step(text, p, m, last)?;
+    module_rest(text, next, m, shape, o)
 }

@@ -8,8 +8,8 @@ mod read;
 mod step;
 
 // The steps that the reader of overlays shares, and what the reader of a pair asks for; callers want `read_soc`.
-pub use block::{ModuleStep, module_rest};
-pub use head::{OptionsStep, options_step};
+pub use block::{Body, module_rest};
+pub use head::options_step;
 pub use marks::{Marks, marked};
-pub use read::{SocMarked, SocRead, read_soc, read_soc_marked};
-pub use step::{Step, missing};
+pub use read::{SocMarked, read_soc, read_soc_marked};
+pub use step::{due, missing, taken};

@@ -2,29 +2,21 @@
 -- within its limit, so the cast keeps it. Assumes nothing.
 use native.Mathlib.Omega.{arith}
 use mathlib.Core.Path.{◌≡◌, sym, ap, ◌∙◌}
-use lib.ListN.{drop}
-use Rattle.fields.specs.Fields.{fields_of}
-use Rattle.fields.specs.Readers.{got, figure_is}
-use Rattle.fields.proofs.ReaderLaws.{after-no, after-got}
+use Rattle.fields.proofs.ReaderLaws.{after-no, after-got, key-between-within, between-within}
 use Rattle.text_lines.specs.Parts.{closed}
-use Rattle.text_lines.specs.Kinds.{level, level_line}
-use Rattle.text_lines.specs.LineAnswers.{level_answer}
 use Rattle.text_lines.proofs.HeadLaws.{closed-no}
+use Rattle.text_lines.proofs.PartLaws.{exit}
 use Rattle.text_lines.proofs.LevelLaws.{level-within}
+use Rattle.text_lines.specs.Kinds.{level_line}
 use Rattle.text_lines.proofs.level.level_line.Goals as goal
-use Rattle.text_lines.proofs.level.level_line.Goals.{In-Is}
 
--- the level that was read
-found : (c : In-Is) → let l = c.args.l.now in level c.args.m c.args.last (fields_of l) ≡ got c.in-Is.v (fields_of (drop c.in-Is.e l))
-found c = sym c.level_part.ensures ∙ ap (figure_is c.args.l.now) c.in-Is.is
+pub returns-in_err-v : goal.returns-in_err-v
+unfolding level_line
+returns-in_err-v c = rw (exit _ c.from_residual.ensures.1) (sym (closed-no _ _ (after-no _ _ _ (sym c.in_err-v.ensures))))
 
 pub overflow_cast-v : goal.overflow_cast-v
-overflow_cast-v c = let w = level-within _ _ _ _ _ (found c) in omega arith
+overflow_cast-v c = let w = level-within _ _ _ _ _ (sym c.in_ok-v.ensures) in omega arith
 
-pub returns-in-No : goal.returns-in-No
+pub returns : goal.returns
 unfolding level_line
-returns-in-No c = c.no_level.ensures ∙ sym (ap level_answer (closed-no _ _ (after-no _ _ _ (sym c.level_part.ensures ∙ ap (figure_is c.args.l.now) c.in-No.is))))
-
-pub returns-in-Is : goal.returns-in-Is
-unfolding level_line
-returns-in-Is c = c.shape_to_end.ensures ∙ sym (ap (λ g. level_answer (closed g)) (after-got _ _ _ _ (found (goal.at.returns-in-Is c).In-Is)))
+returns c = c.shape_to_end.ensures ∙ sym (ap closed (after-got _ _ _ _ (sym c.in_ok-v.ensures)))

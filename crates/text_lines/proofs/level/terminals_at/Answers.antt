@@ -2,54 +2,35 @@
 -- the casts keep them. Assumes nothing.
 use native.Mathlib.Omega.{arith}
 use mathlib.Core.Path.{◌≡◌, sym, ap, ◌∙◌}
-use lib.ListN.{drop}
+use Rattle.fields.proofs.PlaceAnswerLaws.{word-is, number_is, key-number-is}
+use Rattle.fields.proofs.ReaderLaws.{after-no, after-got, key-between-within, between-within}
 use Rattle.fields.specs.Bytes.{bytes}
-use Rattle.fields.specs.Fields.{fields_of}
-use Rattle.fields.specs.Readers.{got, figure_is}
-use Rattle.fields.proofs.PlaceAnswerLaws.{key-number-is}
-use Rattle.fields.proofs.ReaderLaws.{after-no, after-got, key-between-within}
 use Rattle.soc.specs.Limits.{terminals_max}
-use Rattle.text_lines.specs.Parts.{keyed}
+use Rattle.text_lines.proofs.PartLaws.{exit}
 use Rattle.text_lines.specs.Kinds.{terminals}
 use Rattle.text_lines.proofs.level.terminals_at.Goals as goal
-use Rattle.text_lines.proofs.level.terminals_at.Goals.{In-Is, In-Is-key_figure, In-Is-key_figure-2}
 
--- the inputs that were read
-inputs : (c : In-Is) → let l = c.args.l.now in
-    keyed "Inputs" 0 terminals_max (fields_of (drop c.args.at l)) ≡ got c.in-Is.i (fields_of (drop c.in-Is.e1 l))
-inputs c = sym (key-number-is _ _ _ _ _ c.key_figure.ensures) ∙ ap (figure_is c.args.l.now) c.in-Is.is
-
--- the outputs that were read
-outputs : (c : In-Is-key_figure) → let l = c.args.l.now in
-    keyed "Outputs" 0 terminals_max (fields_of (drop c.in-Is.e1 l)) ≡ got c.in-Is-key_figure.o (fields_of (drop c.in-Is-key_figure.e2 l))
-outputs c = sym (key-number-is _ _ _ _ _ c.key_figure-in-Is.ensures) ∙ ap (figure_is c.args.l.now) c.in-Is-key_figure.is
-
--- the bidirs that were read
-bidirs : (c : In-Is-key_figure-2) → let l = c.args.l.now in
-    keyed "Bidirs" 0 terminals_max (fields_of (drop c.in-Is-key_figure.e2 l)) ≡ got c.in-Is-key_figure-2.b (fields_of (drop c.in-Is-key_figure-2.e3 l))
-bidirs c = sym (key-number-is _ _ _ _ _ c.key_figure-in-Is-key_figure.ensures) ∙ ap (figure_is c.args.l.now) c.in-Is-key_figure-2.is
-
-pub overflow_cast-result : goal.overflow_cast-result
-overflow_cast-result c = let w = key-between-within (bytes "Inputs") 0 terminals_max _ _ _ (inputs (goal.at.overflow_cast-result c).In-Is) in omega arith
-
-pub overflow_cast-result-in-Is-key_figure-2 : goal.overflow_cast-result-in-Is-key_figure-2
-overflow_cast-result-in-Is-key_figure-2 c = let w = key-between-within (bytes "Outputs") 0 terminals_max _ _ _ (outputs (goal.at.overflow_cast-result-in-Is-key_figure-2 c).In-Is-key_figure) in omega arith
-
-pub overflow_cast-result-in-Is-key_figure-2-2 : goal.overflow_cast-result-in-Is-key_figure-2-2
-overflow_cast-result-in-Is-key_figure-2-2 c = let w = key-between-within (bytes "Bidirs") 0 terminals_max _ _ _ (bidirs c) in omega arith
-
-pub returns-in-No : goal.returns-in-No
+pub returns-in_err-i : goal.returns-in_err-i
 unfolding terminals
-returns-in-No c = sym (after-no _ _ _ (sym (key-number-is _ _ _ _ _ c.key_figure.ensures) ∙ ap (figure_is c.args.l.now) c.in-No.is))
+returns-in_err-i c = rw (exit _ c.from_residual.ensures.1) (sym (after-no _ _ _ (sym (key-number-is _ _ _ _ _ c.in_err-i.ensures))))
 
-pub returns-in-No-key_figure : goal.returns-in-No-key_figure
+pub returns-in_err-o : goal.returns-in_err-o
 unfolding terminals
-returns-in-No-key_figure c = sym (after-got _ _ _ _ (inputs (goal.at.returns-in-No-key_figure c).In-Is) ∙ after-no _ _ _ (sym (key-number-is _ _ _ _ _ c.key_figure-in-Is.ensures) ∙ ap (figure_is c.args.l.now) c.in-No-key_figure.is))
+returns-in_err-o c = rw (exit _ c.from_residual-in_err-o.ensures.1) (sym (after-got _ _ _ _ (sym (key-number-is _ _ _ _ _ c.in_ok-i.ensures)) ∙ after-no _ _ _ (sym (key-number-is _ _ _ _ _ c.in_err-o.ensures))))
 
-pub returns-in-No-key_figure-2 : goal.returns-in-No-key_figure-2
+pub returns-in_err-b : goal.returns-in_err-b
 unfolding terminals
-returns-in-No-key_figure-2 c = sym (after-got _ _ _ _ (inputs (goal.at.returns-in-No-key_figure-2 c).In-Is) ∙ after-got _ _ _ _ (outputs (goal.at.returns-in-No-key_figure-2 c).In-Is-key_figure) ∙ after-no _ _ _ (sym (key-number-is _ _ _ _ _ c.key_figure-in-Is-key_figure.ensures) ∙ ap (figure_is c.args.l.now) c.in-No-key_figure-2.is))
+returns-in_err-b c = rw (exit _ c.from_residual-in_err-b.ensures.1) (sym (after-got _ _ _ _ (sym (key-number-is _ _ _ _ _ c.in_ok-i.ensures)) ∙ after-got _ _ _ _ (sym (key-number-is _ _ _ _ _ c.in_ok-o.ensures)) ∙ after-no _ _ _ (sym (key-number-is _ _ _ _ _ c.in_err-b.ensures))))
 
-pub returns-in-Is-key_figure-2 : goal.returns-in-Is-key_figure-2
+pub overflow_cast-terminals : goal.overflow_cast-terminals
+overflow_cast-terminals c = let w = key-between-within (bytes "Inputs") 0 terminals_max _ _ _ (sym (key-number-is _ _ _ _ _ c.in_ok-i.ensures)) in omega arith
+
+pub overflow_cast-terminals-2 : goal.overflow_cast-terminals-2
+overflow_cast-terminals-2 c = let w = key-between-within (bytes "Outputs") 0 terminals_max _ _ _ (sym (key-number-is _ _ _ _ _ c.in_ok-o.ensures)) in omega arith
+
+pub overflow_cast-terminals-3 : goal.overflow_cast-terminals-3
+overflow_cast-terminals-3 c = let w = key-between-within (bytes "Bidirs") 0 terminals_max _ _ _ (sym (key-number-is _ _ _ _ _ c.in_ok-b.ensures)) in omega arith
+
+pub returns : goal.returns
 unfolding terminals
-returns-in-Is-key_figure-2 c = sym (after-got _ _ _ _ (inputs (goal.at.returns-in-Is-key_figure-2 c).In-Is) ∙ after-got _ _ _ _ (outputs (goal.at.returns-in-Is-key_figure-2 c).In-Is-key_figure) ∙ after-got _ _ _ _ (bidirs c))
+returns c = sym (after-got _ _ _ _ (sym (key-number-is _ _ _ _ _ c.in_ok-i.ensures)) ∙ after-got _ _ _ _ (sym (key-number-is _ _ _ _ _ c.in_ok-o.ensures)) ∙ after-got _ _ _ _ (sym (key-number-is _ _ _ _ _ c.in_ok-b.ensures)))

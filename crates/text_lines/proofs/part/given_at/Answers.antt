@@ -1,45 +1,26 @@
--- `text_lines::part::given_at` meets its contract. What `next_field_lem` names is the first field, by the law of fields; where it is not `-1`, its
--- number decides. Assumes nothing.
+-- `text_lines::part::given_at` meets its contract: a figure is the keyword `-1`, or a number from 0 on, which is within its limit, so that
+-- it fits. Assumes nothing.
 use native.Mathlib.Omega.{arith}
+use Prim.Native.Nat.{◌<◌}
+use lib.IntN.{pos}
 use mathlib.Core.Path.{◌≡◌, sym, ap, ◌∙◌}
-use lib.ListN.{drop}
-use Rattle.fields.specs.Fields.{fields_of, part}
-use Rattle.fields.specs.Numbers.{decimal_of}
-use Rattle.fields.proofs.FieldLaws.{FieldIs, next_field_lem, next-nothing}
-use Rattle.text_lines.specs.Parts.{or_not_given, given_is}
+use Rattle.fields.proofs.PlaceAnswerLaws.{word-is, number_is, key-number-is}
+use Rattle.fields.proofs.ReaderLaws.{after-no, after-got, key-between-within, between-within}
+use Rattle.text_lines.proofs.PartLaws.{exit, signed, given-word, given-figure}
+use Rattle.soc.proofs.FigureLaws.{figure_back}
 use Rattle.text_lines.proofs.part.given_at.Goals as goal
-use Rattle.text_lines.proofs.part.given_at.Goals.{Else-same_bytes, In-Field}
 
--- the field that was found
-field : (c : In-Field) → FieldIs c.args.l.now c.args.at c.in-Field.a c.in-Field.e
-field c = next_field_lem _ _ _ _ (sym c.next_field.ensures ∙ c.in-Field.is)
+pub returns-in-Ok : goal.returns-in-Ok
+returns-in-Ok c = sym (given-word _ _ _ (sym (word-is _ _ _ c.in-Ok.ensures)))
 
--- where it is not `-1`, its number decides
-found : (c : Else-same_bytes) → let l = c.args.l.now in
-    or_not_given c.args.high (fields_of (drop c.args.at l))
-    ≡ given_is c.args.high (decimal_of (part l c.in-Field.a c.in-Field.e)) (fields_of (drop c.in-Field.e l))
-unfolding or_not_given
-found c = ap (or_not_given c.args.high) (field (goal.at.Else-same_bytes c).In-Field).is ∙ simp (sym c.same_bytes.ensures ∙ c.if-same_bytes.false)
+pub returns-in_err-v : goal.returns-in_err-v
+returns-in_err-v c = rw (exit _ c.from_residual.ensures.1) (sym (given-figure c.args.high _ _ (sym (word-is _ _ _ c.in_default.ensures)) ∙ ap signed (sym (number_is _ _ _ _ c.in_err-v.ensures))))
 
-pub slice_bounds-same_bytes-count : goal.slice_bounds-same_bytes-count
-slice_bounds-same_bytes-count c = let f = field c in omega arith
+pub overflow_cast-result : goal.overflow_cast-result
+overflow_cast-result c = let w = between-within 0 c.args.high _ _ _ (sym (number_is _ _ _ _ c.in_ok-v.ensures)) in omega arith
 
-pub slice_bounds-same_bytes-start : goal.slice_bounds-same_bytes-start
-slice_bounds-same_bytes-start c = let f = field c in omega arith
-
-pub slice_bounds-same_bytes-end : goal.slice_bounds-same_bytes-end
-slice_bounds-same_bytes-end c = let f = field c in omega arith
-
-pub returns-then-same_bytes : goal.returns-then-same_bytes
-unfolding or_not_given
-returns-then-same_bytes c = sym (ap (or_not_given c.args.high) (field (goal.at.returns-then-same_bytes c).In-Field).is ∙ simp (sym c.same_bytes.ensures ∙ c.if-same_bytes.true))
-
-pub given_number-requires : goal.given_number-requires
-given_number-requires c = let f = field (goal.at.given_number-requires c).In-Field in (omega arith, f.high, c.requires)
-
-pub returns-in-Nothing : goal.returns-in-Nothing
-unfolding or_not_given
-returns-in-Nothing c = sym (ap (or_not_given c.args.high) (next-nothing _ _ (sym c.next_field.ensures ∙ c.in-Nothing.is)))
-
-pub returns-else-same_bytes : goal.returns-else-same_bytes
-returns-else-same_bytes c = c.given_number.ensures ∙ sym (found (goal.at.returns-else-same_bytes c).Else-same_bytes)
+pub returns : goal.returns
+returns c = let w = between-within 0 c.args.high _ _ _ (sym (number_is _ _ _ _ c.in_ok-v.ensures)) in
+    let small : c.in_ok-v.v < 2147483648 = omega arith in
+    rw (figure_back (pos c.in_ok-v.v) (record { sfits = small }))
+    (sym (given-figure c.args.high _ _ (sym (word-is _ _ _ c.in_default.ensures)) ∙ ap signed (sym (number_is _ _ _ _ c.in_ok-v.ensures))))

@@ -1,14 +1,12 @@
 -- `text_lines::part::key_due` meets its contract. The definition goes on behind the keyword as the code does. Assumes nothing.
-use mathlib.Core.Path.{sym, ap, ◌∙◌}
-use Rattle.fields.specs.Readers.{past_is}
-use Rattle.fields.proofs.PlaceAnswerLaws.{word-is}
-use Rattle.fields.proofs.ReaderLaws.{after-no, after-got}
+use mathlib.Core.Path.{◌≡◌, sym, ap, ◌∙◌}
+use Rattle.fields.proofs.PlaceAnswerLaws.{word-is, number_is, key-number-is}
+use Rattle.fields.proofs.ReaderLaws.{after-no, after-got, key-between-within, between-within}
+use Rattle.text_lines.proofs.PartLaws.{exit}
 use Rattle.text_lines.proofs.part.key_due.Goals as goal
 
-pub returns-in-No : goal.returns-in-No
-returns-in-No c = let l = c.args.l.now in
-    sym (after-no _ _ _ (sym (word-is _ _ _ c.past_word.ensures) ∙ ap (past_is l) c.in-No.is))
+pub returns-in_err-e : goal.returns-in_err-e
+returns-in_err-e c = rw (exit _ c.from_residual.ensures.1) (sym (after-no _ _ _ (sym (word-is _ _ _ c.in_err-e.ensures))))
 
-pub returns-in-At : goal.returns-in-At
-returns-in-At c = let l = c.args.l.now in
-    c.due_at.ensures ∙ sym (after-got _ _ _ _ (sym (word-is _ _ _ c.past_word.ensures) ∙ ap (past_is l) c.in-At.is))
+pub returns : goal.returns
+returns c = c.due_at.ensures ∙ sym (after-got _ _ _ _ (sym (word-is _ _ _ c.in_ok-e.ensures)))

@@ -1,18 +1,16 @@
 -- `text_lines::second::tests_line` meets its contract. The definition goes on behind the module's number as the code does. Assumes nothing.
-use mathlib.Core.Path.{sym, ap, ◌∙◌}
-use Rattle.fields.specs.Readers.{past_is}
-use Rattle.fields.proofs.ReaderLaws.{after-no, after-got}
+use mathlib.Core.Path.{◌≡◌, sym, ap, ◌∙◌}
+use Rattle.fields.proofs.ReaderLaws.{after-no, after-got, key-between-within, between-within}
 use Rattle.text_lines.specs.Parts.{closed}
+use Rattle.text_lines.proofs.HeadLaws.{closed-no}
+use Rattle.text_lines.proofs.PartLaws.{exit}
 use Rattle.text_lines.specs.Kinds.{tests_line}
-use Rattle.text_lines.specs.LineAnswers.{count_answer}
 use Rattle.text_lines.proofs.second.tests_line.Goals as goal
 
-pub returns-in-No : goal.returns-in-No
-unfolding tests_line closed count_answer
-returns-in-No c = let l = c.args.l.now in
-    sym (ap (λ g. count_answer (closed g)) (after-no _ _ _ (sym c.key_due.ensures ∙ ap (past_is l) c.in-No.is)))
-
-pub returns-in-At : goal.returns-in-At
+pub returns-in_err-e : goal.returns-in_err-e
 unfolding tests_line
-returns-in-At c = let l = c.args.l.now in
-    c.tests_to_end.ensures ∙ sym (ap (λ g. count_answer (closed g)) (after-got _ _ _ _ (sym c.key_due.ensures ∙ ap (past_is l) c.in-At.is)))
+returns-in_err-e c = rw (exit _ c.from_residual.ensures.1) (sym (closed-no _ _ (after-no _ _ _ (sym c.in_err-e.ensures))))
+
+pub returns : goal.returns
+unfolding tests_line
+returns c = c.tests_to_end.ensures ∙ sym (ap closed (after-got _ _ _ _ (sym c.in_ok-e.ensures)))

@@ -1,35 +1,23 @@
--- `text_reader::head::name_step` meets its contract. The line that is due says what its reader answers. Assumes nothing.
+-- `text_reader::head::name_step` meets its contract: the line that is due says what its reader answers. Assumes nothing.
 use native.Mathlib.Omega.{arith}
-use mathlib.Core.Path.{sym, ap, ◌∙◌}
-use Rattle.fields.specs.Readers.{no}
-use Rattle.text_line_reader.specs.Due.{LineIs}
-use Rattle.text_reader.proofs.ReadAnswerLaws.{name-refused, name_taken}
-use Rattle.text_reader.proofs.StepLaws.{line_missing, line-refuses, line-says, due-found, due_missing}
+use mathlib.Core.Path.{ap, ◌∙◌}
+use Rattle.std.proofs.lemmas.Result.{err_from_is_err_and}
+use Rattle.text_lines.specs.Kinds.{name_line}
+use Rattle.text_reader.specs.Steps.{taken}
+use Rattle.text_reader.proofs.StepLaws.{step_missing, step_line}
 use Rattle.text_reader.proofs.head.name_step.Goals as goal
-use Rattle.text_reader.proofs.head.name_step.Goals.{In-Line}
-
--- the line that is due
-found : (c : In-Line) → LineIs c.args.text.now c.args.p c.in-Line.a c.in-Line.e c.in-Line.n c.in-Line.next
-found c = due-found _ _ _ c.due_line.ensures _ _ _ _ c.in-Line.is
 
 pub slice_bounds-name_line-count : goal.slice_bounds-name_line-count
-slice_bounds-name_line-count c = (found c).begin
+slice_bounds-name_line-count c = c.in_ok-l.ensures.begin
 
 pub slice_bounds-name_line-start : goal.slice_bounds-name_line-start
-slice_bounds-name_line-start c = let k = found c in omega arith
+slice_bounds-name_line-start c = let k = c.in_ok-l.ensures in omega arith
 
-pub slice_bounds-name_line-end-in-Line : goal.slice_bounds-name_line-end-in-Line
-slice_bounds-name_line-end-in-Line c = let k = found c in omega arith
+pub slice_bounds-name_line-end : goal.slice_bounds-name_line-end
+slice_bounds-name_line-end c = let k = c.in_ok-l.ensures in omega arith
 
-pub returns-in-Missing : goal.returns-in-Missing
-returns-in-Missing c = record { is = ap no c.missing.ensures ∙ sym (line_missing _ _ (due_missing _ _ _ c.due_line.ensures c.in-Missing.is)); inside = tt }
+pub returns-in_err-l : goal.returns-in_err-l
+returns-in_err-l c = let p = err_from_is_err_and c.from_residual.result c.from_residual.ensures.1 in rw (p.1, p.2) (step_missing name_line _ _ c.in_err-l.ensures)
 
-pub returns-in-Refused : goal.returns-in-Refused
-returns-in-Refused c = record {
-  is = ap no c.at.ensures ∙ sym (line-refuses _ _ _ _ _ _ _ (found (goal.at.returns-in-Refused c).In-Line) _ (name-refused _ _ c.name_line-line.ensures _ c.in-Refused.is));
-  inside = tt;
-}
-
-pub returns-in-Taken : goal.returns-in-Taken
-returns-in-Taken c = let f = found (goal.at.returns-in-Taken c).In-Line in
-    record { is = sym (line-says _ _ _ _ _ _ _ f _ (name_taken _ _ c.name_line-line.ensures c.in-Taken.is)); inside = f.inside }
+pub returns : goal.returns
+returns c = step_line name_line _ _ _ c.in_ok-l.ensures (c.taken.ensures ∙ ap (λ r. taken r c.in_ok-l.l) c.name_line.ensures)

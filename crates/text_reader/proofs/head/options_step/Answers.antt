@@ -1,32 +1,23 @@
--- `text_reader::head::options_step` meets its contract. The line that is due says what its reader answers. Assumes nothing.
+-- `text_reader::head::options_step` meets its contract: the line that is due says what its reader answers. Assumes nothing.
 use native.Mathlib.Omega.{arith}
-use mathlib.Core.Path.{sym, ap, ◌∙◌}
-use Rattle.fields.specs.Readers.{no}
-use Rattle.text_line_reader.specs.Due.{LineIs}
-use Rattle.text_reader.proofs.ReadAnswerLaws.{options_no, options_are}
-use Rattle.text_reader.proofs.StepLaws.{line_missing, line-refuses, line-says, due-found, due_missing}
+use mathlib.Core.Path.{ap, ◌∙◌}
+use Rattle.std.proofs.lemmas.Result.{err_from_is_err_and}
+use Rattle.text_lines.specs.Kinds.{options_line}
+use Rattle.text_reader.specs.Steps.{taken}
+use Rattle.text_reader.proofs.StepLaws.{step_missing, step_line}
 use Rattle.text_reader.proofs.head.options_step.Goals as goal
-use Rattle.text_reader.proofs.head.options_step.Goals.{In-Line}
-
--- the line that is due
-found : (c : In-Line) → LineIs c.args.text.now c.args.p c.in-Line.a c.in-Line.e c.in-Line.n c.in-Line.next
-found c = due-found _ _ _ c.due_line.ensures _ _ _ _ c.in-Line.is
 
 pub slice_bounds-options_line-count : goal.slice_bounds-options_line-count
-slice_bounds-options_line-count c = (found c).begin
+slice_bounds-options_line-count c = c.in_ok-l.ensures.begin
 
 pub slice_bounds-options_line-start : goal.slice_bounds-options_line-start
-slice_bounds-options_line-start c = let k = found c in omega arith
+slice_bounds-options_line-start c = let k = c.in_ok-l.ensures in omega arith
 
 pub slice_bounds-options_line-end : goal.slice_bounds-options_line-end
-slice_bounds-options_line-end c = let k = found c in omega arith
+slice_bounds-options_line-end c = let k = c.in_ok-l.ensures in omega arith
 
-pub returns-in-Missing : goal.returns-in-Missing
-returns-in-Missing c = ap no c.missing.ensures ∙ sym (line_missing _ _ (due_missing _ _ _ c.due_line.ensures c.in-Missing.is))
+pub returns-in_err-l : goal.returns-in_err-l
+returns-in_err-l c = let p = err_from_is_err_and c.from_residual.result c.from_residual.ensures.1 in rw (p.1, p.2) (step_missing options_line _ _ c.in_err-l.ensures)
 
-pub returns-in-No : goal.returns-in-No
-returns-in-No c = ap no c.at.ensures ∙ sym (line-refuses _ _ _ _ _ _ _ (found (goal.at.returns-in-No c).In-Line) _ (options_no _ _ (sym c.options_line.ensures ∙ c.in-No.is)))
-
-pub returns-in-Are : goal.returns-in-Are
-returns-in-Are c = let f = found (goal.at.returns-in-Are c).In-Line in
-    (sym (line-says _ _ _ _ _ _ _ f _ (options_are _ _ _ (sym c.options_line.ensures ∙ c.in-Are.is))), f.inside)
+pub returns : goal.returns
+returns c = step_line options_line _ _ _ c.in_ok-l.ensures (c.taken.ensures ∙ ap (λ r. taken r c.in_ok-l.l) c.options_line.ensures)

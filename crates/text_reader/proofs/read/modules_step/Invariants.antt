@@ -1,7 +1,7 @@
 -- `text_reader::read::modules_step` meets its contract. The loop's invariant: reading n modules from the start is to put those in the first
 -- i places before reading the others from here, where the last one has level `last`, and the places from i on are spare; the marks are those
--- of module m once it was read. The measure is what is left of n. Assumes nothing.
-use Prim.Native.Nat.{◌-◌, ◌≤◌}
+-- of module m once it was read. Assumes nothing.
+use Prim.Native.Nat.{◌-◌}
 use mathlib.Core.Path.{◌≡◌}
 use lib.Dec.{ltb}
 use lib.ListN.{length, take, drop, replicate}
@@ -13,13 +13,9 @@ use Rattle.text_reader.proofs.MarkLaws.{Marking}
 use Rattle.text_reader.proofs.read.modules_step.Given as goal
 
 abbrev pub invariant-loop-i : goal.invariant-loop-i
-invariant-loop-i l = (l.i ≤ l.n)
-    × (length l.list ≡ 40)
+invariant-loop-i l = (length l.modules ≡ 40)
     × Inside l.text l.place
-    × (drop l.i l.list ≡ replicate (40 - l.i) no_module)
-    × (modules (record { power = l.power; xy = l.xy }) l.n 0 0 (lines_at l.text l.initial.place)
-    ≡ prepend (take l.i l.list) (modules (record { power = l.power; xy = l.xy }) (l.n - l.i) l.i l.last (lines_at l.text l.place)))
+    × (drop l.i l.modules ≡ replicate (40 - l.i) no_module)
+    × (modules l.o l.n 0 0 (lines_at l.text l.initial.place)
+    ≡ prepend (take l.i l.modules) (modules l.o (l.n - l.i) l.i l.last (lines_at l.text l.place)))
     × Marking l.m l.i (ltb l.m l.i) l.text (lines_at l.text l.initial.place) (lines_at l.text l.place) l.marks
-
-abbrev pub decreases-loop-i : goal.decreases-loop-i
-decreases-loop-i l = l.n - l.i

@@ -5,26 +5,25 @@ use native.Mathlib.Omega.{arith}
 use Prim.Native.Nat.{◌≤◌}
 use mathlib.Core.Path.{sym, ap, ◌∙◌}
 use lib.ListN.{length}
+use Rattle.std.specs.Prelude.{Err}
 use Rattle.soc.specs.Limits.{text_max}
-use Rattle.text_reader.specs.Reading.{refused_soc, unless_bad, read_soc}
-use Rattle.text_reader.proofs.MarkLaws.{refused_marked_lem}
+use Rattle.text_reader.specs.Reading.{unless_bad, read_soc}
+use Rattle.text_reader.proofs.MarkLaws.{refused_marked}
 use Rattle.text_reader.proofs.read.read_soc_marked.Goals as goal
 
 pub returns-then-text-gt-TEXT_MAX : goal.returns-then-text-gt-TEXT_MAX
 unfolding read_soc
 returns-then-text-gt-TEXT_MAX c = let t = c.args.text.now in
-    rw (lt-leb (length t) text_max c.if-text-gt-TEXT_MAX.true)
-    (refused_marked_lem _ _ _ _ _ _ c.refused_soc.ensures (ap refused_soc c.at.ensures))
+    rw (lt-leb (length t) text_max c.if-text-gt-TEXT_MAX.true) (refused_marked _ _ _ _ _ (ap Err c.at.ensures))
 
-pub returns-in-OnLine : goal.returns-in-OnLine
+pub returns-in-Some : goal.returns-in-Some
 unfolding read_soc unless_bad
-returns-in-OnLine c = let t = c.args.text.now in
+returns-in-Some c = let t = c.args.text.now in
     let short : length t ≤ text_max = omega arith in
-    rw (le-leb (length t) text_max short, sym c.bad_byte.ensures ∙ c.in-OnLine.is)
-    (refused_marked_lem _ _ _ _ _ _ c.refused_soc-in-OnLine.ensures (ap refused_soc c.at-in-OnLine.ensures))
+    rw (le-leb (length t) text_max short, sym c.bad_byte.ensures ∙ c.in-Some.is) (refused_marked _ _ _ _ _ (ap Err c.at-in-Some.ensures))
 
-pub returns-in-Nowhere : goal.returns-in-Nowhere
+pub returns : goal.returns
 unfolding read_soc unless_bad
-returns-in-Nowhere c = let t = c.args.text.now in
+returns c = let t = c.args.text.now in
     let short : length t ≤ text_max = omega arith in
-    rw (le-leb (length t) text_max short, sym c.bad_byte.ensures ∙ c.in-Nowhere.is) c.read_lines.ensures
+    rw (le-leb (length t) text_max short, sym c.bad_byte.ensures ∙ c.in_default.is) c.read_lines.ensures
