@@ -1,7 +1,7 @@
 -- One more wire can't hurt (document 02, item 10), of what the first planner answers where nothing is refused: more wires or more buses
 -- never give a larger least time, and what the least time is at least. Assumes nothing.
 use Prim.Native.Nat.{ℕ, ◌+◌, ◌*◌, ◌≤◌, ◌<◌}
-use mathlib.Core.Path.{◌≡◌, sym, ap, ◌∙◌}
+use mathlib.Core.Path.{◌≡◌, refl}
 use native.Mathlib.Omega.{arith}
 use borrow.Author.Tests.{le-leb}
 use lib.ListN.{length, get_or}

@@ -3,7 +3,7 @@
 -- item 1); none is module 0 (item 6). Assumes nothing.
 use native.Mathlib.Omega.{arith}
 use Prim.Native.Nat.{ℕ, suc, ◌≤◌, ◌<◌}
-use mathlib.Core.Path.{◌≡◌, refl, sym, ap, ◌∙◌}
+use mathlib.Core.Path.{◌≡◌, sym, ap, ◌∙◌}
 use mathlib.Core.Bool.{true}
 use lib.ListN.{length, get_or}
 use Rattle.std.specs.Prelude.{Result, Ok}
@@ -67,7 +67,7 @@ module _ (s : Soc) (W B c : ℕ) {r : BusPlan} (h : plan_answer s W B c ≡ Ok r
 
   -- its record is good, and its arrays have their places
   good : good_plan r ≡ true
-  good = planner_answers_good s W B c (plan_answer s W B c) refl h
+  good = planner_answers_good s W B c h
 
   whole : Whole r
   whole =
