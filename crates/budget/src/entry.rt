@@ -2,50 +2,38 @@
 // them within the budget, and the record of the best plan met.
 ghost use Rattle.std.specs.Prelude.{◌≡◌, ◌≤◌};
 ghost use Rattle.plan.specs.Tables.{Plannable};
-ghost use Rattle.budget.specs.BudgetAnswers.{limit_max, budget_max, sought_for, ended_as, answer_of, refused_budget, budget_answer};
-ghost use Rattle.budget.specs.Met.{limits_refused, met_in, Kept};
+ghost use Rattle.budget.specs.BudgetAnswers.{limit_max, budget_max, sought_for, ended_as, answer_of, budget_answer};
+ghost use Rattle.budget.specs.Met.{limits_kept, met_in, Kept};
 
 use super::answer::{BudgetAnswer, Ended};
 use super::limits::{BUDGET_MAX, BUS_LIMIT_MAX};
 use budget_search::{Spent, search_within};
 use plan::{Tables, record_of, tables_of};
-use plan_record::{BusPlan, no_plan};
+use plan_record::BusPlan;
 use soc::{Planned, Soc};
-use units::{CaptureCycles, Refusal, Wires};
+use units::{CaptureCycles, Fault, Refusal, Wires};
 use wrapper_fit::{CAPTURE_MAX, WIDTH_MAX};
-
-fn refused_budget(n: u8) -> BudgetAnswer
-    ensures { result ≡ refused_budget n }
-{
-    BudgetAnswer {
-        refusal: Refusal::at(n, 0),
-        ended: Ended::Unfinished,
-        tries: 0,
-        known: false,
-        plan: no_plan(),
-    }
-}
 
 // A search that was stopped needs more tries than the budget.
 fn ended_as(stopped: bool) -> Ended
     ensures { result ≡ ended_as stopped }
 {
     if stopped {
-        return Ended::Unfinished;
+        Ended::Unfinished
+    } else {
+        Ended::Finished
     }
-    Ended::Finished
 }
 
 // The record of the best plan met, where one is known.
-fn record_met(p: Planned, t: Tables, wires: Wires, limit: u32, spent: Spent) -> BusPlan
+fn record_met(p: Planned, t: Tables, wires: Wires, limit: u32, spent: Spent) -> Option<BusPlan>
     requires { Kept p t spent }
     ensures { result ≡ met_in p t wires.0 limit spent }
 {
-    let known = spent.known;
-    if !known {
-        return no_plan();
+    if !spent.known {
+        return None;
     }
-    record_of(p, t, wires, limit, spent.found)
+    Some(record_of(p, t, wires, limit, spent.found))
 }
 
 // What is answered where nothing is refused.
@@ -61,45 +49,42 @@ fn found_within(
     ensures { result ≡ answer_of capture.0 s wires.0 limit (sought_for capture.0 s wires.0 limit budget) }
 {
     let t = tables_of(s, p, wires, capture);
-    let cycles = t.cycles;
-    let n = p.count;
-    let b = limit as usize;
-    let spent = search_within(&cycles, wires, b, n, budget);
-    let stopped = spent.stopped;
-    let tries = spent.tries;
-    let known = spent.known;
+    let spent = search_within(&t.cycles, wires, limit as usize, p.count, budget);
     BudgetAnswer {
-        refusal: Refusal::none(),
-        ended: ended_as(stopped),
-        tries,
-        known,
+        ended: ended_as(spent.stopped),
+        tries: spent.tries,
         plan: record_met(p, t, wires, limit, spent),
     }
 }
 
-// Whether wires, buses and capture cycles are within their limits; 0, or the refusal's number: 7, 8, 16.
-fn refused_limits(wires: Wires, limit: u32, capture: CaptureCycles) -> u8
-    ensures { result ≡ limits_refused wires.0 limit capture.0 }
+// Whether n planned modules of a good SOC can be planned so: 7, 8, 16, 9, 18.
+#[tactic(auto, unfolding(crate::specs::Met::limits_kept))]
+fn keep_limits(
+    wires: Wires,
+    limit: u32,
+    capture: CaptureCycles,
+    n: usize,
+    budget: u64,
+) -> Result<(), Fault>
+    ensures { result ≡ limits_kept wires.0 limit capture.0 n budget }
 {
-    if wires.0 < 1 {
-        return 7;
+    if !(1..=WIDTH_MAX).contains(&wires.0) {
+        return Err(Fault::Width);
     }
-    if wires.0 > WIDTH_MAX {
-        return 7;
+    if !(1..=BUS_LIMIT_MAX).contains(&limit) {
+        return Err(Fault::Buses);
     }
-    if limit < 1 {
-        return 8;
+    if !(1..=CAPTURE_MAX).contains(&capture.0) {
+        return Err(Fault::Capture);
     }
-    if limit > BUS_LIMIT_MAX {
-        return 8;
+    if n < 1 {
+        return Err(Fault::NonePlanned);
     }
-    if capture.0 < 1 {
-        return 16;
+    // A fourth range in a row did not close.
+    if budget < 1 || BUDGET_MAX < budget {
+        return Err(Fault::Budget);
     }
-    if capture.0 > CAPTURE_MAX {
-        return 16;
-    }
-    0
+    Ok(())
 }
 
 // The best plan met within a budget of tries.
@@ -109,25 +94,13 @@ pub fn plan_within(
     limit: u32,
     capture: CaptureCycles,
     budget: u64,
-) -> BudgetAnswer
+) -> Result<BudgetAnswer, Refusal>
     ensures { result ≡ budget_answer s wires.0 limit capture.0 budget }
 {
     if !soc::is_good(s) {
-        return refused_budget(14);
-    }
-    let n = refused_limits(wires, limit, capture);
-    if n != 0 {
-        return refused_budget(n);
+        return Err(Refusal::at(Fault::BadSoc, 0));
     }
     let p = soc::planned_modules(s);
-    if p.count < 1 {
-        return refused_budget(9);
-    }
-    if budget < 1 {
-        return refused_budget(18);
-    }
-    if budget > BUDGET_MAX {
-        return refused_budget(18);
-    }
-    found_within(s, p, wires, limit, capture, budget)
+    keep_limits(wires, limit, capture, p.count, budget)?;
+    Ok(found_within(s, p, wires, limit, capture, budget))
 }

@@ -7,26 +7,31 @@ use mathlib.Core.List.{List, [], ◌∷◌}
 use native.Mathlib.Omega.{arith}
 use lib.Dec.{leb, eqb}
 use lib.ListN.{length, get_or}
-use Rattle.units.specs.Refusals.{accepted}
+use Rattle.std.specs.Prelude.{Result, Ok, Err}
+use Rattle.units.specs.Refusals.{refused}
+use Rattle.units.specs.declared.Fault.{Fault}
+use Rattle.units.specs.declared.Fault.TheVariants.{Width, Buses, NonePlanned, ManyPlanned, BadSoc}
+use Rattle.units.specs.declared.Refusal.{Refusal}
 use Rattle.soc.specs.Rules.{good_soc}
 use Rattle.soc.specs.Planned.{planned_of}
 use Rattle.soc.specs.declared.record.Soc.{Soc}
 use Rattle.wrapper_fit.specs.Maxima.{width_max}
 use Rattle.wrapper.proofs.CaptureLaws.{time_rises}
 use Rattle.plan_rules.specs.Plans.{Plan, IsPlan, busy_from, busies, largest, time_of}
-use Rattle.plan.specs.PlanAnswers.{limit_max, planned_max, planned_module, time_in, best_for, record_of, refused_plan, plan_answer}
-use Rattle.plan.specs.declared.answer.PlanAnswer.{PlanAnswer}
+use Rattle.plan.specs.PlanAnswers.{limit_max, planned_max, planned_module, time_in, best_for, record_of, plan_answer}
+use Rattle.plan_record.specs.declared.record.BusPlan.{BusPlan}
 use Rattle.plan_demand.proofs.PlanDemand.{answer-first, answer-time_of}
 
 -- with one capture cycle, "Plan: 14, 7, 8, 9, 10.", and the plan is the best one for times with one (`one-capture` of the wrapper layer)
 pub one-capture-plan : (s : Soc) (W B : ℕ) →
     let n = length (planned_of s) in
-    let found : PlanAnswer = record { refusal = accepted; plan = record_of 1 s W B (best_for 1 s W B) } in
-    let planned = cond (leb 1 n) (cond (leb n planned_max) found (refused_plan 10)) (refused_plan 9) in
+    let no : Fault → Result BusPlan Refusal = λ f. Err (refused f 0) in
+    let found : Result BusPlan Refusal = Ok (record_of 1 s W B (best_for 1 s W B)) in
+    let planned = cond (leb 1 n) (cond (leb n planned_max) found (no ManyPlanned)) (no NonePlanned) in
     plan_answer s W B 1
     ≡ cond (good_soc s)
-    (cond (leb 1 W && leb W width_max) (cond (leb 1 B && leb B limit_max) planned (refused_plan 8)) (refused_plan 7))
-    (refused_plan 14)
+    (cond (leb 1 W && leb W width_max) (cond (leb 1 B && leb B limit_max) planned (no Buses)) (no Width))
+    (no BadSoc)
 unfolding plan_answer
 one-capture-plan s W B = refl
 
@@ -58,8 +63,8 @@ unfolding time_in
 longer s c e l i w h = time_rises l (planned_module s i) w h
 
 -- more capture cycles never give a smaller least time
-pub answer-plan_rises : (s : Soc) (W B c e : ℕ) → c ≤ e → (plan_answer s W B c).refusal.number ≡ 0 → (plan_answer s W B e).refusal.number ≡ 0
-    → (plan_answer s W B c).plan.time.0 ≤ (plan_answer s W B e).plan.time.0
+pub answer-plan_rises : (s : Soc) (W B c e : ℕ) {p q : BusPlan} → c ≤ e → plan_answer s W B c ≡ Ok p → plan_answer s W B e ≡ Ok q
+    → p.time.0 ≤ q.time.0
 answer-plan_rises s W B c e l h k =
     let r = (answer-first s W B e k).is_plan in
     rw (answer-time_of s W B c h, answer-time_of s W B e k)

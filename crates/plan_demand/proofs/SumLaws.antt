@@ -6,6 +6,7 @@ use mathlib.Core.Bool.{true}
 use mathlib.Core.List.{List, [], ◌∷◌}
 use native.Mathlib.Omega.{arith}
 use lib.ListN.{length, get_or}
+use Rattle.std.specs.Prelude.{Ok}
 use Rattle.units.proofs.PlaceLaws.{padded-at}
 use Rattle.soc.specs.Rules.{good_soc}
 use Rattle.soc.specs.Planned.{planned_of}
@@ -17,6 +18,7 @@ use Rattle.wrapper.proofs.SumLaws.{layouts_figure}
 use Rattle.plan_rules.proofs.BoundLaws.{width_in}
 use Rattle.plan_record.specs.Record.{module_places, no_placed, module_records, plan_record}
 use Rattle.plan_record.specs.Starts.{module_of}
+use Rattle.plan_record.specs.declared.record.BusPlan.{BusPlan}
 use Rattle.plan_record.specs.declared.record.PlacedModule.{PlacedModule}
 use Rattle.plan.specs.PlanAnswers.{planned_module, time_in, wires_in, best_for, plan_answer}
 use Rattle.plan.proofs.TableLaws.{planned-number}
@@ -48,9 +50,8 @@ module _ (c : ℕ) (first : 1 ≤ c) (last : c ≤ capture_max) (s : Soc) (good 
   records_sum ws all i (b ∷ bs) e h (suc j) k = records_sum ws all (suc i) bs (omega arith) (λ l m. h (suc l) (omega arith)) j (omega arith)
 
 -- "at the width that the plan names as the module's wires"
-pub answer_layouts : (s : Soc) (W B c : ℕ) → (plan_answer s W B c).refusal.number ≡ 0 → (i : ℕ)
-    → i < (plan_answer s W B c).plan.module_count →
-    let x = module_of (plan_answer s W B c).plan i in
+pub answer_layouts : (s : Soc) (W B c : ℕ) {r : BusPlan} → plan_answer s W B c ≡ Ok r → (i : ℕ) → i < r.module_count →
+    let x = module_of r i in
     x.cycles.0 ≡ layouts_cycles s x.number x.wires.0 c
 unfolding plan_record
 answer_layouts s W B c h i k =

@@ -8,7 +8,7 @@ use Rattle.plan_search.specs.Search.{AreTimes}
 use Rattle.plan.specs.Tables.{table_places}
 use Rattle.plan.proofs.TableLaws.{times-are}
 use Rattle.budget.specs.BudgetAnswers.{ended_as}
-use Rattle.budget.proofs.EntryLaws.{found-kept, known_is, met_is, stopped-is, tries-is}
+use Rattle.budget.proofs.EntryLaws.{found-kept, met_is, stopped-is, tries-is}
 use Rattle.budget.proofs.entry.found_within.Goals as goal
 use Rattle.budget.proofs.entry.found_within.Goals.{After-tables_of-t}
 
@@ -35,7 +35,6 @@ returns c = let q = c.requires in
     let is = c.search_within-spent.ensures in
     let s = stopped-is x.capture.0 x.s x.wires.0 x.limit x.budget a q.0.numbers q.0.narrow q.3 is in
     let t = tries-is x.capture.0 x.s x.wires.0 x.limit x.budget a q.0.numbers q.0.narrow q.3 is in
-    let k = known_is x.capture.0 x.s x.wires.0 x.limit x.budget a q.0.numbers q.0.narrow q.3 is in
     let r = c.record_met.ensures ∙ met_is x.capture.0 x.s x.wires.0 x.limit x.budget a q.0.numbers q.0.narrow q.3 is in
     let e = c.ended_as.ensures ∙ ap ended_as s in
-    rw (c.none.ensures, e, t, k, r)
+    rw (e, t, r)
