@@ -57,13 +57,20 @@ pub(crate) fn tries_of(s: Progress, budget: u64) -> u64
     budget.min(s.tries)
 }
 
-// A completed placement.
+// A completed placement: the record is lent.
+fn keep_if_better(s: &mut Progress, time: u64)
+    ensures { s.new ≡ keeps s.old time }
+{
+    if !is_reached(*s, time) {
+        s.best = time;
+    }
+}
+
+// It goes in and comes out; in between it is lent.
 pub(crate) fn completed(s: Progress, time: u64) -> Progress
     ensures { result ≡ keeps s time }
 {
-    if is_reached(s, time) {
-        s
-    } else {
-        Progress { best: time, ..s }
-    }
+    let mut best = s;
+    keep_if_better(&mut best, time);
+    best
 }
