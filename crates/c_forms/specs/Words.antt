@@ -48,10 +48,6 @@ pub record PutOf (n : ℕ) (w : List ℕ) (at : ℕ) (before after : List ℕ) (
   pub put : Put w at before after r
   pub long : length w ≡ n
 
--- a row of words is put
-abbrev pub PutWords : List ℕ → ℕ → List ℕ → List ℕ → ℕ → Type 0
-PutWords vs at before after r = PutOf (word_length * length vs) (words vs) at before after r
-
 -- w, which has n bytes, at the front of a buffer, where it has the room; else nothing is put, and the answer is 0
 abbrev pub PutFront : ℕ → List ℕ → List ℕ → List ℕ → ℕ → Type 0
 PutFront n w before after r = (r ≡ put_count w before) × (after ≡ put_front w before) × (length w ≡ n)
