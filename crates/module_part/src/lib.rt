@@ -3,6 +3,7 @@
 #![tactic(auto)]
 
 ghost use Rattle.std.specs.Prelude.{◌≡◌, drop, ◌+◌};
+ghost use Rattle.fields.specs.Bytes.{lf_next};
 ghost use Rattle.fields.specs.Fields.{gap};
 ghost use Rattle.module_part.specs.Trimmed.{in_field, until_field, last_field, trimmed};
 
@@ -18,56 +19,43 @@ pub struct Part {
 fn is_gap(b: u8) -> bool
     ensures { result ≡ gap b }
 {
-    if b == 32 { true } else { b == 9 }
+    b == 32 || b == 9
+}
+
+fn is_lf_at(text: &[u8], i: usize) -> bool
+    ensures { result ≡ lf_next (drop i text.now) }
+{
+    i < text.len() && text[i] == 10
 }
 
 // Whether the byte at a place is one of a field: neither a space nor a tab, nor of a line's end.
 fn is_field_byte(text: &[u8], i: usize) -> bool
     ensures { result ≡ in_field (drop i text.now) }
 {
-    if i >= text.len() {
-        return false;
-    }
-    let b = text[i];
-    if is_gap(b) {
-        return false;
-    }
-    if b == 10 {
-        return false;
-    }
-    if b != 13 {
-        return true;
-    }
-    if i + 1 >= text.len() {
-        return true;
-    }
-    text[i + 1] != 10
+    i < text.len()
+        && !(is_gap(text[i]) || text[i] == 10 || text[i] == 13 && is_lf_at(text, i + 1))
 }
 
 // Where the first field at or behind a place begins.
 fn field_from(text: &[u8], at: usize) -> usize
     ensures { result ≡ at + until_field (drop at text.now) }
 {
-    let mut i = at;
-    while i < text.len() {
+    for i in at..text.len() {
         if is_field_byte(text, i) {
             return i;
         }
-        i += 1;
     }
-    i
+    at.max(text.len())
 }
 
 // Where the last field before a place ends.
 fn field_end(text: &[u8], to: usize) -> usize
     ensures { result ≡ last_field to text.now }
 {
-    let mut e = to;
-    while e > 0 {
-        if is_field_byte(text, e - 1) {
-            return e;
+    for i in (0..to).rev() {
+        if is_field_byte(text, i) {
+            return i + 1;
         }
-        e -= 1;
     }
     0
 }

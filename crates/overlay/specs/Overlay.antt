@@ -1,26 +1,19 @@
 -- What an overlay text says (document 02, item 3): its lines in order, and the modules that it has; or the first refusal.
-use Rattle.std.specs.Prelude.{ℕ, zero, suc, ◌+◌, Bool, true, false, cond, List, [], ◌∷◌, length, set, replicate, leb}
-use Rattle.units.specs.Refusals.{accepted, refused}
+use Rattle.std.specs.Prelude.{ℕ, zero, suc, ◌+◌, Bool, true, false, cond, List, [], ◌∷◌, length, set, replicate, leb, Option, None, Some, Result, Ok, Err}
+use Rattle.units.specs.Refusals.{refused}
+use Rattle.units.specs.declared.Fault.TheVariants.{LongText, ForbiddenByte}
 use Rattle.units.specs.declared.Refusal.{Refusal}
 use Rattle.fields.specs.Bytes.{bad_byte}
-use Rattle.fields.specs.Names.{name_max}
-use Rattle.fields.specs.declared.byte.BadByte.{BadByte}
-use Rattle.fields.specs.declared.byte.BadByte.TheVariants.{OnLine, Nowhere}
 use Rattle.fields.specs.Lines.{Line, lines_from}
 use Rattle.fields.specs.Readers.{no, got, ◌>>=◌, give}
 use Rattle.soc.specs.Limits.{text_max, modules_max}
 use Rattle.soc.specs.Record.{no_module}
-use Rattle.soc.specs.declared.record.Module.{Module}
 use Rattle.text_lines.specs.Kinds.{Name, Options, overlay_line, options_line, block_line}
 use Rattle.text_reader.specs.Lines.{LinesRead, LinesReader, line}
 use Rattle.text_reader.specs.Reading.{module_rest}
 use Rattle.overlay.specs.declared.read.Overlay.{Overlay}
-use Rattle.overlay.specs.declared.read.OverlayRead.{OverlayRead}
-
--- a block: the number of its module, and what its lines say
-pub record Block : Type 0 where
-  pub number : ℕ
-  pub says : Module
+pub use Rattle.overlay.specs.declared.block.Block.{Block}
+pub use Rattle.overlay.specs.declared.block.Places.{Places}
 
 -- "module blocks .. written as in a SOC text", with a number from low on
 unfoldable pub block : Options → ℕ → LinesReader Block
@@ -51,10 +44,6 @@ abbrev pub blocks_max : ℕ
 blocks_max = modules_max + 1
 
 -- which modules an overlay has, and what it says of them: module m at place m
-pub record Places : Type 0 where
-  pub has : List Bool
-  pub modules : List Module
-
 abbrev pub no_places : Places
 no_places = record { has = replicate modules_max false; modules = replicate modules_max no_module }
 
@@ -98,33 +87,15 @@ overlay = do
   name ← line overlay_line
   behind_name name
 
--- an overlay that says nothing
-abbrev pub no_overlay : Overlay
-no_overlay =
-    record {
-      name_len = 0;
-      name = replicate name_max 0;
-      power = false;
-      xy = false;
-      has = replicate modules_max false;
-      modules = replicate modules_max no_module;
-    }
-
 -- "A refusal returns its number and line and no other figure"
-abbrev pub refused_overlay : Refusal → OverlayRead
-refused_overlay r = record { refusal = r; overlay = no_overlay }
+unfoldable pub answer : LinesRead Overlay → Result Overlay Refusal
+answer (no r) = Err r
+answer (got o ls) = Ok o
 
-abbrev pub accepted_overlay : Overlay → OverlayRead
-accepted_overlay o = record { refusal = accepted; overlay = o }
-
-unfoldable pub answer : LinesRead Overlay → OverlayRead
-answer (no r) = refused_overlay r
-answer (got o ls) = accepted_overlay o
-
-unfoldable pub unless_bad : BadByte → OverlayRead → OverlayRead
-unless_bad (OnLine n) a = refused_overlay (refused 2 n)
-unless_bad Nowhere a = a
+unfoldable pub unless_bad : Option ℕ → Result Overlay Refusal → Result Overlay Refusal
+unless_bad (Some n) a = Err (refused ForbiddenByte n)
+unless_bad None a = a
 
 -- "overlay faults as 1 to 6 with the overlay's line", and 17 "in overlays too"
-unfoldable pub read_overlay : List ℕ → OverlayRead
-read_overlay t = cond (leb (length t) text_max) (unless_bad (bad_byte 1 t) (answer (overlay (lines_from 1 t 0)))) (refused_overlay (refused 1 0))
+unfoldable pub read_overlay : List ℕ → Result Overlay Refusal
+read_overlay t = cond (leb (length t) text_max) (unless_bad (bad_byte 1 t) (answer (overlay (lines_from 1 t 0)))) (Err (refused LongText 0))

@@ -6,4 +6,4 @@ mod line;
 mod read;
 
 // The reader of a pair asks for the marks; callers want `read_overlay`.
-pub use read::{Overlay, OverlayMarked, OverlayRead, read_overlay, read_overlay_marked};
+pub use read::{Overlay, OverlayMarked, read_overlay, read_overlay_marked};

@@ -1,21 +1,19 @@
 -- The pair of a SOC text, the base, and an overlay (document 02, item 3): the combined description, or the first refusal and the text
 -- that is meant.
-use Rattle.std.specs.Prelude.{ℕ, suc, Bool, true, false, cond, not, ◌&&◌, List, [], ◌∷◌, replicate, ltb, eqb}
-use Rattle.units.specs.Refusals.{accepted, refused}
+use Rattle.std.specs.Prelude.{ℕ, suc, Bool, true, false, cond, not, ◌&&◌, List, [], ◌∷◌, ltb, eqb, Result, Ok, Err}
+use Rattle.units.specs.Refusals.{refused}
+use Rattle.units.specs.declared.Fault.TheVariants.{OtherBase}
 use Rattle.units.specs.declared.Refusal.{Refusal}
 use Rattle.fields.specs.Bytes.{same_bytes}
-use Rattle.soc.specs.Limits.{modules_max}
-use Rattle.soc.specs.Record.{no_soc}
 use Rattle.soc.specs.declared.record.Module.{Module}
 use Rattle.soc.specs.declared.record.Soc.{Soc}
 use Rattle.text_reader.specs.Reading.{read_soc}
-use Rattle.text_reader.specs.declared.read.SocRead.{SocRead}
 use Rattle.overlay.specs.Overlay.{read_overlay}
 use Rattle.overlay.specs.declared.read.Overlay.{Overlay}
-use Rattle.overlay.specs.declared.read.OverlayRead.{OverlayRead}
 use Rattle.pair.specs.declared.read.Meant.{Meant}
 use Rattle.pair.specs.declared.read.Meant.TheVariants as meant
 use Rattle.pair.specs.declared.read.PairRead.{PairRead}
+use Rattle.pair.specs.declared.read.PairRefusal.{PairRefusal}
 
 abbrev pub same_flag : Bool → Bool → Bool
 same_flag a b = cond a b (not b)
@@ -59,24 +57,23 @@ combined s o =
     }
 
 -- "the answer says which text is meant"
-abbrev pub refused_pair : Refusal → Meant → PairRead
-refused_pair r m = record { refusal = r; meant = m; soc = no_soc; has = replicate modules_max false }
+abbrev pub refused_pair : {A : Type 0} → Refusal → Meant → Result A PairRefusal
+refused_pair r m = Err (record { refusal = r; meant = m })
 
-abbrev pub accepted_pair : Soc → List Bool → PairRead
-accepted_pair s has = record { refusal = accepted; meant = meant.Neither; soc = s; has = has }
-
--- is nothing refused?
-abbrev pub passes : Refusal → Bool
-passes r = eqb r.number 0
+-- what is read of the text that is meant
+unfoldable pub meant_of : {A : Type 0} → Meant → Result A Refusal → Result A PairRefusal
+meant_of m (Err r) = refused_pair r m
+meant_of m (Ok a) = Ok a
 
 -- "then 15 with line 0", "(overlay for 15)"
-unfoldable pub joined : Soc → Overlay → PairRead
-joined s o = cond (fits s o) (accepted_pair (combined s o) o.has) (refused_pair (refused 15 0) meant.Overlay)
+unfoldable pub joined : Soc → Overlay → Result PairRead PairRefusal
+joined s o = cond (fits s o) (Ok (record { soc = combined s o; has = o.has })) (refused_pair (refused OtherBase 0) meant.Overlay)
 
 -- "base faults first, overlay faults .. then 15"
-unfoldable pub pair_of : SocRead → OverlayRead → PairRead
-pair_of b o =
-    cond (passes b.refusal) (cond (passes o.refusal) (joined b.soc o.overlay) (refused_pair o.refusal meant.Overlay)) (refused_pair b.refusal meant.Base)
+unfoldable pub pair_of : Result Soc Refusal → Result Overlay Refusal → Result PairRead PairRefusal
+pair_of (Err r) o = refused_pair r meant.Base
+pair_of (Ok s) (Err r) = refused_pair r meant.Overlay
+pair_of (Ok s) (Ok o) = joined s o
 
-unfoldable pub read_pair : List ℕ → List ℕ → PairRead
+unfoldable pub read_pair : List ℕ → List ℕ → Result PairRead PairRefusal
 read_pair base overlay = pair_of (read_soc base) (read_overlay overlay)

@@ -4,5 +4,5 @@
 mod read;
 mod shown;
 
-pub use read::{Meant, PairRead, read_pair};
+pub use read::{Meant, PairRead, PairRefusal, read_pair};
 pub use shown::{Shown, lines_shown, module_lines};

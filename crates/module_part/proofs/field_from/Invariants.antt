@@ -1,13 +1,10 @@
--- `module_part::field_from` meets its contract. The loop's invariant: the first field at or behind `at` is the one at or behind i. The
--- measure is what is left of the text. Assumes nothing.
-use Prim.Native.Nat.{◌+◌, ◌-◌}
+-- `module_part::field_from` meets its contract. The loop's invariant: the first field at or behind `at` is the one at or behind i. Assumes
+-- nothing.
+use Prim.Native.Nat.{◌+◌}
 use mathlib.Core.Path.{◌≡◌}
-use lib.ListN.{length, drop}
+use lib.ListN.{drop}
 use Rattle.module_part.specs.Trimmed.{until_field}
 use Rattle.module_part.proofs.field_from.Given as goal
 
 abbrev pub invariant-loop-i : goal.invariant-loop-i
 invariant-loop-i l = l.at + until_field (drop l.at l.text) ≡ l.i + until_field (drop l.i l.text)
-
-abbrev pub decreases-loop-i : goal.decreases-loop-i
-decreases-loop-i l = length l.text - l.i
