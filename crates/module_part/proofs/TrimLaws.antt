@@ -2,10 +2,11 @@
 -- lines behind them stands none; where the first and the last of a line are. Assumes nothing.
 use Prim.Native.Nat.{ℕ, zero, suc, ◌+◌, ◌-◌, ◌≤◌, ◌<◌}
 use native.Mathlib.Omega.{arith}
+use native.Mathlib.Numerals.{add-one}
 use mathlib.Core.Path.{◌≡◌, refl, sym, ap, ◌∙◌}
 use mathlib.Core.Bool.{Bool, true, false, cond, not, ◌&&◌, ◌||◌, and-false, false≢true}
 use mathlib.Core.List.{List, [], ◌∷◌}
-use borrow.Author.Tests.{ne_eqb, ltb-true, ltb-false}
+use borrow.Author.Tests.{ne_eqb, le-ltb, ltb-true, ltb-false}
 use lib.ListN.{length, get_or, drop, length-drop, drop_of_length-le}
 use lib.Seq.{drop-drop, drop-cons}
 use lib.Dec.{ltb, eqb}
@@ -15,7 +16,7 @@ use Rattle.fields.specs.Fields.{gap, gaps, begins, on_field, fields_of}
 use Rattle.fields.specs.Lines.{on_line, lines_of, Line, with_line, numbered, lines_from, until_lf, line_to, line_ending, line_at}
 use Rattle.fields.specs.declared.line.OneLine.{OneLine}
 use Rattle.module_part.specs.ModulePart.{last_end}
-use Rattle.module_part.specs.Trimmed.{in_field, until_field, last_field}
+use Rattle.module_part.specs.Trimmed.{of_field, in_field, until_field, last_field}
 
 -- how many bytes of fields there are
 unfoldable ink : List ℕ → ℕ
@@ -309,41 +310,25 @@ next_last t at = go (ltb (at + until_lf (drop at t)) (length t)) refl
         let q : suc (at + until_lf (drop at t)) ≡ at + suc (until_lf (drop at t)) = omega arith in
         sym (last-over (at + until_lf (drop at t)) t (ltb-false (at + until_lf (drop at t)) (length t) e)) ∙ ap (λ k. last_field k t) q
 
--- whether the byte at a place is one of a field
+-- whether the byte at a place is one of a field, and whether it is the LF of a CRLF
+module _ (t : List ℕ) (i : ℕ) where
+  module _ (inside : i < length t) where
+    pub byte-here : of_field (get_or t i 0) (drop (i + 1) t) ≡ in_field (drop i t)
+    unfolding in_field
+    byte-here = rw (add-one, drop-cons t i 0 inside)
 
-pub byte-over : (t : List ℕ) (i : ℕ) → length t ≤ i → in_field (drop i t) ≡ false
-unfolding in_field
-byte-over t i h = ap in_field (drop_of_length-le t h)
+    pub lf-here : eqb (get_or t i 0) lf ≡ lf_next (drop i t)
+    unfolding lf_next
+    lf-here = rw (drop-cons t i 0 inside)
 
-module _ (t : List ℕ) (i : ℕ) (inside : i < length t) where
-  byte-here : in_field (drop i t) ≡ not (gap (get_or t i 0) || (eqb (get_or t i 0) lf || (eqb (get_or t i 0) cr && lf_next (drop (suc i) t))))
-  unfolding in_field
-  byte-here = ap in_field (drop-cons t i 0 inside)
+  module _ (over : length t ≤ i) where
+    pub byte-over : ltb i (length t) ≡ in_field (drop i t)
+    unfolding in_field
+    byte-over = rw (le-ltb i (length t) over, drop_of_length-le t over)
 
-  pub byte-gap : gap (get_or t i 0) ≡ true → in_field (drop i t) ≡ false
-  byte-gap g = byte-here ∙ rw g
-
-  module _ (field : gap (get_or t i 0) ≡ false) where
-    pub byte-lf : eqb (get_or t i 0) lf ≡ true → in_field (drop i t) ≡ false
-    byte-lf e = byte-here ∙ rw (field, e)
-
-    module _ (line : eqb (get_or t i 0) lf ≡ false) where
-      pub byte-some : eqb (get_or t i 0) cr ≡ false → in_field (drop i t) ≡ true
-      byte-some e = byte-here ∙ rw (field, line, e)
-
-      pub byte_last : length t ≤ i + 1 → in_field (drop i t) ≡ true
-      unfolding lf_next
-      byte_last h =
-          let k : length t ≤ suc i = omega (arith, h) in
-          let n : drop (suc i) t ≡ [] = drop_of_length-le t k in
-          byte-here ∙ rw (field, line, n, and-false (eqb (get_or t i 0) cr))
-
-      pub byte-cr : eqb (get_or t i 0) cr ≡ true → i + 1 < length t → in_field (drop i t) ≡ not (eqb (get_or t (i + 1) 0) lf)
-      unfolding lf_next
-      byte-cr e h =
-          let k : suc i ≡ i + 1 = omega arith in
-          let n : drop (suc i) t ≡ get_or t (suc i) 0 ∷ drop (suc (suc i)) t = drop-cons t (suc i) 0 (omega (arith, h)) in
-          byte-here ∙ rw (field, line, e, n, k)
+    pub lf-over : ltb i (length t) ≡ lf_next (drop i t)
+    unfolding lf_next
+    lf-over = rw (le-ltb i (length t) over, drop_of_length-le t over)
 
 -- a loop that goes on to the first byte of a field
 module _ (t : List ℕ) (i : ℕ) where

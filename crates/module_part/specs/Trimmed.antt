@@ -5,10 +5,14 @@ use Rattle.fields.specs.Bytes.{lf, cr, lf_next}
 use Rattle.fields.specs.Fields.{gap}
 use Rattle.module_part.specs.declared.Part.{Part}
 
--- does a byte of a field stand first? "Lines end in LF or CRLF", "Fields are parted by one or more spaces or tabs"
+-- is the byte b, with bs behind it, one of a field? "Lines end in LF or CRLF", "Fields are parted by one or more spaces or tabs"
+abbrev pub of_field : ℕ → List ℕ → Bool
+of_field b bs = not (gap b || (eqb b lf || (eqb b cr && lf_next bs)))
+
+-- does a byte of a field stand first?
 unfoldable pub in_field : List ℕ → Bool
 in_field [] = false
-in_field (b ∷ bs) = not (gap b || (eqb b lf || (eqb b cr && lf_next bs)))
+in_field (b ∷ bs) = of_field b bs
 
 -- how many bytes stand before the first byte of a field
 unfoldable pub until_field : List ℕ → ℕ

@@ -5,7 +5,7 @@
 ghost use Rattle.std.specs.Prelude.{◌≡◌, drop, ◌+◌};
 ghost use Rattle.fields.specs.Bytes.{lf_next};
 ghost use Rattle.fields.specs.Fields.{gap};
-ghost use Rattle.module_part.specs.Trimmed.{in_field, until_field, last_field, trimmed};
+ghost use Rattle.module_part.specs.Trimmed.{of_field, in_field, until_field, last_field, trimmed};
 
 use text_reader::Marks;
 
@@ -28,12 +28,17 @@ fn is_lf_at(text: &[u8], i: usize) -> bool
     i < text.len() && text[i] == 10
 }
 
-// Whether the byte at a place is one of a field: neither a space nor a tab, nor of a line's end.
+// Whether a byte is one of a field: neither a space nor a tab, nor of a line's end. The text goes on at the place next.
+fn is_of_field(text: &[u8], b: u8, next: usize) -> bool
+    ensures { result ≡ of_field b (drop next text.now) }
+{
+    !(is_gap(b) || b == 10 || b == 13 && is_lf_at(text, next))
+}
+
 fn is_field_byte(text: &[u8], i: usize) -> bool
     ensures { result ≡ in_field (drop i text.now) }
 {
-    i < text.len()
-        && !(is_gap(text[i]) || text[i] == 10 || text[i] == 13 && is_lf_at(text, i + 1))
+    i < text.len() && is_of_field(text, text[i], i + 1)
 }
 
 // Where the first field at or behind a place begins.

@@ -5,49 +5,72 @@ use native.Mathlib.Omega.{arith}
 use mathlib.Core.Path.{◌≡◌, refl, sym, ap}
 use mathlib.Core.Bool.{true, false}
 use mathlib.Core.List.{List, [], ◌∷◌}
+use Rattle.std.specs.Prelude.{Result, Ok, Err}
+use Rattle.units.proofs.TestLaws.{clash}
+use Rattle.units.specs.declared.Fault.{Fault}
+use Rattle.units.specs.declared.Fault.TheVariants.{WrongForm}
 use Rattle.units.specs.declared.Refusal.{Refusal}
+use Rattle.fields.specs.Fields.{fields_of, part}
 use Rattle.fields.specs.Lines.{Line}
 use Rattle.fields.specs.Readers.{no, got, FieldsGot, after, give}
 use Rattle.soc.specs.Limits.{modules_max}
 use Rattle.soc.specs.declared.record.Module.{Module}
-use Rattle.text_lines.specs.Parts.{Whole, refuses, says, closed}
-use Rattle.text_lines.specs.Kinds.{BlockStart, Options, Shape, block_line}
-use Rattle.text_lines.specs.LineAnswers.{level_answer}
-use Rattle.text_lines.specs.declared.level.LevelLine.{LevelLine}
-use Rattle.text_lines.specs.declared.part.Verdict.{Verdict}
-use Rattle.text_lines.specs.declared.part.Verdict.TheVariants.{Refused, Taken}
+use Rattle.text_lines.specs.Parts.{closed, whole}
+use Rattle.text_lines.specs.Kinds.{BlockStart, block_line}
+use Rattle.text_lines.specs.declared.head.Options.{Options}
+use Rattle.text_lines.specs.declared.level.Shape.{Shape}
 use Rattle.text_lines.proofs.LevelLaws.{start-within}
-use Rattle.text_line_reader.specs.Due.{lines_at, LineIs}
+use Rattle.text_line_reader.specs.Due.{lines_at}
+use Rattle.text_line_reader.specs.declared.place.DueLine.{DueLine}
 use Rattle.text_line_reader.specs.declared.place.Place.{Place}
 use Rattle.text_reader.specs.Lines.{LinesRead, line}
 use Rattle.text_reader.specs.Reading.{module_rest}
-use Rattle.text_reader.specs.Steps.{shape_in}
+use Rattle.text_reader.specs.Steps.{StepMeans, IsDue, taken}
 use Rattle.text_reader.proofs.CountLaws.{line-got, after_gives}
-use Rattle.overlay.specs.Overlay.{Block, block, goes_on, to_end, blocks, Places, put, puts}
-use Rattle.overlay.specs.Steps.{whole_as}
+use Rattle.text_reader.proofs.StepLaws.{step_line}
+use Rattle.overlay.specs.Overlay.{block, goes_on, to_end, blocks, put, puts}
+use Rattle.overlay.specs.declared.block.Block.{Block}
+use Rattle.overlay.specs.declared.block.Places.{Places}
+use Rattle.overlay.specs.Steps.{start_in, start_said}
+use Rattle.overlay.specs.declared.line.BlockLine.{BlockLine}
 
--- what is made of the rest of a block's first line, by its answer
-pub shape_as : {B : Type 0} (f : Shape → B) (g : FieldsGot Shape) (l : LevelLine) → l ≡ level_answer (closed g) → whole_as l.verdict (f (shape_in l)) ≡ closed (after g (λ s. give (f s)))
-unfolding level_answer closed after
-shape_as f (no c) l e = rw e
-shape_as f (got s []) l e = rw e
-shape_as f (got s (x ∷ xs)) l e = rw e
+-- what is made of the rest of a block's first line
+module _ {B : Type 0} (f : Shape → B) where
+  pub shape_no : (g : FieldsGot Shape) (e : Fault) → Err e ≡ closed g → Err e ≡ closed (after g (λ s. give (f s)))
+  unfolding closed after
+  shape_no (no c) e h = let k : e ≡ c = cc in ap Err k
+  shape_no (got s []) e h = clash cc
+  shape_no (got s (x ∷ xs)) e h = let k : e ≡ WrongForm = cc in ap Err k
 
--- what a verdict tells of the line
-module _ {A : Type 0} (v : Verdict) (a : A) (w : Whole A) (is : whole_as v a ≡ w) where
-  pub as_refused : (c : ℕ) → v ≡ Refused c → w ≡ refuses c
-  as_refused c h = sym (rw h at is)
+  pub shape_got : (g : FieldsGot Shape) (a : Shape) → Ok a ≡ closed g → Ok (f a) ≡ closed (after g (λ s. give (f s)))
+  unfolding closed after
+  shape_got (no c) a h = clash cc
+  shape_got (got s []) a h = let k : a ≡ s = cc in ap (λ x. Ok (f x)) k
+  shape_got (got s (x ∷ xs)) a h = clash cc
 
-  pub as_taken : v ≡ Taken → w ≡ says a
-  as_taken h = sym (rw h at is)
+-- what the line that is due says of a block's start
+start_taken : Result (BlockLine × Place) Refusal → Result (BlockStart × Place) Refusal
+start_taken (Err f) = Err f
+start_taken (Ok (b, q)) = Ok (start_in b, q)
 
-pub goes_none : (ls : List Line) → ls ≡ [] → goes_on ls ≡ false
-unfolding goes_on
-goes_none ls h = ap goes_on h
+-- the line that is due, as the reader of a block's start takes it
+module _ (low : ℕ) (t : List ℕ) (p : Place) (l : DueLine) (d : IsDue t p (Ok l)) (r : Result BlockLine Fault)
+    (read : start_said r ≡ whole (block_line low) (fields_of (part t l.from l.to))) where
+  start_line : StepMeans t (start_taken (taken r l)) (line (block_line low) (lines_at t p))
+  unfolding taken start_taken
+  start_line = step_line (block_line low) t p l d (go r read)
+    where
+      go : (r : Result BlockLine Fault) {w : Result BlockStart Fault} → start_said r ≡ w → start_taken (taken r l) ≡ taken w l
+      go (Err f) e = rw (← e) refl
+      go (Ok b) e = rw (← e) refl
 
-pub goes-line : (t : List ℕ) (p : Place) (a e n : ℕ) (q : Place) → LineIs t p a e n q → goes_on (lines_at t p) ≡ true
-unfolding goes_on
-goes-line t p a e n q l = ap goes_on l.is
+  pub start_no : (f : Refusal) → Err f ≡ taken r l → StepMeans {A = BlockStart} t (Err f) (line (block_line low) (lines_at t p))
+  unfolding start_taken
+  start_no f e = rw (← e) at start_line
+
+  pub start_got : (b : BlockLine) (q : Place) → Ok (b, q) ≡ taken r l → StepMeans t (Ok (start_in b, q)) (line (block_line low) (lines_at t p))
+  unfolding start_taken
+  start_got b q e = rw (← e) at start_line
 
 -- the number of a block that was read ascends, and is within its limit
 pub block_within : (o : Options) (low : ℕ) (ls : List Line) (b : Block) (ms : List Line) → block o low ls ≡ got b ms → (low ≤ b.number) × (b.number ≤ modules_max - 1)

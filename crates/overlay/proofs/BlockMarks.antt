@@ -2,13 +2,15 @@
 -- blocks are read one by one. Assumes nothing.
 use Prim.Native.Nat.{ℕ, zero, suc, ◌-◌}
 use mathlib.Core.Path.{◌≡◌, refl, sym, ap, ◌∙◌}
-use mathlib.Core.Bool.{Bool, true, false, cond, ◌&&◌, true≢false, false≢true}
+use mathlib.Core.Bool.{Bool, true, false, cond, ◌&&◌, true≢false}
 use mathlib.Core.List.{List, [], ◌∷◌}
 use mathlib.Core.Option.{Option, some, none}
 use borrow.Author.Tests.{eq-eqb}
 use lib.Dec.{leb}
 use lib.ListN.{get_or, replicate}
 use Rattle.units.proofs.TestLaws.{clash}
+use Rattle.std.specs.Prelude.{Result, Ok, Err}
+use Rattle.units.specs.declared.Fault.TheVariants.{WrongFigure}
 use Rattle.units.specs.declared.Refusal.{Refusal}
 use Rattle.fields.specs.Bytes.{bytes, same_bytes}
 use Rattle.fields.specs.Lines.{Line}
@@ -17,24 +19,23 @@ use Rattle.fields.specs.Readers.{no, got, FieldsGot, Reader, after, give, bytes_
 use Rattle.fields.proofs.ReaderLaws.{after-got}
 use Rattle.soc.specs.Limits.{modules_max}
 use Rattle.soc.specs.declared.record.Module.{Module}
-use Rattle.text_lines.specs.Parts.{due, due_is, keyed, rule, says, whole}
-use Rattle.text_lines.specs.Kinds.{Name, Options, Shape, BlockStart, module_due, overlay_line, block_number, block_shape, block_line}
+use Rattle.text_lines.specs.Parts.{due, due_is, keyed, rule, whole}
+use Rattle.text_lines.specs.Kinds.{BlockStart, module_due, overlay_line, block_number, block_shape, block_line}
+use Rattle.text_lines.specs.declared.head.Name.{Name}
+use Rattle.text_lines.specs.declared.head.Options.{Options}
+use Rattle.text_lines.specs.declared.level.Shape.{Shape}
 use Rattle.text_lines.proofs.BoundLaws.{closed-got}
 use Rattle.text_reader.specs.Lines.{LinesRead, line}
 use Rattle.text_reader.specs.Reading.{module_rest}
 use Rattle.text_reader.specs.Marks.{Other, LinesOf, Marked}
-use Rattle.text_reader.specs.declared.marks.Marks.{Marks}
-use Rattle.text_reader.specs.declared.step.Step.TheVariants as step
 use Rattle.text_reader.proofs.CountLaws.{after_gives}
 use Rattle.text_reader.proofs.LinesOfLaws.{line_first, rest-passes, word_other}
 use Rattle.text_reader.proofs.MarkLaws.{marked_line}
-use Rattle.text_line_reader.specs.declared.place.Place.{Place}
-use Rattle.overlay.specs.Overlay.{Block, block, goes_on, refused_overlay, accepted_overlay}
-use Rattle.overlay.specs.OverlayMarks.{EndMarked, BlocksMarked, refused_marked, accepted_marked, OverlayReadMarked}
-use Rattle.overlay.specs.declared.block.BlocksStep.{BlocksStep}
+use Rattle.overlay.specs.Overlay.{block}
+use Rattle.overlay.specs.declared.block.Block.{Block}
+use Rattle.overlay.specs.OverlayMarks.{OverlayReadMarked}
 use Rattle.overlay.specs.declared.read.Overlay.{Overlay}
 use Rattle.overlay.specs.declared.read.OverlayMarked.{OverlayMarked}
-use Rattle.overlay.specs.declared.read.OverlayRead.{OverlayRead}
 
 -- the number of a block is the one due there
 
@@ -43,7 +44,7 @@ unfolding within due_is
 decimal-due m none fs gs h = clash cc
 decimal-due m (some v) fs gs h = go (leb 0 v && leb v (modules_max - 1)) h
   where
-    go : (t : Bool) → cond {A = FieldsGot ℕ} t (got v fs) (no 4) ≡ got m gs → due_is m (some v) fs ≡ got tt gs
+    go : (t : Bool) → cond {A = FieldsGot ℕ} t (got v fs) (no WrongFigure) ≡ got m gs → due_is m (some v) fs ≡ got tt gs
     go true h =
         let q : v ≡ m = cc in
         let k : fs ≡ gs = cc in
@@ -83,7 +84,7 @@ number-due low m fs gs h = after_gives _ m gs (keyed "Module" 0 (modules_max - 1
     key v ks e k = after_gives _ m gs (rule (leb low v) ks) (λ u js i j. ended v ks js e (rule-left (leb low v) ks js u i) j) k
 
 -- a block's first line begins with its number
-pub start-begins : (low : ℕ) (fs : List (List ℕ)) (s : BlockStart) → whole (block_line low) fs ≡ says s
+pub start-begins : (low : ℕ) (fs : List (List ℕ)) (s : BlockStart) → whole (block_line low) fs ≡ Ok s
     → (gs : List (List ℕ)) × (module_due s.number fs ≡ got tt gs)
 unfolding block_line
 start-begins low fs s h = after_gives _ s [] (block_number low fs) number (closed-got (block_line low fs) s h)
@@ -137,7 +138,7 @@ block-lines o low ls b ms h = after_gives _ b ms (line (block_line low) ls) star
         after_gives _ b ms (module_rest o s.number s.shape ks) (λ d js i j. ended s d js (lines s ks e d js i) j) k
 
 -- an overlay's first line is of no module
-pub overlay_other : (m : ℕ) (l : Line) (a : Name) → whole overlay_line l.fields ≡ says a → Other m l
+pub overlay_other : (m : ℕ) (l : Line) (a : Name) → whole overlay_line l.fields ≡ Ok a → Other m l
 unfolding overlay_line same_bytes
 overlay_other m l a h gs e = word_other m (bytes "Overlay") _ a l.fields gs refl h e
 
@@ -147,29 +148,13 @@ none_there zero m = refl
 none_there (suc n) zero = refl
 none_there (suc n) (suc m) = none_there n m
 
-pub goes_end : (ls : List Line) → goes_on ls ≡ false → ls ≡ []
-unfolding goes_on
-goes_end [] h = refl
-goes_end (l ∷ ls) h = absurd (true≢false h)
-
--- what the blocks say of the marks
-pub blocks_marked : (m : ℕ) (t : List ℕ) (ls : List Line) (r : BlocksStep) (q : Place) → BlocksMarked m t ls r → r.step ≡ step.Next q
-    → get_or r.has m false ≡ true → Marked m t ls [] r.marks.from r.marks.to
-blocks_marked m t ls r q is e h = let k : EndMarked m t ls (step.Next q) r = rw e at is in k h
-
--- an overlay that is refused, or accepted
-module _ (m : ℕ) (t : List ℕ) (ls : List Line) (a : OverlayRead) (r : OverlayMarked) where
-  pub refused_marked_lem : (f : Refusal) → r ≡ refused_marked f → refused_overlay f ≡ a → OverlayReadMarked m t ls a r
-  refused_marked_lem f e h = rw e (record { read = h; marks = λ k. absurd (false≢true (sym (none_there modules_max m) ∙ k)) })
-
-  pub accepted_marked_lem : (o : Overlay) (marks : Marks) → r ≡ accepted_marked o marks → accepted_overlay o ≡ a
-      → (get_or o.has m false ≡ true → Marked m t ls [] marks.from marks.to)
-      → OverlayReadMarked m t ls a r
-  accepted_marked_lem o marks e h f = rw e (record { read = h; marks = f })
+-- an overlay that is refused
+pub refused_marked : (m : ℕ) (t : List ℕ) (ls : List Line) (a : Result Overlay Refusal) (f : Refusal) → Err f ≡ a → OverlayReadMarked m t ls a (Err f)
+refused_marked m t ls a f h = record { read = h; marks = tt }
 
 -- a line of no module before the others
-pub marked_behind : {A : Type 0} (m : ℕ) (t : List ℕ) (r : Reader A) (v : A) (ls ms : List Line) → line r ls ≡ got v ms
-    → ((l : Line) → whole r l.fields ≡ says v → Other m l) → (a b : OverlayRead) (s : OverlayMarked) → a ≡ b
-    → OverlayReadMarked m t ms a s
-    → OverlayReadMarked m t ls b s
-marked_behind m t r v ls ms is o a b s e k = record { read = k.read ∙ e; marks = λ h. marked_line m t r v ls ms is o (k.marks h) }
+module _ {A : Type 0} (m : ℕ) (t : List ℕ) (r : Reader A) (v : A) (ls ms : List Line) (is : line r ls ≡ got v ms)
+    (other : (l : Line) → whole r l.fields ≡ Ok v → Other m l) where
+  pub marked_behind : (a b : Result Overlay Refusal) (s : Result OverlayMarked Refusal) → a ≡ b → OverlayReadMarked m t ms a s → OverlayReadMarked m t ls b s
+  marked_behind a b (Err f) e k = record { read = k.read ∙ e; marks = tt }
+  marked_behind a b (Ok s) e k = record { read = k.read ∙ e; marks = λ h. marked_line m t r v ls ms is other (k.marks h) }

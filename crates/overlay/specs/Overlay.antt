@@ -8,12 +8,14 @@ use Rattle.fields.specs.Lines.{Line, lines_from}
 use Rattle.fields.specs.Readers.{no, got, ◌>>=◌, give}
 use Rattle.soc.specs.Limits.{text_max, modules_max}
 use Rattle.soc.specs.Record.{no_module}
-use Rattle.text_lines.specs.Kinds.{Name, Options, overlay_line, options_line, block_line}
+use Rattle.text_lines.specs.Kinds.{overlay_line, options_line, block_line}
+use Rattle.text_lines.specs.declared.head.Name.{Name}
+use Rattle.text_lines.specs.declared.head.Options.{Options}
 use Rattle.text_reader.specs.Lines.{LinesRead, LinesReader, line}
 use Rattle.text_reader.specs.Reading.{module_rest}
 use Rattle.overlay.specs.declared.read.Overlay.{Overlay}
-pub use Rattle.overlay.specs.declared.block.Block.{Block}
-pub use Rattle.overlay.specs.declared.block.Places.{Places}
+use Rattle.overlay.specs.declared.block.Block.{Block}
+use Rattle.overlay.specs.declared.block.Places.{Places}
 
 -- "module blocks .. written as in a SOC text", with a number from low on
 unfoldable pub block : Options → ℕ → LinesReader Block

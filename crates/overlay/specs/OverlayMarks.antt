@@ -5,7 +5,7 @@ use Rattle.fields.specs.Lines.{Line}
 use Rattle.fields.specs.Readers.{no, got}
 use Rattle.text_line_reader.specs.Due.{place_at, lines_at}
 use Rattle.text_line_reader.specs.declared.place.Place.{Place}
-use Rattle.text_lines.specs.Kinds.{Options}
+use Rattle.text_lines.specs.declared.head.Options.{Options}
 use Rattle.text_reader.specs.Lines.{LinesReader}
 use Rattle.text_reader.specs.Marks.{Marked}
 use Rattle.overlay.specs.Overlay.{places, answer, read_overlay}

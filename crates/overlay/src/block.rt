@@ -49,7 +49,12 @@ fn one_block(text: &[u8], p: Place, low: u32, o: Options) -> Result<(Block, Plac
 
 // The blocks to the text's end, each at the place of its module's number, and the marks of module m. Numbers ascend, so there are no more
 // than the places and one that is refused.
-pub(crate) fn blocks_to_end(text: &[u8], p: Place, o: Options, m: u32) -> Result<PlacesMarked, Refusal>
+pub(crate) fn blocks_to_end(
+    text: &[u8],
+    p: Place,
+    o: Options,
+    m: u32,
+) -> Result<PlacesMarked, Refusal>
     requires { Inside text.now p }
     ensures { BlocksMean text.now p o m result }
 {

@@ -43,7 +43,13 @@ fn name_step(text: &[u8], p: Place) -> Result<(Name, Place), Refusal>
 }
 
 // The blocks of an overlay whose first two lines are read.
-fn read_blocks(text: &[u8], p: Place, name: Name, o: Options, m: u32) -> Result<OverlayMarked, Refusal>
+fn read_blocks(
+    text: &[u8],
+    p: Place,
+    name: Name,
+    o: Options,
+    m: u32,
+) -> Result<OverlayMarked, Refusal>
     requires { Inside text.now p }
     ensures { ReadsMarked m text.now p (with_blocks name o) result }
 {
