@@ -6,20 +6,19 @@ use mathlib.Core.Path.{◌≡◌, refl, sym, ap, subst, ◌∙◌}
 use mathlib.Core.Bool.{Bool, true, false, cond, true≢false, false≢true}
 use mathlib.Core.List.{List, [], ◌∷◌, ◌++◌, map, append_assoc}
 use borrow.Author.Tests.{eqb-true, eqb-false}
-use lib.Dec.{leb, eqb}
+use lib.Dec.{eqb}
 use lib.ListN.{length, get_or, length-set}
 use lib.Seq.{get_or-set_same, get_or-set_other}
-use Rattle.std.specs.Prelude.{Option, None, Some, Ok, Err}
+use Rattle.std.specs.Prelude.{Ok}
 use Rattle.overlay.specs.declared.block.Block.{Block}
 use Rattle.overlay.specs.declared.block.Places.{Places}
 use Rattle.units.specs.Places.{all_of, any_of}
 use Rattle.units.proofs.TestLaws.{clash, and_holds}
-use Rattle.units.specs.Refusals.{refused}
-use Rattle.fields.specs.Bytes.{bytes, same_bytes, bad_byte}
+use Rattle.fields.specs.Bytes.{bytes, same_bytes}
 use Rattle.fields.specs.Lines.{Line, lines_from}
-use Rattle.fields.specs.Readers.{no, got, Reader, ◌>>◌, after, bytes_due}
+use Rattle.fields.specs.Readers.{got, Reader, ◌>>◌, after, bytes_due}
 use Rattle.fields.specs.WrittenLines.{decimal}
-use Rattle.soc.specs.Limits.{text_max, modules_max}
+use Rattle.soc.specs.Limits.{modules_max}
 use Rattle.soc.specs.Record.{no_module}
 use Rattle.soc.specs.Rules.{level_rule}
 use Rattle.soc.specs.declared.record.Module.{Module}
@@ -29,21 +28,19 @@ use Rattle.text_lines.specs.declared.head.Options.{Options}
 use Rattle.text_lines.specs.declared.level.Shape.{Shape}
 use Rattle.text_lines.specs.LineFields.{module_fields, position_fields}
 use Rattle.module_part.specs.ModulePart.{begun}
-use Rattle.text_reader.specs.Lines.{LinesRead, line}
+use Rattle.text_reader.specs.Lines.{line}
 use Rattle.text_reader.specs.Reading.{module_of, module_tests, module_rest}
 use Rattle.text.specs.Describes.{ModuleLines, fields_in, field_lines}
 use Rattle.text.proofs.PartOnly.{closed_only, after_only, word_only}
 use Rattle.text.proofs.Accepted.{got_only, line_only, body-read, tests-read, module_read}
 use Rattle.overlay.specs.Overlay.{block, goes_on, blocks, blocks_max, no_places, put}
-use Rattle.overlay.specs.Overlay.{puts, places, with_blocks, behind_name, overlay, answer, unless_bad, read_overlay}
+use Rattle.overlay.specs.Overlay.{puts, places, with_blocks, behind_name, overlay, read_overlay}
 use Rattle.overlay.specs.declared.read.Overlay.{Overlay}
 use Rattle.overlay.proofs.BlockLaws.{block_within}
 use Rattle.overlay.proofs.BlockMarks.{number-due, none_there}
-use Rattle.text.proofs.Acceptance.{text-number-some}
 use Rattle.late_changes.proofs.GoodOverlay.{overlay-lines}
 use Rattle.late_changes.specs.Together.{Lines, of_module, StandsBut}
 use Rattle.late_changes.proofs.BlockAs.{block_as}
-use Rattle.late_changes.proofs.OverlayRefused.{overlay-refuses}
 use Rattle.late_changes.proofs.TextFields.{append_left}
 use Rattle.late_changes.proofs.PartLines.{any_append}
 use Rattle.late_changes.proofs.LinesTogether.{of_back, all_other, all_append, tests_of_lem, position_of, behind_others, first-together}

@@ -4,9 +4,8 @@ use native.Mathlib.Omega.{arith}
 use mathlib.Core.Path.{◌≡◌, refl, ap, subst, ◌∙◌}
 use mathlib.Core.Bool.{Bool, true, false, cond}
 use mathlib.Core.List.{List, [], ◌∷◌}
-use mathlib.Core.Logic.{◌⊎◌, inl, inr}
-use borrow.Author.Tests.{eqb-true}
-use lib.Dec.{leb, eqb}
+use mathlib.Core.Logic.{inl, inr}
+use lib.Dec.{leb}
 use lib.ListN.{length}
 use Rattle.units.specs.declared.Fault.{Fault}
 use Rattle.units.specs.declared.Fault.TheVariants.{LongText, ForbiddenByte, OtherBase}
@@ -124,7 +123,7 @@ pair_fifteen base overlay r h n = go (read_soc base) refl (read_overlay overlay)
         not_fifteen (number_of q.fault) k (ap (λ (x : PairRefusal). number_of x.refusal.fault) i ∙ n)
 
     other : (s : Soc) (v : Overlay) (t : Bool) → fits s v ≡ t
-        → cond t (Ok (record { soc = combined s v; has = v.has })) (refused_pair (refused OtherBase 0) meant.Overlay) ≡ Err r → fits s v ≡ false
+        → cond {A = Result PairRead PairRefusal} t (Ok (record { soc = combined s v; has = v.has })) (refused_pair (refused OtherBase 0) meant.Overlay) ≡ Err r → fits s v ≡ false
     other s v true g h = clash cc
     other s v false g h = g
 

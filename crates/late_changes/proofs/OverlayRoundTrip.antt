@@ -7,8 +7,7 @@ use mathlib.Core.List.{List}
 use borrow.Author.Tests.{leb-true}
 use lib.Dec.{leb}
 use lib.ListN.{length, drop}
-use Rattle.std.specs.Prelude.{None, Result, Ok}
-use Rattle.units.specs.declared.Refusal.{Refusal}
+use Rattle.std.specs.Prelude.{None, Ok}
 use Rattle.units.specs.Places.{all_of}
 use Rattle.units.proofs.TestLaws.{and_both}
 use Rattle.fields.specs.Bytes.{bad_byte}

@@ -1,13 +1,9 @@
 -- When a pair is accepted, and what its combined description is then: one that is good, whose arrays have their lengths, and that written and read
 -- again is the same record. Assumes nothing.
 use Prim.Native.Nat.{ℕ}
-use native.Mathlib.Omega.{arith}
-use mathlib.Core.Path.{◌≡◌, refl, sym, ap, ◌∙◌}
+use mathlib.Core.Path.{◌≡◌, refl, ap, ◌∙◌}
 use mathlib.Core.Bool.{Bool, true, false, cond}
 use mathlib.Core.List.{List}
-use mathlib.Core.Logic.{◌⊎◌, inl, inr}
-use borrow.Author.Tests.{eqb-true, eqb-false}
-use lib.Dec.{eqb}
 use Rattle.units.specs.declared.Fault.TheVariants.{OtherBase}
 use Rattle.std.specs.Prelude.{Result, Ok, Err}
 use Rattle.units.specs.Refusals.{refused}
@@ -18,7 +14,6 @@ use Rattle.soc.specs.Sized.{Sized}
 use Rattle.soc.specs.declared.record.Soc.{Soc}
 use Rattle.text_reader.specs.Reading.{read_soc}
 use Rattle.text_writer.specs.WrittenSoc.{written_soc}
-use Rattle.text.specs.Numbers.{TextNumber}
 use Rattle.text.proofs.Acceptance.{accepted-good, accepted-sized}
 use Rattle.text.proofs.TextLaws.{round_trip}
 use Rattle.overlay.specs.Overlay.{read_overlay}

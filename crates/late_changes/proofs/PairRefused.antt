@@ -6,8 +6,8 @@ use mathlib.Core.Path.{◌≡◌, refl, subst}
 use mathlib.Core.Bool.{Bool, true, false, cond}
 use mathlib.Core.List.{List}
 use mathlib.Core.Logic.{◌⊎◌, inl, inr}
-use borrow.Author.Tests.{eqb-false, leb-true}
-use lib.Dec.{eqb, leb}
+use borrow.Author.Tests.{leb-true}
+use lib.Dec.{leb}
 use lib.ListN.{length}
 use Rattle.std.specs.Prelude.{Ok}
 use Rattle.units.specs.declared.Fault.TheVariants.{LongText, OtherBase}
@@ -112,7 +112,7 @@ pair_told base overlay r h = go (read_soc base) refl (read_overlay overlay) refl
     told q m e n l = let i : record { refusal = q; meant = m } ≡ r = cc in subst Told i (n, l)
 
     other : (s : Soc) (v : Overlay) (t : Bool)
-        → cond t (Ok (record { soc = combined s v; has = v.has })) (refused_pair (refused OtherBase 0) meant.Overlay) ≡ Err r → Told r
+        → cond {A = Result PairRead PairRefusal} t (Ok (record { soc = combined s v; has = v.has })) (refused_pair (refused OtherBase 0) meant.Overlay) ≡ Err r → Told r
     other s v true h = clash cc
     other s v false h = told (refused OtherBase 0) meant.Overlay h (inr refl) (omega arith)
 

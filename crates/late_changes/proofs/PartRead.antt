@@ -19,11 +19,10 @@ use Rattle.soc.specs.Record.{no_module, modules_of}
 use Rattle.soc.specs.Rules.{level_rule, good_module}
 use Rattle.soc.specs.declared.record.Module.{Module}
 use Rattle.soc.specs.declared.record.Soc.{Soc}
-use Rattle.text_reader.specs.Reading.{read_soc}
 use Rattle.text.specs.Describes.{ModuleLines, field_lines}
 use Rattle.text.proofs.SparePlaces.{good-soc}
 use Rattle.text.proofs.Acceptance.{accepted-sized}
-use Rattle.overlay.specs.Overlay.{block, read_overlay}
+use Rattle.overlay.specs.Overlay.{block}
 use Rattle.overlay.specs.declared.read.Overlay.{Overlay}
 use Rattle.module_part.specs.ModulePart.{module_part}
 use Rattle.pair.specs.Pair.{combined, read_pair}
@@ -52,13 +51,13 @@ module _ (base overlay : List ℕ) (m : ℕ) (pair : PairRead) (accepted : read_
   abbrev said : Module
   said = get_or pair.soc.modules m no_module
 
-  is : Accepted base overlay pair
+  abbrev is : Accepted base overlay pair
   is = pair_only base overlay pair accepted
 
-  under : Soc
+  abbrev under : Soc
   under = is.under
 
-  over : Overlay
+  abbrev over : Overlay
   over = is.over
 
   places : GoodPlaces over.power over.xy over.has over.modules
