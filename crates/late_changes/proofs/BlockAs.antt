@@ -3,20 +3,24 @@ use Prim.Native.Nat.{ℕ}
 use mathlib.Core.Path.{◌≡◌, sym, ap, ap₂, ◌∙◌}
 use mathlib.Core.Bool.{true}
 use mathlib.Core.List.{List, ◌∷◌}
+use Rattle.std.specs.Prelude.{Ok}
+use Rattle.overlay.specs.declared.block.Block.{Block}
 use Rattle.fields.specs.Lines.{Line}
 use Rattle.fields.specs.Readers.{got, Reader}
 use Rattle.fields.proofs.ReaderLaws.{after-got}
 use Rattle.soc.specs.Rules.{level_rule}
 use Rattle.soc.specs.declared.record.Module.{Module}
-use Rattle.text_lines.specs.Parts.{says, closed, whole}
-use Rattle.text_lines.specs.Kinds.{Options, Shape, BlockStart, level_key, level, chains_part, lengths_part, shape_part, level_line}
+use Rattle.text_lines.specs.Parts.{closed, whole}
+use Rattle.text_lines.specs.Kinds.{BlockStart, level_key, level, chains_part, lengths_part, shape_part, level_line}
+use Rattle.text_lines.specs.declared.head.Options.{Options}
+use Rattle.text_lines.specs.declared.level.Shape.{Shape}
 use Rattle.text_lines.specs.Kinds.{block_number, block_shape, block_line}
 use Rattle.text_lines.proofs.PartLaws.{rule-kept}
 use Rattle.text_reader.specs.Lines.{judged, line}
 use Rattle.text_reader.specs.Reading.{module_tests, module_rest, module_lines}
 use Rattle.text.proofs.PartOnly.{closed_only, after_only}
 use Rattle.text.proofs.Accepted.{got_only, line_only}
-use Rattle.overlay.specs.Overlay.{Block, block}
+use Rattle.overlay.specs.Overlay.{block}
 use Rattle.overlay.proofs.BlockMarks.{number-due}
 
 level_as : (low m last v : ℕ) (fs gs hs : List (List ℕ)) → block_number low fs ≡ got m gs → level_key gs ≡ got v hs → level_rule m last v ≡ true → level m last fs ≡ got v hs
@@ -34,8 +38,8 @@ shape-level v fs s gs h =
     let l = after_only w.second in
     sym (ap (λ (x : Shape). x.level) (got_only l.second).0)
 
-start_as : (low : ℕ) (fs : List (List ℕ)) (b : BlockStart) (last : ℕ) → whole (block_line low) fs ≡ says b → level_rule b.number last b.shape.level ≡ true
-    → whole (level_line b.number last) fs ≡ says b.shape
+start_as : (low : ℕ) (fs : List (List ℕ)) (b : BlockStart) (last : ℕ) → whole (block_line low) fs ≡ Ok b → level_rule b.number last b.shape.level ≡ true
+    → whole (level_line b.number last) fs ≡ Ok b.shape
 unfolding block_line block_shape level_line closed
 start_as low fs b last h r =
     let a = after_only (closed_only (block_line low fs) b h) in
@@ -47,11 +51,11 @@ start_as low fs b last h r =
     let v : b.shape.level ≡ k.value = ap (λ (x : Shape). x.level) (sym p) ∙ shape-level k.value k.left s.value s.left k.second in
     let q : level_rule a.value last k.value ≡ true = ap₂ (λ i j. level_rule i last j) n (sym v) ∙ r in
     let l : level b.number last fs ≡ got k.value k.left = ap (λ i. level i last fs) (sym n) ∙ level_as low a.value last k.value fs a.left k.left a.first k.first q in
-    ap closed (after-got _ _ _ _ l ∙ k.second ∙ ap (got s.value) g.1) ∙ ap says p
+    ap closed (after-got _ _ _ _ l ∙ k.second ∙ ap (got s.value) g.1) ∙ ap Ok p
 
 -- a line that says what is read from it
 pub line_as : {A : Type 0} (p : Reader A) (ls : List Line) (l : Line) (rest : List Line) (v : A) → ls ≡ l ∷ rest
-    → whole p l.fields ≡ says v → line p ls ≡ got v rest
+    → whole p l.fields ≡ Ok v → line p ls ≡ got v rest
 unfolding line judged
 line_as p ls l rest v e h = ap (line p) e ∙ ap (judged l.number rest) h
 

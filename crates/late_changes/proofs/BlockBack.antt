@@ -6,6 +6,7 @@ use mathlib.Core.Bool.{Bool, true}
 use mathlib.Core.List.{List, [], ◌∷◌, map, append-nil}
 use borrow.Author.Tests.{le-leb}
 use lib.Dec.{leb}
+use Rattle.std.specs.Prelude.{Ok}
 use Rattle.units.proofs.TestLaws.{clash}
 use Rattle.fields.specs.Bytes.{bytes}
 use Rattle.fields.specs.Lines.{Line}
@@ -16,8 +17,10 @@ use Rattle.soc.specs.Limits.{modules_max}
 use Rattle.soc.specs.Rules.{level_rule, good_module}
 use Rattle.soc.specs.Sized.{SizedModule}
 use Rattle.soc.specs.declared.record.Module.{Module}
-use Rattle.text_lines.specs.Parts.{says, closed, whole}
-use Rattle.text_lines.specs.Kinds.{Options, Shape, module_due, level_key, level, level_line, block_number, block_shape, block_line}
+use Rattle.text_lines.specs.Parts.{closed, whole}
+use Rattle.text_lines.specs.Kinds.{module_due, level_key, level, level_line, block_number, block_shape, block_line}
+use Rattle.text_lines.specs.declared.head.Options.{Options}
+use Rattle.text_lines.specs.declared.level.Shape.{Shape}
 use Rattle.text_lines.proofs.PartLaws.{rule-kept}
 use Rattle.text_reader.specs.Reading.{module_lines}
 use Rattle.text.specs.Describes.{ModuleLines, fields_in}
@@ -37,8 +40,8 @@ number_back m fs gs h e =
     let r = rule-kept (leb m m) gs (le-leb m m (omega arith)) in
     rw f (after-got _ _ _ _ (after-got _ _ _ _ (word_back (bytes "Module") (decimal m ∷ gs)) ∙ k) ∙ after-got _ _ _ _ r)
 
-start_back : (m last : ℕ) (fs : List (List ℕ)) (s : Shape) → m ≤ modules_max - 1 → whole (level_line m last) fs ≡ says s
-    → whole (block_line m) fs ≡ says (record { number = m; shape = s })
+start_back : (m last : ℕ) (fs : List (List ℕ)) (s : Shape) → m ≤ modules_max - 1 → whole (level_line m last) fs ≡ Ok s
+    → whole (block_line m) fs ≡ Ok (record { number = m; shape = s })
 unfolding level_line level block_line block_shape closed
 start_back m last fs s h e =
     let a = after_only (closed_only (level_line m last fs) s e) in

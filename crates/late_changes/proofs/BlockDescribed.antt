@@ -7,6 +7,7 @@ use mathlib.Core.List.{List, [], ◌∷◌, ◌++◌, map}
 use borrow.Author.Tests.{le-leb}
 use lib.Dec.{leb}
 use lib.ListN.{drop}
+use Rattle.std.specs.Prelude.{Ok}
 use Rattle.units.proofs.TestLaws.{clash, and_both}
 use Rattle.fields.specs.Bytes.{bytes}
 use Rattle.fields.specs.Lines.{Line}
@@ -16,8 +17,9 @@ use Rattle.fields.proofs.ReaderLaws.{after-got}
 use Rattle.soc.specs.Limits.{modules_max, level_max}
 use Rattle.soc.specs.Sized.{SizedModule}
 use Rattle.soc.specs.declared.record.Module.{Module}
-use Rattle.text_lines.specs.Parts.{rule, says, closed, whole}
-use Rattle.text_lines.specs.Kinds.{Shape, shape_part, level_line, block_number, block_shape, block_line}
+use Rattle.text_lines.specs.Parts.{rule, closed, whole}
+use Rattle.text_lines.specs.Kinds.{shape_part, level_line, block_number, block_shape, block_line}
+use Rattle.text_lines.specs.declared.level.Shape.{Shape}
 use Rattle.text_lines.specs.LineFields.{level_fields, position_fields, tests_fields}
 use Rattle.text_reader.specs.Reading.{module_rest, module_lines}
 use Rattle.text.specs.Describes.{ModuleLines, fields_in}
@@ -51,7 +53,7 @@ number_back low m fs h k = simp (word_back, between_back 0 (modules_max - 1) m (
 
 start_back : (low m v : ℕ) (fs : List (List ℕ)) (s : Shape) → low ≤ m → m ≤ modules_max - 1 → leb v level_max ≡ true
     → shape_part v fs ≡ got s []
-    → whole (block_line low) (start_fields m v fs) ≡ says (record { number = m; shape = s })
+    → whole (block_line low) (start_fields m v fs) ≡ Ok (record { number = m; shape = s })
 unfolding block_line block_shape closed
 start_back low m v fs s h k l e =
     let b : block_shape (bytes "Level" ∷ decimal v ∷ fs) ≡ got s [] =
@@ -59,7 +61,7 @@ start_back low m v fs s h k l e =
     ap closed (after-got _ _ _ _ (number_back low m (bytes "Level" ∷ decimal v ∷ fs) h k) ∙ after-got _ _ _ _ b)
 
 -- what a ruled first line says of the fields behind its level
-line-shape : (m : ℕ) (fs : List (List ℕ)) (s : Shape) → whole (level_line m 0) (start_fields m (ruled m) fs) ≡ says s
+line-shape : (m : ℕ) (fs : List (List ℕ)) (s : Shape) → whole (level_line m 0) (start_fields m (ruled m) fs) ≡ Ok s
     → shape_part (ruled m) fs ≡ got s []
 unfolding level_line
 line-shape m fs s h = sym (after-got _ _ _ _ (level-ruled m fs)) ∙ closed_only (level_line m 0 (start_fields m (ruled m) fs)) s h
@@ -106,7 +108,7 @@ module _
         let j : k.first ≡ line_ruled l = cc in
         let x : start_fields m w (behind_level m d) ≡ k.first.fields =
         sym (level-start m (with_level w d) ∙ ap (start_fields m w) (behind-at m w d)) ∙ ap fields_in (sym j) in
-        let y : whole (level_line m 0) (start_fields m w (behind_level m d)) ≡ says a.value = ap (whole (level_line m 0)) x ∙ k.says in
+        let y : whole (level_line m 0) (start_fields m w (behind_level m d)) ≡ Ok a.value = ap (whole (level_line m 0)) x ∙ k.says in
         let s = shape_at w d.level (behind_level m d) a.value [] (line-shape m (behind_level m d) a.value y) in
         let b = start_back low m d.level (behind_level m d) (at_level d.level a.value) least most block-level s in
         let v = ap (whole (block_line low)) (f ∙ level-start m d) ∙ b in

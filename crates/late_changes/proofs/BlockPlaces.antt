@@ -7,6 +7,8 @@ use mathlib.Core.Bool.{Bool, true, false}
 use mathlib.Core.List.{List, [], ◌∷◌, ◌++◌, append_assoc}
 use lib.ListN.{length, get_or, set, replicate, length-append, length-replicate, replicate-append-replicate}
 use lib.Seq.{append_snoc, set_at}
+use Rattle.overlay.specs.declared.block.Block.{Block}
+use Rattle.overlay.specs.declared.block.Places.{Places}
 use Rattle.units.specs.Places.{all_of}
 use Rattle.units.proofs.TestLaws.{and_both, and_holds}
 use Rattle.soc.specs.Limits.{modules_max}
@@ -16,7 +18,7 @@ use Rattle.soc.specs.Sized.{SizedModule}
 use Rattle.soc.specs.declared.record.Module.{Module}
 use Rattle.text.specs.Describes.{ModuleLines}
 use Rattle.text.proofs.SparePlaces.{AllSized, sized-first, sized-rest}
-use Rattle.overlay.specs.Overlay.{Block, Places, puts}
+use Rattle.overlay.specs.Overlay.{puts}
 use Rattle.late_changes.specs.DescribesOverlay.{BlocksLines}
 use Rattle.late_changes.specs.OverlayRules.{good_block, good_blocks}
 

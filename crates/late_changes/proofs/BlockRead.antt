@@ -7,6 +7,8 @@ use mathlib.Core.List.{List, [], ◌∷◌, ◌++◌, map}
 use borrow.Author.Tests.{le-leb}
 use lib.Dec.{leb}
 use lib.ListN.{drop}
+use Rattle.std.specs.Prelude.{Ok}
+use Rattle.overlay.specs.declared.block.Block.{Block}
 use Rattle.fields.specs.Bytes.{bytes}
 use Rattle.fields.specs.Lines.{Line}
 use Rattle.fields.specs.Readers.{got, after}
@@ -15,15 +17,17 @@ use Rattle.fields.proofs.ReaderLaws.{after-got}
 use Rattle.soc.specs.Limits.{modules_max, level_max}
 use Rattle.soc.specs.Sized.{SizedModule}
 use Rattle.soc.specs.declared.record.Module.{Module}
-use Rattle.text_lines.specs.Parts.{rule, says, closed, whole}
-use Rattle.text_lines.specs.Kinds.{Options, Shape, BlockStart, level, shape_part, level_line, block_number, block_shape, block_line}
+use Rattle.text_lines.specs.Parts.{rule, closed, whole}
+use Rattle.text_lines.specs.Kinds.{BlockStart, level, shape_part, level_line, block_number, block_shape, block_line}
+use Rattle.text_lines.specs.declared.head.Options.{Options}
+use Rattle.text_lines.specs.declared.level.Shape.{Shape}
 use Rattle.text_lines.specs.LineFields.{module_fields, level_fields, position_fields, tests_fields}
 use Rattle.text_reader.specs.Reading.{module_rest, module_lines}
 use Rattle.text.specs.Describes.{ModuleLines, fields_in}
 use Rattle.text.proofs.LineBack.{word_back, due_back, up_to_back}
 use Rattle.text.proofs.PartOnly.{closed_only, after_only, keyed_only, rule_only}
 use Rattle.text.proofs.Accepted.{got_only, line_only, module_read}
-use Rattle.overlay.specs.Overlay.{Block, block}
+use Rattle.overlay.specs.Overlay.{block}
 use Rattle.late_changes.specs.OverlayRules.{good_block}
 use Rattle.late_changes.proofs.BlockAs.{line_as}
 use Rattle.late_changes.proofs.OtherLevel.{with_level, at_level, ruled, ruled-rule, ruled-most, shape_at, rest_at, good_only}
@@ -43,7 +47,7 @@ record StartSays (fs : List (List ℕ)) (b : BlockStart) : Type 0 where
 shape-level : (v : ℕ) (fs : List (List ℕ)) (s : Shape) (gs : List (List ℕ)) → shape_part v fs ≡ got s gs → v ≡ s.level
 shape-level v fs s gs h = ap (λ (x : Shape). x.level) (got_only (sym (shape_at v v fs s gs h) ∙ h)).0
 
-start_only : (low : ℕ) (fs : List (List ℕ)) (b : BlockStart) → whole (block_line low) fs ≡ says b → StartSays fs b
+start_only : (low : ℕ) (fs : List (List ℕ)) (b : BlockStart) → whole (block_line low) fs ≡ Ok b → StartSays fs b
 unfolding block_line block_number block_shape
 start_only low fs b h =
     let a = after_only (closed_only (block_line low fs) b h) in
@@ -74,7 +78,7 @@ unfolding level rule after
 level-ruled m fs = simp (word_back, due_back, up_to_back level_max (ruled m) (ruled-most m), ruled-rule m)
 
 pub line-ruled : (m v : ℕ) (fs : List (List ℕ)) (s : Shape) → shape_part v fs ≡ got s []
-    → whole (level_line m 0) (start_fields m (ruled m) fs) ≡ says (at_level (ruled m) s)
+    → whole (level_line m 0) (start_fields m (ruled m) fs) ≡ Ok (at_level (ruled m) s)
 unfolding level_line closed
 line-ruled m v fs s h = ap closed (after-got _ _ _ _ (level-ruled m fs) ∙ shape_at v (ruled m) fs s [] h)
 

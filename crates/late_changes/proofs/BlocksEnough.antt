@@ -4,12 +4,13 @@ use native.Mathlib.Omega.{arith}
 use mathlib.Core.Path.{◌≡◌, refl, ap}
 use mathlib.Core.Bool.{cond}
 use mathlib.Core.List.{List, [], ◌∷◌}
+use Rattle.overlay.specs.declared.block.Block.{Block}
 use Rattle.fields.specs.Lines.{Line}
 use Rattle.fields.specs.Readers.{no, got, after, give}
 use Rattle.soc.specs.Limits.{modules_max}
-use Rattle.text_lines.specs.Kinds.{Options}
+use Rattle.text_lines.specs.declared.head.Options.{Options}
 use Rattle.text_reader.specs.Lines.{LinesRead}
-use Rattle.overlay.specs.Overlay.{Block, block, goes_on, to_end, blocks}
+use Rattle.overlay.specs.Overlay.{block, goes_on, to_end, blocks}
 use Rattle.overlay.proofs.BlockLaws.{block_within}
 
 -- with numbers from low on there is room for a block more than can come

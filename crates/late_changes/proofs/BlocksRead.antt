@@ -5,18 +5,19 @@ use native.Mathlib.Omega.{arith}
 use mathlib.Core.Path.{◌≡◌, refl, ap, subst, ◌∙◌}
 use mathlib.Core.Bool.{Bool, true, false, cond, true≢false}
 use mathlib.Core.List.{List, [], ◌∷◌, ◌++◌, map}
+use Rattle.overlay.specs.declared.block.Block.{Block}
 use Rattle.units.proofs.TestLaws.{clash}
 use Rattle.fields.specs.Lines.{Line}
 use Rattle.fields.specs.Readers.{got, ◌>>=◌, give}
 use Rattle.fields.proofs.ReaderLaws.{after-got}
 use Rattle.soc.specs.Limits.{modules_max}
-use Rattle.text_lines.specs.Kinds.{Options}
+use Rattle.text_lines.specs.declared.head.Options.{Options}
 use Rattle.text_reader.specs.Lines.{LinesReader}
 use Rattle.text.specs.Describes.{fields_in}
 use Rattle.text.proofs.PartOnly.{after_only}
 use Rattle.text.proofs.Accepted.{got_only}
 use Rattle.text.proofs.Described.{Ends, then_ends, options_of}
-use Rattle.overlay.specs.Overlay.{Block, block, goes_on, to_end, blocks}
+use Rattle.overlay.specs.Overlay.{block, goes_on, to_end, blocks}
 use Rattle.overlay.proofs.BlockLaws.{block_within}
 use Rattle.late_changes.proofs.BlockRead.{BlockRead, block_read}
 use Rattle.late_changes.proofs.BlockDescribed.{block-passes}

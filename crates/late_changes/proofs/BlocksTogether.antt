@@ -6,40 +6,41 @@ use mathlib.Core.Path.{◌≡◌, refl, sym, ap, subst, ◌∙◌}
 use mathlib.Core.Bool.{Bool, true, false, cond, true≢false, false≢true}
 use mathlib.Core.List.{List, [], ◌∷◌, ◌++◌, map, append_assoc}
 use borrow.Author.Tests.{eqb-true, eqb-false}
-use lib.Dec.{leb, eqb}
+use lib.Dec.{eqb}
 use lib.ListN.{length, get_or, length-set}
 use lib.Seq.{get_or-set_same, get_or-set_other}
+use Rattle.std.specs.Prelude.{Ok}
+use Rattle.overlay.specs.declared.block.Block.{Block}
+use Rattle.overlay.specs.declared.block.Places.{Places}
 use Rattle.units.specs.Places.{all_of, any_of}
 use Rattle.units.proofs.TestLaws.{clash, and_holds}
-use Rattle.units.specs.Refusals.{refused}
-use Rattle.fields.specs.Bytes.{bytes, same_bytes, bad_byte}
-use Rattle.fields.specs.declared.byte.BadByte.{BadByte}
-use Rattle.fields.specs.declared.byte.BadByte.TheVariants.{OnLine, Nowhere}
+use Rattle.fields.specs.Bytes.{bytes, same_bytes}
 use Rattle.fields.specs.Lines.{Line, lines_from}
-use Rattle.fields.specs.Readers.{no, got, Reader, ◌>>◌, after, bytes_due}
+use Rattle.fields.specs.Readers.{got, Reader, ◌>>◌, after, bytes_due}
 use Rattle.fields.specs.WrittenLines.{decimal}
-use Rattle.soc.specs.Limits.{text_max, modules_max}
+use Rattle.soc.specs.Limits.{modules_max}
 use Rattle.soc.specs.Record.{no_module}
 use Rattle.soc.specs.Rules.{level_rule}
 use Rattle.soc.specs.declared.record.Module.{Module}
-use Rattle.text_lines.specs.Parts.{says, whole}
-use Rattle.text_lines.specs.Kinds.{Options, Shape, BlockStart, name_part, overlay_line, options_part, options_line, block_line}
+use Rattle.text_lines.specs.Parts.{whole}
+use Rattle.text_lines.specs.Kinds.{BlockStart, name_part, overlay_line, options_part, options_line, block_line}
+use Rattle.text_lines.specs.declared.head.Options.{Options}
+use Rattle.text_lines.specs.declared.level.Shape.{Shape}
 use Rattle.text_lines.specs.LineFields.{module_fields, position_fields}
 use Rattle.module_part.specs.ModulePart.{begun}
-use Rattle.text_reader.specs.Lines.{LinesRead, line}
+use Rattle.text_reader.specs.Lines.{line}
 use Rattle.text_reader.specs.Reading.{module_of, module_tests, module_rest}
 use Rattle.text.specs.Describes.{ModuleLines, fields_in, field_lines}
 use Rattle.text.proofs.PartOnly.{closed_only, after_only, word_only}
 use Rattle.text.proofs.Accepted.{got_only, line_only, body-read, tests-read, module_read}
-use Rattle.overlay.specs.Overlay.{Block, block, goes_on, blocks, blocks_max, Places, no_places, put}
-use Rattle.overlay.specs.Overlay.{puts, places, with_blocks, behind_name, overlay, refused_overlay, answer, unless_bad, read_overlay}
+use Rattle.overlay.specs.Overlay.{block, goes_on, blocks, blocks_max, no_places, put}
+use Rattle.overlay.specs.Overlay.{puts, places, with_blocks, behind_name, overlay, read_overlay}
 use Rattle.overlay.specs.declared.read.Overlay.{Overlay}
 use Rattle.overlay.proofs.BlockLaws.{block_within}
 use Rattle.overlay.proofs.BlockMarks.{number-due, none_there}
-use Rattle.text.proofs.Acceptance.{text-number-some}
+use Rattle.late_changes.proofs.GoodOverlay.{overlay-lines}
 use Rattle.late_changes.specs.Together.{Lines, of_module, StandsBut}
 use Rattle.late_changes.proofs.BlockAs.{block_as}
-use Rattle.late_changes.proofs.OverlayRefused.{overlay-refuses}
 use Rattle.late_changes.proofs.TextFields.{append_left}
 use Rattle.late_changes.proofs.PartLines.{any_append}
 use Rattle.late_changes.proofs.LinesTogether.{of_back, all_other, all_append, tests_of_lem, position_of, behind_others, first-together}
@@ -55,7 +56,7 @@ record BlockRead (o : Options) (low : ℕ) (ls : List Line) (b : Block) (rest : 
   lines : map fields_in ls ≡ fields ++ map fields_in rest
   are : BlockLines o b fields
 
-start_of : (low : ℕ) (fs : List (List ℕ)) (b : BlockStart) → whole (block_line low) fs ≡ says b → of_module b.number fs ≡ true
+start_of : (low : ℕ) (fs : List (List ℕ)) (b : BlockStart) → whole (block_line low) fs ≡ Ok b → of_module b.number fs ≡ true
 unfolding block_line begun
 start_of low fs b h =
     let a = after_only (closed_only (block_line low fs) b h) in
@@ -235,16 +236,6 @@ overlay_stands ls v rest m h e =
     rw (← f.0) (behind-line (bytes "Overlay") name_part ls a.value a.left x.power x.xy m d a.first (overlay_other m) t)
 
 -- in an accepted text
-pub blocks_stand : (t : List ℕ) (m : ℕ) → (read_overlay t).refusal.number ≡ 0 → let v = (read_overlay t).overlay in
-    get_or v.has m false ≡ true → StandsBut v.power v.xy m (get_or v.modules m no_module) (field_lines t)
-unfolding read_overlay unless_bad answer
-blocks_stand t m z h = go (leb (length t) text_max) (bad_byte 1 t) (overlay (lines_from 1 t 0)) refl z h
-  where
-    go : (u : Bool) (b : BadByte) (g : LinesRead Overlay) → overlay (lines_from 1 t 0) ≡ g
-        → let a = cond u (unless_bad b (answer g)) (refused_overlay (refused 1 0)) in
-        a.refusal.number ≡ 0 → get_or a.overlay.has m false ≡ true
-        → StandsBut a.overlay.power a.overlay.xy m (get_or a.overlay.modules m no_module) (field_lines t)
-    go true Nowhere (got v ls) e z h = overlay_stands (lines_from 1 t 0) v ls m e h
-    go true Nowhere (no r) e z h = absurd (omega (arith, z, text-number-some r.number (overlay-refuses (lines_from 1 t 0) r e)))
-    go true (OnLine n) g e z h = absurd (omega (arith, z))
-    go false b g e z h = absurd (omega (arith, z))
+pub blocks_stand : (t : List ℕ) (v : Overlay) (m : ℕ) → read_overlay t ≡ Ok v → get_or v.has m false ≡ true
+    → StandsBut v.power v.xy m (get_or v.modules m no_module) (field_lines t)
+blocks_stand t v m a h = let l = overlay-lines t v a in overlay_stands (lines_from 1 t 0) v l.0 m l.1 h

@@ -1,26 +1,30 @@
 -- The modules of an overlay that was read keep the limits and rules of the text wherever their levels do. Assumes nothing.
 use Prim.Native.Nat.{ℕ, zero, suc, ◌-◌, ◌≤◌}
 use native.Mathlib.Omega.{arith}
-use mathlib.Core.Path.{◌≡◌, refl, sym, ◌∙◌}
+use mathlib.Core.Path.{◌≡◌, refl, sym, ap, ◌∙◌}
 use mathlib.Core.Bool.{Bool, true, false, cond, false≢true}
 use mathlib.Core.List.{List, []}
 use lib.ListN.{length, get_or, set, replicate, length-set}
 use lib.Dec.{leb, eqb}
 use borrow.Author.Tests.{eqb-true, eqb-false}
 use lib.Seq.{get_or-set_same, get_or-set_other}
+use Rattle.std.specs.Prelude.{Ok}
+use Rattle.units.specs.declared.Fault.TheVariants.{LongText}
+use Rattle.std.specs.Prelude.{Option, None, Some, Err}
+use Rattle.overlay.specs.declared.block.Block.{Block}
+use Rattle.overlay.specs.declared.block.Places.{Places}
 use Rattle.units.specs.Refusals.{refused}
+use Rattle.units.proofs.TestLaws.{clash}
 use Rattle.fields.specs.Bytes.{bad_byte}
-use Rattle.fields.specs.declared.byte.BadByte.{BadByte}
-use Rattle.fields.specs.declared.byte.BadByte.TheVariants.{OnLine, Nowhere}
 use Rattle.fields.specs.Lines.{Line, lines_from}
 use Rattle.fields.specs.Readers.{no, got}
 use Rattle.soc.specs.Limits.{text_max, modules_max}
 use Rattle.soc.specs.Record.{no_module}
-use Rattle.text_lines.specs.Kinds.{Options}
+use Rattle.text_lines.specs.declared.head.Options.{Options}
 use Rattle.text_reader.specs.Lines.{LinesRead}
 use Rattle.text.proofs.PartOnly.{after_only}
 use Rattle.text.proofs.Accepted.{got_only, module_read}
-use Rattle.overlay.specs.Overlay.{Block, block, goes_on, blocks, blocks_max, Places, no_places, put, puts, places, with_blocks, behind_name, overlay, refused_overlay, answer, unless_bad, read_overlay}
+use Rattle.overlay.specs.Overlay.{block, goes_on, blocks, blocks_max, no_places, put, puts, places, with_blocks, behind_name, overlay, answer, unless_bad, read_overlay}
 use Rattle.overlay.specs.declared.read.Overlay.{Overlay}
 use Rattle.overlay.proofs.BlockLaws.{block_within}
 use Rattle.late_changes.specs.Blocks.{GoodBut, GoodPlaces}
@@ -96,14 +100,18 @@ overlay-good ls v rest h =
     let g = blocks-good o.value blocks_max 0 o.left b.value b.left no_places b.first (none-good o.value.power o.value.xy) in
     rw (← f.0) (rw e.0 at g)
 
--- whatever is read from a text, also where it is refused
-pub read-good : (t : List ℕ) → let v = (read_overlay t).overlay in GoodPlaces v.power v.xy v.has v.modules
+-- an overlay that is read from a text is that of its lines
+pub overlay-lines : (t : List ℕ) (v : Overlay) → read_overlay t ≡ Ok v → (ls : List Line) × (overlay (lines_from 1 t 0) ≡ got v ls)
 unfolding read_overlay unless_bad answer
-read-good t = go (leb (length t) text_max) (bad_byte 1 t) (overlay (lines_from 1 t 0)) refl
+overlay-lines t v h = go (leb (length t) text_max) (bad_byte 1 t) (overlay (lines_from 1 t 0)) refl h
   where
-    go : (u : Bool) (b : BadByte) (g : LinesRead Overlay) → overlay (lines_from 1 t 0) ≡ g
-        → let v = (cond u (unless_bad b (answer g)) (refused_overlay (refused 1 0))).overlay in GoodPlaces v.power v.xy v.has v.modules
-    go true Nowhere (got v ls) e = overlay-good (lines_from 1 t 0) v ls e
-    go true Nowhere (no r) e = none-good false false
-    go true (OnLine n) g e = none-good false false
-    go false b g e = none-good false false
+    go : (u : Bool) (b : Option ℕ) (g : LinesRead Overlay) → overlay (lines_from 1 t 0) ≡ g
+        → cond u (unless_bad b (answer g)) (Err (refused LongText 0)) ≡ Ok v → (ls : List Line) × (overlay (lines_from 1 t 0) ≡ got v ls)
+    go true None (got w ls) e a = let i : w ≡ v = cc in (ls, e ∙ ap (λ x. got x ls) i)
+    go true None (no r) e a = clash cc
+    go true (Some n) g e a = clash cc
+    go false b g e a = clash cc
+
+-- whatever is read from a text
+pub read-good : (t : List ℕ) (v : Overlay) → read_overlay t ≡ Ok v → GoodPlaces v.power v.xy v.has v.modules
+read-good t v a = let l = overlay-lines t v a in overlay-good (lines_from 1 t 0) v l.0 l.1

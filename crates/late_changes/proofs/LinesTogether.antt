@@ -7,6 +7,7 @@ use mathlib.Core.List.{List, [], ◌∷◌, ◌++◌, append_assoc}
 use mathlib.Core.Logic.{inl, inr}
 use lib.ListN.{length, get_or}
 use lib.Seq.{get_or-take}
+use Rattle.std.specs.Prelude.{Ok}
 use Rattle.units.specs.Places.{all_of, any_of}
 use Rattle.units.proofs.PlaceLaws.{front-has}
 use Rattle.units.proofs.TestLaws.{clash, and_both, and_holds}
@@ -22,7 +23,7 @@ use Rattle.text_lines.specs.Parts.{due}
 use Rattle.text_lines.specs.Kinds.{module_due}
 use Rattle.text_lines.specs.LineFields.{module_fields, name_fields, total_fields, options_fields}
 use Rattle.text_lines.specs.LineFields.{level_fields, position_fields, tests_fields, test_fields}
-use Rattle.text_reader.specs.Reading.{accepted_soc, read_soc}
+use Rattle.text_reader.specs.Reading.{read_soc}
 use Rattle.module_part.specs.ModulePart.{begun}
 use Rattle.text.specs.Describes.{TestLines, PositionPart, ModuleLines, ModulesLines, Describes, field_lines}
 use Rattle.text.proofs.LineBack.{word_back, due_back}
@@ -155,7 +156,7 @@ soc_stands s ls m r h =
     rw r.lines_are (record { middle = t.middle; together = u; are = t.are })
 
 -- in an accepted text
-pub text_stands : (t : List ℕ) (s : Soc) (m : ℕ) → read_soc t ≡ accepted_soc s → m < s.module_count
+pub text_stands : (t : List ℕ) (s : Soc) (m : ℕ) → read_soc t ≡ Ok s → m < s.module_count
     → Stands s.power s.xy m (get_or s.modules m no_module) (field_lines t)
 text_stands t s m a h =
     let n = s.module_count in

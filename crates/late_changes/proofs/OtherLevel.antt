@@ -13,7 +13,9 @@ use Rattle.soc.specs.Limits.{level_max}
 use Rattle.soc.specs.Rules.{level_rule, good_terminals, good_chains, good_tests, good_module}
 use Rattle.soc.specs.Sized.{SizedModule}
 use Rattle.soc.specs.declared.record.Module.{Module}
-use Rattle.text_lines.specs.Kinds.{Options, Shape, chains_part, lengths_part, shape_part}
+use Rattle.text_lines.specs.Kinds.{chains_part, lengths_part, shape_part}
+use Rattle.text_lines.specs.declared.head.Options.{Options}
+use Rattle.text_lines.specs.declared.level.Shape.{Shape}
 use Rattle.text_reader.specs.Reading.{module_tests, module_rest}
 use Rattle.text.proofs.PartOnly.{after_only}
 use Rattle.text.proofs.Accepted.{got_only}

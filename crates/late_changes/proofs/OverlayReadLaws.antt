@@ -8,6 +8,9 @@ use mathlib.Core.List.{List, [], ◌∷◌, map}
 use borrow.Author.Tests.{leb-true}
 use lib.Dec.{leb}
 use lib.ListN.{length, drop}
+use Rattle.std.specs.Prelude.{Ok}
+use Rattle.overlay.specs.declared.block.Block.{Block}
+use Rattle.overlay.specs.declared.block.Places.{Places}
 use Rattle.units.specs.Places.{all_of, any_of}
 use Rattle.units.proofs.TestLaws.{and_both, and_holds}
 use Rattle.fields.specs.Bytes.{bytes}
@@ -18,8 +21,10 @@ use Rattle.fields.proofs.ReaderLaws.{after-got}
 use Rattle.soc.specs.Record.{no_module, name_of}
 use Rattle.soc.specs.Rules.{none, spare_test, spare_module, good_name}
 use Rattle.soc.specs.declared.record.Module.{Module}
-use Rattle.text_lines.specs.Parts.{says, closed, whole}
-use Rattle.text_lines.specs.Kinds.{Name, Options, name_part, name_line, overlay_line, options_line}
+use Rattle.text_lines.specs.Parts.{closed, whole}
+use Rattle.text_lines.specs.Kinds.{name_part, name_line, overlay_line, options_line}
+use Rattle.text_lines.specs.declared.head.Name.{Name}
+use Rattle.text_lines.specs.declared.head.Options.{Options}
 use Rattle.text_lines.specs.LineFields.{name_fields, options_fields}
 use Rattle.text_reader.specs.Lines.{line}
 use Rattle.text.specs.Describes.{spare_in, fields_in}
@@ -29,7 +34,7 @@ use Rattle.text.proofs.HeadOnly.{name_only, options_only}
 use Rattle.text.proofs.SparePlaces.{AllSized, good-spare_in}
 use Rattle.text.proofs.Accepted.{got_only, line_only, name-good}
 use Rattle.text.proofs.Described.{Ends, line-passes, then_ends, options_of, held_name}
-use Rattle.overlay.specs.Overlay.{Block, goes_on, blocks, blocks_max, Places, places, overlay_of, with_blocks, behind_name}
+use Rattle.overlay.specs.Overlay.{goes_on, blocks, blocks_max, places, overlay_of, with_blocks, behind_name}
 use Rattle.overlay.specs.Overlay.{overlay}
 use Rattle.overlay.specs.declared.read.Overlay.{Overlay}
 use Rattle.late_changes.specs.DescribesOverlay.{head_of, overlay_fields, BlocksLines, DescribesOverlay}
@@ -44,17 +49,17 @@ record NameRead (fs : List (List ℕ)) (n : Name) (v : Overlay) : Type 0 where
   good : good_name (head_of v) ≡ true
   sized : length v.name ≡ name_max
 
-overlay-name : (fs : List (List ℕ)) (n : Name) (o : Options) (p : Places) → whole overlay_line fs ≡ says n → NameRead fs n (overlay_of n o p)
+overlay-name : (fs : List (List ℕ)) (n : Name) (o : Options) (p : Places) → whole overlay_line fs ≡ Ok n → NameRead fs n (overlay_of n o p)
 unfolding overlay_line name_line closed overlay_fields name_fields good_name
 overlay-name fs n o p h =
     let k = key_only (bytes "Overlay") name_part fs n [] (closed_only (overlay_line fs) n h) in
-    let w : whole name_line (bytes "SocName" ∷ k.left) ≡ says n =
+    let w : whole name_line (bytes "SocName" ∷ k.left) ≡ Ok n =
     ap closed (after-got _ _ _ _ (word_back (bytes "SocName") k.left) ∙ k.reads) in
     let g = name-good n 0 o [] (bytes "SocName" ∷ k.left) (name_only (bytes "SocName" ∷ k.left) n w) in
     record { fields = k.fields ∙ ap (λ x. bytes "Overlay" ∷ drop 1 x) g.0; good = g.1; sized = g.2 }
 
 name-said : (v : Overlay) → length v.name ≡ name_max → good_name (head_of v) ≡ true
-    → whole overlay_line (overlay_fields v) ≡ says (held_name (head_of v))
+    → whole overlay_line (overlay_fields v) ≡ Ok (held_name (head_of v))
 unfolding overlay_line name_line closed overlay_fields name_fields
 name-said v z g =
     let n = name_of (head_of v) ∷ [] in
@@ -100,8 +105,8 @@ pub record OverlayIs (v : Overlay) (ls : List Line) : Type 0 where
 
 overlay_parts : (n : Name) (o : Options) (bs : List Block) (a b : Line) (ls : List Line)
     (f : Filled o.power o.xy 0 bs (map fields_in ls))
-    → whole overlay_line a.fields ≡ says n
-    → whole options_line b.fields ≡ says o → (map fields_in ls ≡ [] → ⊥)
+    → whole overlay_line a.fields ≡ Ok n
+    → whole options_line b.fields ≡ Ok o → (map fields_in ls ≡ [] → ⊥)
     → OverlayIs (overlay_of n o (record { has = f.has; modules = f.modules })) (a ∷ b ∷ ls)
 unfolding good_overlay good_name options_fields
 overlay_parts n o bs a b ls f h k s =

@@ -7,18 +7,17 @@ use mathlib.Core.List.{List}
 use borrow.Author.Tests.{leb-true}
 use lib.Dec.{leb}
 use lib.ListN.{length, drop}
+use Rattle.std.specs.Prelude.{None, Ok}
 use Rattle.units.specs.Places.{all_of}
 use Rattle.units.proofs.TestLaws.{and_both}
 use Rattle.fields.specs.Bytes.{bad_byte}
 use Rattle.fields.specs.Names.{name_max, is_name}
-use Rattle.fields.specs.declared.byte.BadByte.TheVariants.{Nowhere}
 use Rattle.soc.specs.Record.{name_of}
 use Rattle.soc.specs.Rules.{none, good_name}
 use Rattle.text.specs.Describes.{field_lines}
 use Rattle.text.proofs.WrittenForm.{written-fields, written-allowed-from}
-use Rattle.overlay.specs.Overlay.{accepted_overlay, read_overlay}
+use Rattle.overlay.specs.Overlay.{read_overlay}
 use Rattle.overlay.specs.declared.read.Overlay.{Overlay}
-use Rattle.overlay.specs.declared.read.OverlayRead.{OverlayRead}
 use Rattle.late_changes.specs.DescribesOverlay.{head_of, DescribesOverlay}
 use Rattle.late_changes.specs.OverlayRules.{good_overlay, SizedOverlay}
 use Rattle.late_changes.specs.WrittenOverlay.{block_lines_from, overlay_lines, written_overlay}
@@ -50,20 +49,21 @@ module _ (o : Overlay) (z : SizedOverlay o) (g : good_overlay o ≡ true) where
   unfolding written_overlay
   written_described = rw (written-fields (overlay_lines o) (overlay_plain o (overlay-has o g).name)) lines_described
 
-  written-allowed : bad_byte 1 (written_overlay o) ≡ Nowhere
+  written-allowed : bad_byte 1 (written_overlay o) ≡ None
   unfolding written_overlay
   written-allowed = written-allowed-from 1 (overlay_lines o) (overlay_plain o (overlay-has o g).name)
 
   -- an overlay that keeps the limits, written and read, is that overlay
-  pub overlay_round_trip : read_overlay (written_overlay o) ≡ accepted_overlay o
+  pub overlay_round_trip : read_overlay (written_overlay o) ≡ Ok o
   overlay_round_trip = describes_accepted (written_overlay o) o z (overlay-written-short o z g) written-allowed written_described g
 
 -- the overlay of an accepted text, written and read again, is the same overlay
-pub overlay_rewritten : (t : List ℕ) (o : Overlay) → read_overlay t ≡ accepted_overlay o → read_overlay (written_overlay o) ≡ accepted_overlay o
+pub overlay_rewritten : (t : List ℕ) (o : Overlay) → read_overlay t ≡ Ok o → read_overlay (written_overlay o) ≡ Ok o
 overlay_rewritten t o a = overlay_round_trip o (overlay-sized t o a) (overlay-good t o a)
 
 -- two overlays that keep the limits are not written alike
 pub overlay-written_once : (o v : Overlay) → SizedOverlay o → SizedOverlay v → good_overlay o ≡ true → good_overlay v ≡ true
     → written_overlay o ≡ written_overlay v → o ≡ v
 overlay-written_once o v y z g h e =
-    ap (λ (r : OverlayRead). r.overlay) (sym (overlay_round_trip o y g) ∙ ap read_overlay e ∙ overlay_round_trip v z h)
+    let i : Ok o ≡ Ok v = sym (overlay_round_trip o y g) ∙ ap read_overlay e ∙ overlay_round_trip v z h in
+    cc

@@ -8,6 +8,11 @@ use mathlib.Core.List.{List, [], ◌∷◌, ◌++◌}
 use borrow.Author.Tests.{eqb-true, eq-eqb, lt-ltb}
 use lib.Dec.{eqb}
 use lib.ListN.{length, get_or, take, drop, replicate}
+use Rattle.std.specs.Prelude.{Ok}
+use Rattle.units.specs.declared.Fault.TheVariants.{OtherBase}
+use Rattle.pair.specs.declared.read.PairRefusal.{PairRefusal}
+use Rattle.std.specs.Prelude.{Result}
+use Rattle.units.specs.declared.Refusal.{Refusal}
 use Rattle.units.specs.Refusals.{refused}
 use Rattle.units.proofs.TestLaws.{and_both, and_holds}
 use Rattle.units.proofs.Unique.{answer_unique}
@@ -19,8 +24,7 @@ use Rattle.soc.specs.declared.record.Module.{Module}
 use Rattle.soc.specs.declared.record.Soc.{Soc}
 use Rattle.overlay.specs.Overlay.{read_overlay}
 use Rattle.overlay.specs.declared.read.Overlay.{Overlay}
-use Rattle.overlay.specs.declared.read.OverlayRead.{OverlayRead}
-use Rattle.pair.specs.Pair.{same_flag, same_head, place_fits, places_fit, fits, laid, combined, refused_pair, accepted_pair, joined, read_pair}
+use Rattle.pair.specs.Pair.{same_flag, same_head, place_fits, places_fit, fits, laid, combined, refused_pair, joined, read_pair}
 use Rattle.pair.specs.Shown.{lines_shown}
 use Rattle.pair.specs.declared.read.Meant.TheVariants as meant
 use Rattle.pair.specs.declared.read.PairRead.{PairRead}
@@ -29,13 +33,13 @@ use Rattle.late_changes.specs.Fit.{Fits, with_modules}
 use Rattle.late_changes.proofs.GoodPair.{same_flag_lem}
 use Rattle.late_changes.proofs.Laid.{place-fits, laid-all, laid_own}
 
-pub overlay_unique : (t : List ℕ) (a b : OverlayRead) → a ≡ read_overlay t → b ≡ read_overlay t → a ≡ b
+pub overlay_unique : (t : List ℕ) (a b : Result Overlay Refusal) → a ≡ read_overlay t → b ≡ read_overlay t → a ≡ b
 overlay_unique t a b p q = answer_unique p q
 
-pub pair_unique : (base overlay : List ℕ) (a b : PairRead) → a ≡ read_pair base overlay → b ≡ read_pair base overlay → a ≡ b
+pub pair_unique : (base overlay : List ℕ) (a b : Result PairRead PairRefusal) → a ≡ read_pair base overlay → b ≡ read_pair base overlay → a ≡ b
 pair_unique base overlay a b p q = answer_unique p q
 
-pub lines_unique : (base overlay : List ℕ) (m : ℕ) (a b : Shown) → a ≡ lines_shown base overlay m → b ≡ lines_shown base overlay m → a ≡ b
+pub lines_unique : (base overlay : List ℕ) (m : ℕ) (a b : Result Shown PairRefusal) → a ≡ lines_shown base overlay m → b ≡ lines_shown base overlay m → a ≡ b
 lines_unique base overlay m a b p q = answer_unique p q
 
 -- the tests are those of `Fits`
@@ -101,11 +105,11 @@ module _ (s : Soc) (o : Overlay) (has : length o.has ≡ modules_max) (over : le
       (places_back s.module_count 0 o.has o.modules s.modules (λ i k e. let q = h.blocks i (omega (arith, has, k)) e in (omega arith, q.1)))
 
 -- 15 with line 0, of the overlay, exactly where it does not fit; otherwise the combined description
-pub joined-fits : (s : Soc) (o : Overlay) → fits s o ≡ true → joined s o ≡ accepted_pair (combined s o) o.has
+pub joined-fits : (s : Soc) (o : Overlay) → fits s o ≡ true → joined s o ≡ Ok (record { soc = combined s o; has = o.has })
 unfolding joined
 joined-fits s o e = rw e
 
-pub joined-refuses : (s : Soc) (o : Overlay) → fits s o ≡ false → joined s o ≡ refused_pair (refused 15 0) meant.Overlay
+pub joined-refuses : (s : Soc) (o : Overlay) → fits s o ≡ false → joined s o ≡ refused_pair (refused OtherBase 0) meant.Overlay
 unfolding joined
 joined-refuses s o e = rw e
 

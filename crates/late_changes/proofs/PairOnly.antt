@@ -1,101 +1,78 @@
 -- When a pair is accepted, and what its combined description is then: one that is good, whose arrays have their lengths, and that written and read
 -- again is the same record. Assumes nothing.
 use Prim.Native.Nat.{ℕ}
-use native.Mathlib.Omega.{arith}
-use mathlib.Core.Path.{◌≡◌, refl, sym, ap, ◌∙◌}
+use mathlib.Core.Path.{◌≡◌, refl, ap, ◌∙◌}
 use mathlib.Core.Bool.{Bool, true, false, cond}
 use mathlib.Core.List.{List}
-use mathlib.Core.Logic.{◌⊎◌, inl, inr}
-use borrow.Author.Tests.{eqb-true, eqb-false}
-use lib.Dec.{eqb}
+use Rattle.units.specs.declared.Fault.TheVariants.{OtherBase}
+use Rattle.std.specs.Prelude.{Result, Ok, Err}
 use Rattle.units.specs.Refusals.{refused}
 use Rattle.units.specs.declared.Refusal.{Refusal}
+use Rattle.units.proofs.TestLaws.{clash}
 use Rattle.soc.specs.Rules.{good_soc}
 use Rattle.soc.specs.Sized.{Sized}
 use Rattle.soc.specs.declared.record.Soc.{Soc}
-use Rattle.text_reader.specs.Reading.{accepted_soc, refused_soc, read_soc}
-use Rattle.text_reader.specs.declared.read.SocRead.{SocRead}
+use Rattle.text_reader.specs.Reading.{read_soc}
 use Rattle.text_writer.specs.WrittenSoc.{written_soc}
-use Rattle.text.specs.Numbers.{TextNumber}
-use Rattle.text.proofs.Acceptance.{accepts_or_refuses, accepted-good, accepted-sized, text-number-some}
+use Rattle.text.proofs.Acceptance.{accepted-good, accepted-sized}
 use Rattle.text.proofs.TextLaws.{round_trip}
 use Rattle.overlay.specs.Overlay.{read_overlay}
 use Rattle.overlay.specs.declared.read.Overlay.{Overlay}
-use Rattle.overlay.specs.declared.read.OverlayRead.{OverlayRead}
-use Rattle.pair.specs.Pair.{fits, combined, refused_pair, accepted_pair, joined, pair_of, read_pair}
+use Rattle.pair.specs.Pair.{fits, combined, refused_pair, joined, pair_of, read_pair}
 use Rattle.pair.specs.declared.read.Meant.TheVariants as meant
 use Rattle.pair.specs.declared.read.PairRead.{PairRead}
 use Rattle.late_changes.proofs.GoodOverlay.{read-good}
 use Rattle.late_changes.proofs.GoodPair.{combined-good}
 use Rattle.late_changes.proofs.SizedPair.{combined-sized}
 
--- both texts are accepted and the overlay fits; the answer is the combined description, and which modules are the overlay's
-pub record Accepted (base overlay : List ℕ) : Type 0 where
-  pub base_is : read_soc base ≡ accepted_soc (read_soc base).soc
-  pub overlay_is : (read_overlay overlay).refusal.number ≡ 0
-  pub fit : fits (read_soc base).soc (read_overlay overlay).overlay ≡ true
-  pub is : read_pair base overlay ≡ accepted_pair (combined (read_soc base).soc (read_overlay overlay).overlay) (read_overlay overlay).overlay.has
+-- the answer to a base and an overlay that fits: the combined description, and which modules are the overlay's
+abbrev pub pair_with : Soc → Overlay → PairRead
+pair_with s o = record { soc = combined s o; has = o.has }
 
--- a base whose reading refuses nothing is accepted
-base_accepted : (t : List ℕ) → (read_soc t).refusal.number ≡ 0 → read_soc t ≡ accepted_soc (read_soc t).soc
-base_accepted t h = go (accepts_or_refuses t)
-  where
-    go : ((s : Soc) × (read_soc t ≡ accepted_soc s)) ⊎ ((r : Refusal) × (read_soc t ≡ refused_soc r) × TextNumber r.number) → read_soc t ≡ accepted_soc (read_soc t).soc
-    go (inl (s, e)) = e ∙ ap (λ (a : SocRead). accepted_soc a.soc) (sym e)
-    go (inr (r, e, n)) =
-        let z : r.number ≡ 0 = sym (ap (λ (a : SocRead). a.refusal.number) e) ∙ h in
-        absurd (omega (arith, text-number-some r.number n))
+-- both texts are accepted and the overlay fits; the answer p is what they make together
+pub record Accepted (base overlay : List ℕ) (p : PairRead) : Type 0 where
+  pub under : Soc
+  pub over : Overlay
+  pub base_is : read_soc base ≡ Ok under
+  pub overlay_is : read_overlay overlay ≡ Ok over
+  pub fit : fits under over ≡ true
+  pub is : p ≡ pair_with under over
 
-joined_only : (s : Soc) (o : Overlay) → (joined s o).refusal.number ≡ 0 → (fits s o ≡ true) × (joined s o ≡ accepted_pair (combined s o) o.has)
+joined_only : (s : Soc) (o : Overlay) (p : PairRead) → joined s o ≡ Ok p → (fits s o ≡ true) × (p ≡ pair_with s o)
 unfolding joined
-joined_only s o h = go (fits s o) h
+joined_only s o p h = go (fits s o) h
   where
-    go : (t : Bool) → (cond t (accepted_pair (combined s o) o.has) (refused_pair (refused 15 0) meant.Overlay)).refusal.number ≡ 0
-        → (t ≡ true) × (cond t (accepted_pair (combined s o) o.has) (refused_pair (refused 15 0) meant.Overlay) ≡ accepted_pair (combined s o) o.has)
-    go true h = (refl, refl)
-    go false h = absurd (omega arith)
+    go : (t : Bool) → cond t (Ok (pair_with s o)) (refused_pair (refused OtherBase 0) meant.Overlay) ≡ Ok p → (t ≡ true) × (p ≡ pair_with s o)
+    go true h = (refl, cc)
+    go false h = clash cc
 
 -- it is accepted only so
-pub pair_only : (base overlay : List ℕ) → (read_pair base overlay).refusal.number ≡ 0 → Accepted base overlay
+pub pair_only : (base overlay : List ℕ) (p : PairRead) → read_pair base overlay ≡ Ok p → Accepted base overlay p
 unfolding read_pair pair_of
-pair_only base overlay h = go (eqb b.refusal.number 0) refl (eqb o.refusal.number 0) refl h
+pair_only base overlay p h = go (read_soc base) refl (read_overlay overlay) refl h
   where
-    b : SocRead
-    b = read_soc base
+    go : (b : Result Soc Refusal) → read_soc base ≡ b → (o : Result Overlay Refusal) → read_overlay overlay ≡ o → pair_of b o ≡ Ok p
+        → Accepted base overlay p
+    go (Err r) e o f h = clash cc
+    go (Ok s) e (Err r) f h = clash cc
+    go (Ok s) e (Ok v) f h =
+        let j = joined_only s v p h in
+        record { under = s; over = v; base_is = e; overlay_is = f; fit = j.0; is = j.1 }
 
-    o : OverlayRead
-    o = read_overlay overlay
-
-    chosen : Bool → Bool → PairRead
-    chosen t u = cond t (cond u (joined b.soc o.overlay) (refused_pair o.refusal meant.Overlay)) (refused_pair b.refusal meant.Base)
-
-    go : (t : Bool) → eqb b.refusal.number 0 ≡ t → (u : Bool) → eqb o.refusal.number 0 ≡ u → (chosen t u).refusal.number ≡ 0 → Accepted base overlay
-    go true e true f h =
-        let j = joined_only b.soc o.overlay h in
-        let k : read_pair base overlay ≡ joined b.soc o.overlay = rw (e, f) in
-        record {
-          base_is = base_accepted base (eqb-true b.refusal.number 0 e);
-          overlay_is = eqb-true o.refusal.number 0 f;
-          fit = j.0;
-          is = k ∙ j.1;
-        }
-    go true e false f h = absurd (eqb-false o.refusal.number 0 f h)
-    go false e u f h = absurd (eqb-false b.refusal.number 0 e h)
-
-module _ (base overlay : List ℕ) (h : (read_pair base overlay).refusal.number ≡ 0) where
-  pub pair-sized : Sized (read_pair base overlay).soc
+module _ (base overlay : List ℕ) (p : PairRead) (h : read_pair base overlay ≡ Ok p) where
+  pub pair-sized : Sized p.soc
   pair-sized =
-      let a = pair_only base overlay h in
-      let s = (read_soc base).soc in
-      let z = combined-sized s (read_overlay overlay).overlay (accepted-sized base s a.base_is) (accepted-good base s a.base_is) a.fit (read-good overlay) in
-      rw (ap (λ (p : PairRead). p.soc) a.is) z
+      let a = pair_only base overlay p h in
+      let s = a.under in
+      let z = combined-sized s a.over (accepted-sized base s a.base_is) (accepted-good base s a.base_is) a.fit (read-good overlay a.over a.overlay_is) in
+      rw (ap (λ (q : PairRead). q.soc) a.is) z
 
-  pub pair-good : good_soc (read_pair base overlay).soc ≡ true
+  pub pair-good : good_soc p.soc ≡ true
   pair-good =
-      let a = pair_only base overlay h in
-      let s = (read_soc base).soc in
-      ap (λ (p : PairRead). good_soc p.soc) a.is ∙ combined-good s (read_overlay overlay).overlay (accepted-good base s a.base_is) a.fit (read-good overlay)
+      let a = pair_only base overlay p h in
+      let s = a.under in
+      ap (λ (q : PairRead). good_soc q.soc) a.is ∙ combined-good s a.over (accepted-good base s a.base_is) a.fit (read-good overlay a.over a.overlay_is)
 
   -- the combined description, written and read again, is the same record
-  pub pair_rewritten : read_soc (written_soc (read_pair base overlay).soc) ≡ accepted_soc (read_pair base overlay).soc
-  pair_rewritten = round_trip (read_pair base overlay).soc pair-sized pair-good
+  pub pair_rewritten : read_soc (written_soc p.soc) ≡ Ok p.soc
+  pair_rewritten = round_trip p.soc pair-sized pair-good

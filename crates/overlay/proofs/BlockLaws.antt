@@ -3,9 +3,10 @@
 use Prim.Native.Nat.{ℕ, suc, ◌+◌, ◌-◌, ◌≤◌, ◌<◌}
 use native.Mathlib.Omega.{arith}
 use mathlib.Core.Path.{◌≡◌, refl, sym, ap}
-use mathlib.Core.Bool.{true, false}
+use mathlib.Core.Bool.{Bool, true, false, not}
 use mathlib.Core.List.{List, [], ◌∷◌}
-use Rattle.std.specs.Prelude.{Result, Ok, Err}
+use Rattle.std.specs.Option.{is_some}
+use Rattle.std.specs.Prelude.{Option, None, Some, Result, Ok, Err}
 use Rattle.units.proofs.TestLaws.{clash}
 use Rattle.units.specs.declared.Fault.{Fault}
 use Rattle.units.specs.declared.Fault.TheVariants.{WrongForm}
@@ -20,10 +21,10 @@ use Rattle.text_lines.specs.Kinds.{BlockStart, block_line}
 use Rattle.text_lines.specs.declared.head.Options.{Options}
 use Rattle.text_lines.specs.declared.level.Shape.{Shape}
 use Rattle.text_lines.proofs.LevelLaws.{start-within}
-use Rattle.text_line_reader.specs.Due.{lines_at}
+use Rattle.text_line_reader.specs.Due.{lines_at, DueIs}
 use Rattle.text_line_reader.specs.declared.place.DueLine.{DueLine}
 use Rattle.text_line_reader.specs.declared.place.Place.{Place}
-use Rattle.text_reader.specs.Lines.{LinesRead, line}
+use Rattle.text_reader.specs.Lines.{LinesRead, LinesReader, line}
 use Rattle.text_reader.specs.Reading.{module_rest}
 use Rattle.text_reader.specs.Steps.{StepMeans, IsDue, taken}
 use Rattle.text_reader.proofs.CountLaws.{line-got, after_gives}
@@ -112,3 +113,20 @@ module _ (o : Options) (n i low : ℕ) (p : Places) (ls : List Line) (h : i < n)
       let k : n - i ≡ suc (n - (i + 1)) = omega arith in
       let j : b.number + 1 ≡ suc b.number = omega arith in
       rw (k, e, j) (filled_more p b (to_end (blocks o (n - (i + 1)) (suc b.number)) ms))
+
+-- where the text has ended, and where it goes on
+pub blocks_end : (p : Places) (r : LinesReader (List Block)) (ls : List Line) → ls ≡ [] → filled_by p (to_end r ls) ≡ got p []
+unfolding after puts goes_on
+blocks_end p r ls e = rw e refl
+
+pub blocks_on : (p : Places) (r : LinesReader (List Block)) (ls : List Line) → goes_on ls ≡ true → filled_by p (to_end r ls) ≡ filled_by p (r ls)
+blocks_on p r ls e = rw e refl
+
+pub line_none : (t : List ℕ) (p : Place) (r : Option DueLine) {b : Bool} → DueIs t p r → is_some r ≡ not b → b ≡ true → lines_at t p ≡ []
+line_none t p None d s e = d
+line_none t p (Some l) d s e = let k : true ≡ not true = rw e at s in clash cc
+
+pub line_some : (t : List ℕ) (p : Place) (r : Option DueLine) {b : Bool} → DueIs t p r → is_some r ≡ not b → b ≡ false → goes_on (lines_at t p) ≡ true
+unfolding goes_on
+line_some t p None d s e = let k : false ≡ not false = rw e at s in clash cc
+line_some t p (Some l) d s e = ap goes_on d.is

@@ -7,13 +7,9 @@ use mathlib.Core.Bool.{Bool, true, false, cond}
 use mathlib.Core.List.{List, [], ◌∷◌, ◌++◌}
 use lib.ListN.{length, get_or, take, drop, set, drop_of_length-le}
 use lib.Seq.{drop-cons, take-suc-set, append_snoc, drop-set-lt}
-use borrow.Author.Tests.{eq-eqb, ne_eqb}
 use Rattle.units.proofs.TestLaws.{and_stops, and_goes}
 use Rattle.soc.specs.declared.record.Module.{Module}
-use Rattle.pair.specs.Pair.{place_fits, places_fit, laid, refused_pair, joined, pair_of}
-use Rattle.pair.specs.declared.read.Meant.TheVariants as meant
-use Rattle.overlay.specs.declared.read.OverlayRead.{OverlayRead}
-use Rattle.text_reader.specs.declared.read.SocRead.{SocRead}
+use Rattle.pair.specs.Pair.{place_fits, places_fit, laid}
 
 -- at place m of the three lists
 module _ (m : ℕ) (hs : List Bool) (os bs : List Module) (h : Bool) (o b : Module) (lh : m < length hs) (lo : m < length os) (lb : m < length bs) where
@@ -45,18 +41,3 @@ laid-set m l w hs os {v} e h =
     let k : drop (m + 1) (set l m v) ≡ drop (m + 1) l = drop-set-lt (m + 1) l m v (omega arith) in
     let j : take (m + 1) (set l m v) ≡ take m l ++ v ∷ [] = rw add-one (take-suc-set l m v h) in
     rw (k, j, e) (sym (append_snoc (take m l) w (laid (drop (m + 1) hs) (drop (m + 1) os) (drop (m + 1) l))))
-
--- "base faults first, overlay faults .. then 15"
-module _ (b : SocRead) (o : OverlayRead) where
-  pub pair_base : (b.refusal.number ≡ 0 → ⊥) → pair_of b o ≡ refused_pair b.refusal meant.Base
-  unfolding pair_of
-  pair_base h = rw (ne_eqb b.refusal.number 0 h)
-
-  module _ (read : b.refusal.number ≡ 0) where
-    pub pair-overlay : (o.refusal.number ≡ 0 → ⊥) → pair_of b o ≡ refused_pair o.refusal meant.Overlay
-    unfolding pair_of
-    pair-overlay h = rw (eq-eqb b.refusal.number 0 read, ne_eqb o.refusal.number 0 h)
-
-    pub pair-joined : o.refusal.number ≡ 0 → pair_of b o ≡ joined b.soc o.overlay
-    unfolding pair_of
-    pair-joined h = rw (eq-eqb b.refusal.number 0 read, eq-eqb o.refusal.number 0 h)

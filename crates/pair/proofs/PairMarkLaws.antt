@@ -1,65 +1,47 @@
 -- Laws of the marks of a module's lines in a pair: a pair has them where its texts do, and what is shown between them are the module's
 -- lines. Assumes nothing.
-use Prim.Native.Nat.{ℕ, ◌<◌}
-use native.Mathlib.Omega.{arith}
-use mathlib.Core.Path.{◌≡◌, refl, sym, ap, ◌∙◌}
-use mathlib.Core.Bool.{Bool, true, false, cond, false≢true}
+use Prim.Native.Nat.{ℕ}
+use mathlib.Core.Path.{◌≡◌, refl, ap}
+use mathlib.Core.Bool.{Bool, true, false, cond}
 use mathlib.Core.List.{List}
-use lib.ListN.{get_or}
+use Rattle.std.specs.Prelude.{Result, Ok, Err}
+use Rattle.units.proofs.TestLaws.{clash}
 use Rattle.units.specs.Refusals.{refused}
+use Rattle.units.specs.declared.Fault.TheVariants.{OtherBase}
 use Rattle.units.specs.declared.Refusal.{Refusal}
-use Rattle.soc.specs.Limits.{modules_max}
 use Rattle.soc.specs.declared.record.Soc.{Soc}
 use Rattle.text_reader.specs.declared.marks.Marks.{Marks}
 use Rattle.overlay.specs.declared.read.Overlay.{Overlay}
-use Rattle.overlay.proofs.BlockMarks.{none_there}
 use Rattle.module_part.proofs.MarkedPart.{marked_part}
-use Rattle.pair.specs.Pair.{fits, combined, refused_pair, accepted_pair, joined, read_pair}
-use Rattle.pair.specs.PairMarks.{refused_marked, MarkedIn, PairReadMarked, shown_between}
+use Rattle.pair.specs.Pair.{fits, combined, refused_pair, joined, pair_of}
+use Rattle.pair.specs.PairMarks.{MarkedIn, shown_between}
 use Rattle.pair.specs.Shown.{part_shown, shown_in}
-use Rattle.pair.specs.declared.read.Meant.{Meant}
 use Rattle.pair.specs.declared.read.Meant.TheVariants as meant
-use Rattle.pair.specs.declared.read.PairMarked.{PairMarked}
+use Rattle.pair.specs.declared.read.PairRead.{PairRead}
 
--- a refused pair has no module
-pub refused_marked_lem : (m : ℕ) (base overlay : List ℕ) (r : PairMarked) (f : Refusal) (t : Meant) → r ≡ refused_marked f t
-    → refused_pair f t ≡ read_pair base overlay → PairReadMarked m base overlay r
-refused_marked_lem m base overlay r f t e h =
-    rw e (record {
-      pair = h;
-      in_base = λ k. absurd (omega (arith, k));
-      in_overlay = λ k. absurd (false≢true (sym (none_there modules_max m) ∙ k));
-    })
+-- the texts are read one behind the other
+pub base_no : (f : Refusal) (o : Result Overlay Refusal) (a : Result Soc Refusal) → Err f ≡ a → refused_pair f meant.Base ≡ pair_of a o
+unfolding pair_of
+base_no f o a e = rw (← e) refl
+
+pub over_no : (f : Refusal) (s : Soc) (a : Result Soc Refusal) (b : Result Overlay Refusal) → Ok s ≡ a → Err f ≡ b → refused_pair f meant.Overlay ≡ pair_of a b
+unfolding pair_of
+over_no f s a b e h = rw (← e, ← h) refl
+
+pub both_got : (s : Soc) (o : Overlay) (a : Result Soc Refusal) (b : Result Overlay Refusal) → Ok s ≡ a → Ok o ≡ b → joined s o ≡ pair_of a b
+unfolding pair_of
+both_got s o a b e h = rw (← e, ← h) refl
 
 -- a pair that is joined has the base's modules, and those of the overlay in their places
-module _ (m : ℕ) (s : Soc) (o : Overlay) where
-  pub joined-count : m < (joined s o).soc.module_count → m < s.module_count
+module _ (s : Soc) (o : Overlay) {p : PairRead} where
+  pub joined_is : Ok p ≡ joined s o → (p.soc.module_count ≡ s.module_count) × (p.has ≡ o.has)
   unfolding joined combined
-  joined-count = go (fits s o)
+  joined_is e = go (fits s o) e
     where
-      go : (u : Bool) → m < (cond u (accepted_pair (combined s o) o.has) (refused_pair (refused 15 0) meant.Overlay)).soc.module_count
-          → m < s.module_count
-      go true h = h
-      go false h = absurd (omega (arith, h))
-
-  pub joined-has : get_or (joined s o).has m false ≡ true → get_or o.has m false ≡ true
-  unfolding joined
-  joined-has = go (fits s o)
-    where
-      go : (u : Bool) → get_or (cond u (accepted_pair (combined s o) o.has) (refused_pair (refused 15 0) meant.Overlay)).has m false ≡ true
-          → get_or o.has m false ≡ true
-      go true h = h
-      go false h = absurd (false≢true (sym (none_there modules_max m) ∙ h))
-
-  pub joined_marked : (base overlay : List ℕ) (r : PairMarked) → r.pair ≡ joined s o → joined s o ≡ read_pair base overlay
-      → (m < s.module_count → MarkedIn m base r.base) → (get_or o.has m false ≡ true → MarkedIn m overlay r.over)
-      → PairReadMarked m base overlay r
-  joined_marked base overlay r e h f g =
-      record {
-        pair = e ∙ h;
-        in_base = λ k. f (joined-count (rw e at k));
-        in_overlay = λ k. g (joined-has (rw e at k));
-      }
+      go : (u : Bool) → Ok p ≡ cond u (Ok (record { soc = combined s o; has = o.has })) (refused_pair (refused OtherBase 0) meant.Overlay)
+          → (p.soc.module_count ≡ s.module_count) × (p.has ≡ o.has)
+      go true h = let k : p ≡ record { soc = combined s o; has = o.has } = cc in (ap (λ (r : PairRead). r.soc.module_count) k, ap (λ (r : PairRead). r.has) k)
+      go false h = clash cc
 
 -- what stands between the marks are the module's lines
 pub between-shown : (m : ℕ) (base overlay : List ℕ) (b o : Marks) (over : Bool) → MarkedIn m base b → (over ≡ true → MarkedIn m overlay o)

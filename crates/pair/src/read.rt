@@ -39,6 +39,7 @@ pub struct PairMarked {
 }
 
 // Whether name and options are those of the base.
+#[tactic(auto, unfolding(crate::specs::Pair::same_head))]
 fn has_same_head(s: Soc, o: Overlay) -> bool
     ensures { result ≡ same_head s o }
 {
@@ -48,6 +49,7 @@ fn has_same_head(s: Soc, o: Overlay) -> bool
 }
 
 // Whether module m, where the overlay has it, is in a base of n modules, and has its level there.
+#[tactic(auto, unfolding(crate::specs::Pair::place_fits))]
 fn place_fits(n: usize, m: usize, has: bool, over: Module, base: Module) -> bool
     ensures { result ≡ place_fits n m has over base }
 {
@@ -70,6 +72,7 @@ fn places_fit(
     true
 }
 
+#[tactic(auto, unfolding(crate::specs::Pair::fits))]
 fn fits_base(s: Soc, o: Overlay) -> bool
     ensures { result ≡ fits s o }
 {
@@ -91,6 +94,7 @@ fn laid_over(
     list
 }
 
+#[tactic(auto, unfolding(crate::specs::Pair::combined))]
 fn combined_soc(s: Soc, o: Overlay) -> Soc
     ensures { result ≡ combined s o }
 {
@@ -101,6 +105,7 @@ fn combined_soc(s: Soc, o: Overlay) -> Soc
 }
 
 // A base and an overlay that are both read without a refusal.
+#[tactic(auto, unfolding(crate::specs::Pair::joined))]
 fn joined_pair(s: Soc, o: Overlay) -> Result<PairRead, PairRefusal>
     ensures { result ≡ joined s o }
 {

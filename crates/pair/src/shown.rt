@@ -24,6 +24,7 @@ fn is_over(has: [bool; MODULES_MAX], m: usize) -> bool
 }
 
 // The part between the marks of a module, of the overlay or of the base.
+#[tactic(auto, unfolding(crate::specs::PairMarks::shown_between))]
 fn shown_between(base: &[u8], b: Marks, overlay: &[u8], o: Marks, over: bool) -> Shown
     ensures { result ≡ shown_between base.now b overlay.now o over }
 {

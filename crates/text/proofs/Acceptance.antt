@@ -36,10 +36,6 @@ Right t a = (s : Soc) × (a ≡ Ok s) × (length t ≤ text_max) × (bad_byte 1 
 abbrev Wrong : Result Soc Refusal → Type 0
 Wrong a = (r : Refusal) × (a ≡ Err r) × TextNumber (number_of r.fault)
 
-pub text-number-some : (c : ℕ) → TextNumber c → 1 ≤ c
-text-number-some c (inl h) = h.0
-text-number-some c (inr e) = omega (arith, e)
-
 module _ (t : List ℕ) where
   lines_outcome : length t ≤ text_max → bad_byte 1 t ≡ None → (g : LinesRead Soc) → soc (lines_from 1 t 0) ≡ g → Right t (answer g) ⊎ Wrong (answer g)
   unfolding answer

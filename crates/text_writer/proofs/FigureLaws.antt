@@ -1,15 +1,12 @@
 -- Laws of a written flag, and of a figure that may be not given: what each is, and how long. Assumes nothing.
-use Prim.Native.Nat.{◌<◌}
 use mathlib.Core.Path.{◌≡◌, refl}
 use mathlib.Core.Bool.{Bool, true, false, true≢false}
 use native.Mathlib.Omega.{arith}
 use borrow.Author.Tests.{ltb-true}
-use lib.Dec.{T}
 use lib.ListN.{length}
 use lib.IntN.{ℤ, pos, negsuc, nat_abs}
-use lib.Signed.{lt_z, non_neg}
-use mir.Syntax.{w32, w64}
-use mir.Val.{Fits, SFits, bool_byte}
+use lib.Signed.{lt_z}
+use mir.Val.{bool_byte}
 use Rattle.fields.specs.Bytes.{bytes}
 use Rattle.fields.specs.WrittenLines.{digits_of, decimal}
 use Rattle.text_lines.specs.LineFields.{flag_field, given_field}
@@ -34,8 +31,3 @@ pub given_above : (z : ℤ) → lt_z z (pos 0) ≡ false → given_field z ≡ d
 unfolding given_field
 given_above (pos n) e = refl
 given_above (negsuc n) e = absurd (true≢false e)
-
--- such a figure that is given is a number without sign
-pub given_cast : (z : ℤ) → SFits w32 z → lt_z z (pos 0) ≡ false → T (non_neg z) × Fits w64 (nat_abs z)
-given_cast (pos n) f e = (Prim.tt, record { fits = let h : n < 2147483648 = f.sfits in omega arith })
-given_cast (negsuc n) f e = absurd (true≢false e)

@@ -6,7 +6,7 @@ ghost use Rattle.text_writer.specs.Puts.{PutKey};
 pub(crate) fn put_flag(buf: &mut [u8], at: usize, w: &[u8], b: bool) -> usize
     ensures { PutKey w.now (flag_field b) at buf.old buf.new result }
 {
-    fields::put_key(&mut *buf, at, w, b as u64)
+    fields::put_key(&mut *buf, at, w, u64::from(b))
 }
 
 // X, Y or Power: -1 where it is not given.

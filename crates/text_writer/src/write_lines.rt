@@ -43,10 +43,10 @@ pub(crate) fn put_level_line(buf: &mut [u8], at: usize, m: u64, d: Module) -> us
     ensures { Put (written_lines (level_fields m d ∷ [])) at buf.old buf.new result }
 {
     let a = fields::put_key(&mut *buf, at, b"Module ", m);
-    let b = fields::put_key(&mut *buf, a, b" Level ", d.level as u64);
-    let c = fields::put_key(&mut *buf, b, b" Inputs ", d.inputs as u64);
-    let e = fields::put_key(&mut *buf, c, b" Outputs ", d.outputs as u64);
-    let f = fields::put_key(&mut *buf, e, b" Bidirs ", d.bidirs as u64);
+    let b = fields::put_key(&mut *buf, a, b" Level ", u64::from(d.level));
+    let c = fields::put_key(&mut *buf, b, b" Inputs ", u64::from(d.inputs));
+    let e = fields::put_key(&mut *buf, c, b" Outputs ", u64::from(d.outputs));
+    let f = fields::put_key(&mut *buf, e, b" Bidirs ", u64::from(d.bidirs));
     let g = fields::put_key(&mut *buf, f, b" ScanChains ", d.chain_count as u64);
     let h = buffer::put_bytes(&mut *buf, g, b" :");
     let i = put_lengths(&mut *buf, h, &d.chains[..d.chain_count]);
@@ -105,6 +105,6 @@ pub(crate) fn put_test_line(
     let b = fields::put_key(&mut *buf, a, b" Test ", i);
     let c = put_flag(&mut *buf, b, b" ScanUse ", t.scan_use);
     let d = put_flag(&mut *buf, c, b" TamUse ", t.tam_use);
-    let e = fields::put_key(&mut *buf, d, b" Patterns ", t.patterns as u64);
+    let e = fields::put_key(&mut *buf, d, b" Patterns ", u64::from(t.patterns));
     put_power(&mut *buf, e, t, power)
 }

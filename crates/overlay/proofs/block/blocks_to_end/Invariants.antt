@@ -12,4 +12,11 @@ use Rattle.overlay.proofs.BlockLaws.{filled_by}
 use Rattle.overlay.proofs.block.blocks_to_end.Given as goal
 
 abbrev pub invariant-loop : goal.invariant-loop
-invariant-loop l = ?
+invariant-loop l = (l.counter ≤ l.low)
+    × (l.low ≤ 40)
+    × (length l.has ≡ 40)
+    × (length l.modules ≡ 40)
+    × Inside l.text l.place
+    × (places l.o (lines_at l.text l.initial.place)
+    ≡ filled_by (record { has = l.has; modules = l.modules }) (blocks l.o (41 - l.counter) l.low (lines_at l.text l.place)))
+    × Marking l.m l.low (get_or l.has l.m false) l.text (lines_at l.text l.initial.place) (lines_at l.text l.place) l.marks

@@ -3,4 +3,4 @@ use Rattle.text_writer.proofs.FigureLaws.{flag-number}
 use Rattle.text_writer.proofs.put.put_flag.Goals as goal
 
 pub returns : goal.returns
-returns c = rw (← flag-number c.args.b) c.put_key.ensures
+returns c = rw (← flag-number c.args.b) (rw c.from.ensures at c.put_key.ensures)

@@ -5,7 +5,7 @@ use mir.Val.{to_z, of_z}
 use Rattle.soc.proofs.FigureLaws.{figure_back}
 use Rattle.fields.specs.Bytes.{bytes}
 use Rattle.buffer.proofs.PutLaws.{put-behind}
-use Rattle.text_writer.proofs.FigureLaws.{given_below, given_above, given_cast}
+use Rattle.text_writer.proofs.FigureLaws.{given_below, given_above}
 use Rattle.text_writer.proofs.put.put_given.Goals as goal
 use Rattle.text_writer.proofs.put.put_given.Goals.{Start}
 
@@ -16,9 +16,6 @@ back c = figure_back c.args.z c.ranges.z
 pub returns-then-z-lt0 : goal.returns-then-z-lt0
 returns-then-z-lt0 c = rw (given_below c.args.z (rw (back (goal.at.returns-then-z-lt0 c).Start) at c.if-z-lt0.true))
     (put-behind (bytes "-1") c.args.w.now c.args.buf.now c.args.at c.put_bytes-e.ensures c.put_bytes.ensures)
-
-pub overflow_cast-z : goal.overflow_cast-z
-overflow_cast-z c = rw (back (goal.at.overflow_cast-z c).Start) (given_cast c.args.z c.ranges.z (rw (back (goal.at.overflow_cast-z c).Start) at c.if-z-lt0.false))
 
 pub returns : goal.returns
 returns c = rw (given_above c.args.z (rw (back (goal.at.returns c).Start) at c.if-z-lt0.false)) (rw (back (goal.at.returns c).Start) at c.put_key.ensures)

@@ -1,23 +1,12 @@
 -- `text_writer::write_lines::put_head` meets its contract: each call puts what is due behind the call before it. Assumes nothing.
-use native.Mathlib.Omega.{arith}
-use mathlib.Core.Path.{◌≡◌}
 use mathlib.Core.List.{◌∷◌}
-use lib.ListN.{length}
 use Rattle.fields.specs.Bytes.{bytes, lf}
-use Rattle.fields.specs.Names.{name_max}
 use Rattle.fields.specs.WrittenLines.{decimal}
 use Rattle.soc.specs.Record.{name_of}
 use Rattle.text_lines.specs.LineFields.{flag_field}
 use Rattle.buffer.proofs.PutLaws.{due_all, due-key, due-put, put_is}
 use Rattle.text_writer.proofs.LineLaws.{head_text}
 use Rattle.text_writer.proofs.write_lines.put_head.Goals as goal
-use Rattle.text_writer.proofs.write_lines.put_head.Goals.{Start}
-
-len : (c : Start) → length c.args.s.name ≡ name_max
-len c = c.well_formed.1.1.0.1.1.1.0.1.0.1
-
-pub slice_bounds-name-end : goal.slice_bounds-name-end
-slice_bounds-name-end c = omega (arith, len (goal.at.slice_bounds-name-end c).Start, c.requires.0)
 
 pub returns : goal.returns
 returns c = let r = c.args.s in

@@ -23,10 +23,10 @@ due : (c : After-put_bytes-h) →
 due c = let d = c.args.d in
     let d0 = due_all (level-text c.args.m d) c.requires.1 in
     let d1 = due-key (bytes "Module ") (decimal c.args.m) _ d0 c.put_key-a.ensures in
-    let d2 = due-key (bytes " Level ") (decimal d.level) _ d1 c.put_key-b.ensures in
-    let d3 = due-key (bytes " Inputs ") (decimal d.inputs) _ d2 c.put_key-c.ensures in
-    let d4 = due-key (bytes " Outputs ") (decimal d.outputs) _ d3 c.put_key-e.ensures in
-    let d5 = due-key (bytes " Bidirs ") (decimal d.bidirs) _ d4 c.put_key-f.ensures in
+    let d2 = due-key (bytes " Level ") (decimal d.level) _ d1 (rw c.from.ensures at c.put_key-b.ensures) in
+    let d3 = due-key (bytes " Inputs ") (decimal d.inputs) _ d2 (rw c.from-2.ensures at c.put_key-c.ensures) in
+    let d4 = due-key (bytes " Outputs ") (decimal d.outputs) _ d3 (rw c.from-3.ensures at c.put_key-e.ensures) in
+    let d5 = due-key (bytes " Bidirs ") (decimal d.bidirs) _ d4 (rw c.from-4.ensures at c.put_key-f.ensures) in
     let d6 = due-key (bytes " ScanChains ") (decimal d.chain_count) _ d5 c.put_key-g.ensures in
     due-put (bytes " :") _ d6 c.put_bytes-h.ensures
 

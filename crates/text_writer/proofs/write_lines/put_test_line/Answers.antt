@@ -26,7 +26,7 @@ due c = let t = c.args.t in
     let d2 = due-key (bytes " Test ") (decimal c.args.i) _ d1 c.put_key-b.ensures in
     let d3 = due-key (bytes " ScanUse ") (flag_field t.scan_use) _ d2 c.put_flag-c.ensures in
     let d4 = due-key (bytes " TamUse ") (flag_field t.tam_use) _ d3 c.put_flag-d.ensures in
-    due-key (bytes " Patterns ") (decimal t.patterns) _ d4 c.put_key-e.ensures
+    due-key (bytes " Patterns ") (decimal t.patterns) _ d4 (rw c.from.ensures at c.put_key-e.ensures)
 
 pub put_power-requires : goal.put_power-requires
 put_power-requires c = (due (goal.at.put_power-requires c).After-put_key-e).room
