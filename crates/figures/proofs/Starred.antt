@@ -1,7 +1,7 @@
 -- The starred figures of document 01, the starts of the same plans and some figures with more capture cycles hold: one table, one proof, by
 -- computation, of t1 from its very text. Assumes nothing.
-use mathlib.Core.Path.{◌≡◌, refl, ap}
-use mathlib.Core.List.{◌++◌}
+use mathlib.Core.Path.{◌≡◌, refl}
+use Rattle.std.specs.Prelude.{IsOkAnd}
 use Rattle.fields.specs.Names.{name_bytes}
 use Rattle.soc.specs.Rules.{good_power, good_position, pins_rule, good_test, spare_test, level_rule, good_terminals, good_chains, good_tests, good_module, good_modules, spare_module, good_name, good_soc}
 use Rattle.soc.specs.Planned.{is_planned, planned_from}
@@ -15,24 +15,16 @@ use Rattle.plan_rules.specs.Listed.{upward, width_lists, placements, plans_on, p
 use Rattle.plan_record.specs.Record.{cycles_on, bus_records, module_records, plan_record}
 use Rattle.plan.specs.PlanAnswers.{time_in, wires_in, best_for, plan_answer}
 use Rattle.figures.proofs.Read.{t1-read, copies_read}
-use Rattle.soc.specs.declared.record.Soc.{Soc}
 use Rattle.text_reader.specs.Reading.{read_soc}
 use Rattle.figures.specs.Records.{t1, two_copies}
 use Rattle.figures.specs.Texts.{t1_text, two_copies_text}
-use Rattle.figures.specs.Figures.{wrapper_figures, capture_figures, plan_figures, start_figures, figures, computed_of, stated_of}
+use Rattle.figures.specs.Figures.{figures, computed_of, stated_of}
 
 -- of the records
-records-hold :
-    let l = wrapper_figures ++ capture_figures ++ plan_figures t1 two_copies ++ start_figures t1 two_copies in
-    computed_of l ≡ stated_of l
+records-hold : computed_of (figures t1 two_copies) ≡ stated_of (figures t1 two_copies)
 unfolding is_planned planned_from padded all_of any_of longest total better best_from goes placed with_cells longest_after numbered_from insert ordered sum_over how_many used_chains thread threaded scan_in scan_out test_cycles test_time sum_times figure best_to module_best sum busy_from busies largest time_of upward width_lists placements plans_on plans first_least first_of best_of cycles_on bus_records module_records plan_record time_in wires_in best_for plan_answer computed_of stated_of good_power good_position good_test spare_test level_rule good_terminals good_chains good_tests good_module good_modules spare_module good_name good_soc name_bytes pins_rule
 records-hold = refl
 
--- and of the texts
-pub starred_hold : computed_of figures ≡ stated_of figures
-starred_hold = go (read_soc t1_text).soc (read_soc two_copies_text).soc (ap (λ a. a.soc) t1-read) (ap (λ a. a.soc) copies_read)
-  where
-    go : (s c : Soc) → s ≡ t1 → c ≡ two_copies →
-        let l = wrapper_figures ++ capture_figures ++ plan_figures s c ++ start_figures s c in
-        computed_of l ≡ stated_of l
-    go s c e f = rw (e, f) records-hold
+-- and of the records that the reader gives for the texts
+pub starred_hold : IsOkAnd (read_soc t1_text) (λ s. IsOkAnd (read_soc two_copies_text) (λ c. computed_of (figures s c) ≡ stated_of (figures s c)))
+starred_hold = rw (t1-read, copies_read) records-hold

@@ -1,16 +1,15 @@
 -- Document 01's starred figures ("Figures to hold against"), each beside the definition that it is a figure of, with one capture cycle, and
 -- the starts of the same plans. And some of the wrapper's with more capture cycles (document 02, item 5).
-use Rattle.std.specs.Prelude.{ℕ, true, List, [], ◌∷◌, ◌++◌, get_or}
+use Rattle.std.specs.Prelude.{ℕ, true, List, [], ◌∷◌, ◌++◌, get_or, Result, Ok, Err}
+use Rattle.units.specs.declared.Refusal.{Refusal}
 use Rattle.wrapper_scans.specs.TestTimes.{scan_in, scan_out}
 use Rattle.wrapper_times.specs.Times.{figure, module_best}
 use Rattle.soc.specs.declared.record.Soc.{Soc}
-use Rattle.text_reader.specs.Reading.{read_soc}
-use Rattle.plan_record.specs.Record.{modules_of, places_of}
+use Rattle.plan_record.specs.Record.{no_plan, modules_of, places_of}
 use Rattle.plan_record.specs.Starts.{module_of}
 use Rattle.plan_record.specs.declared.record.BusPlan.{BusPlan}
 use Rattle.plan.specs.PlanAnswers.{plan_answer}
 use Rattle.figures.specs.Cores.{core_a, one_chain, terminals, nothing}
-use Rattle.figures.specs.Texts.{t1_text, two_copies_text}
 
 -- a figure as the definitions have it, and as document 01 states it
 pub record Figure : Type 0 where
@@ -47,9 +46,13 @@ wrapper_figures =
 abbrev pub capture_figures : List Figure
 capture_figures = (figure 2 core_a 4 is 250) ∷ (figure 4 core_a 4 is 270) ∷ ((module_best 4 nothing 1).cycles is 28) ∷ []
 
--- what the planner answers for W wires and limit B
+-- what the planner answers for W wires and limit B; where it refuses, a plan whose time is 0
+abbrev pub plan_in : Result BusPlan Refusal → BusPlan
+plan_in (Ok p) = p
+plan_in (Err r) = no_plan
+
 abbrev pub planned : Soc → ℕ → ℕ → BusPlan
-planned s W B = (plan_answer s W B 1).plan
+planned s W B = plan_in (plan_answer s W B 1)
 
 -- "Text t1 above: W 4, B 1: 74*; W 1, B 3: 83*; W 4, B 3: 65 with two buses*. Two copies of its module 1, W 2, B 2: 65, modules on buses 1 and 2*.":
 -- of a record and one with the copies
@@ -74,13 +77,9 @@ start_figures s c =
     ∷ ((module_of (planned c 2 2) 1).start.0 is 0)
     ∷ []
 
--- all of them, for the records that the reader gives for the texts
-abbrev pub figures : List Figure
-figures =
-    wrapper_figures
-    ++ capture_figures
-    ++ plan_figures (read_soc t1_text).soc (read_soc two_copies_text).soc
-    ++ start_figures (read_soc t1_text).soc (read_soc two_copies_text).soc
+-- all of them
+abbrev pub figures : Soc → Soc → List Figure
+figures s c = wrapper_figures ++ capture_figures ++ plan_figures s c ++ start_figures s c
 
 -- the computed figures of a table, and the stated ones
 unfoldable pub computed_of : List Figure → List ℕ
