@@ -12,7 +12,9 @@ use Rattle.fields.specs.Fields.{fields_of, blank}
 use Rattle.fields.specs.Lines.{until_lf, line_ending, line_at}
 use Rattle.fields.specs.Readers.{got, between}
 use Rattle.fields.proofs.LineLaws.{line-is}
-use Rattle.text_lines.specs.Parts.{refuses, whole}
+use Rattle.std.specs.Prelude.{Err}
+use Rattle.units.specs.declared.Fault.TheVariants.{WrongForm}
+use Rattle.text_lines.specs.Parts.{whole}
 use Rattle.listing.specs.Asked.{plan_line_max, asked_max, capture_number, plan_line, first_line, asked}
 
 -- the first line and its end lie in the input; an empty input has an empty one
@@ -28,7 +30,7 @@ first-line (b ∷ input) =
     record { end = l.end; inside = l.inside }
 
 module _ (input : List ℕ) where
-  pub asked-long : plan_line_max < (line_at input 0).next → asked input ≡ refuses 3
+  pub asked-long : plan_line_max < (line_at input 0).next → asked input ≡ Err WrongForm
   unfolding asked
   asked-long h = simp (lt-leb (line_at input 0).next plan_line_max h)
 

@@ -6,6 +6,7 @@ use mathlib.Core.List.{List, [], ◌∷◌, ◌++◌, append_assoc}
 use native.Mathlib.Omega.{arith}
 use lib.ListN.{length, get_or, take, length-append, length-take}
 use lib.Seq.{length-take-le}
+use Rattle.units.specs.Refusals.{number_of}
 use Rattle.units.specs.declared.Refusal.{Refusal}
 use Rattle.fields.specs.Bytes.{bytes, lf}
 use Rattle.fields.specs.Names.{name_max}
@@ -36,16 +37,16 @@ pub name_size : (s : Soc) → s.name_len ≤ name_max → length (name_of s) ≤
 name_size s h = simp length-take (omega arith)
 
 module _ (r : Refusal) where
-  refusal_text : written_lines (refusal_fields r ∷ []) ≡ bytes "refused " ++ decimal r.number ++ (bytes " line " ++ decimal r.line ++ lf ∷ [])
+  refusal_text : written_lines (refusal_fields r ∷ []) ≡ bytes "refused " ++ decimal (number_of r.fault) ++ (bytes " line " ++ decimal r.line ++ lf ∷ [])
   unfolding refusal_fields written_lines joined
   refusal_text = simp append_assoc
 
-  pub refusal_formed : written_lines (refusal_fields r ∷ []) ≡ formed (bytes "refused # line #\n") (r.number ∷ r.line ∷ [])
+  pub refusal_formed : written_lines (refusal_fields r ∷ []) ≡ formed (bytes "refused # line #\n") (number_of r.fault ∷ r.line ∷ [])
   unfolding formed
   refusal_formed = refusal_text
 
-  pub refusal_size : r.number < figure_end → r.line < figure_end → length (written_lines (refusal_fields r ∷ [])) ≤ refusal_room
-  refusal_size n l = rw refusal_text (simp length-append (omega (arith, figure_size r.number n, figure_size r.line l)))
+  pub refusal_size : number_of r.fault < figure_end → r.line < figure_end → length (written_lines (refusal_fields r ∷ [])) ≤ refusal_room
+  refusal_size n l = rw refusal_text (simp length-append (omega (arith, figure_size (number_of r.fault) n, figure_size r.line l)))
 
 module _ (p : BusPlan) where
   count-text : written_lines (count_fields p ∷ []) ≡ bytes "wires " ++ decimal p.wires.0 ++ (bytes " limit " ++ decimal p.limit ++ (bytes " time " ++ decimal p.time.0 ++ lf ∷ []))

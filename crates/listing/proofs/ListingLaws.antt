@@ -8,24 +8,19 @@ use borrow.Author.Tests.{eq-eqb, ne_eqb, lt-leb, leb-true, leb-false, ltb-true, 
 use lib.ListN.{length, take, length-drop}
 use lib.Seq.{take_all, take-take, length-take-le}
 use lib.Dec.{leb, ltb}
-use Rattle.units.proofs.TestLaws.{clash}
+use Rattle.std.specs.Prelude.{Result, Ok, Err}
 use Rattle.units.specs.Refusals.{refused}
+use Rattle.units.specs.declared.Fault.{Fault}
+use Rattle.units.specs.declared.Fault.TheVariants.{LongText, WrongForm}
+use Rattle.units.specs.declared.Refusal.{Refusal}
 use Rattle.units.proofs.Unique.{answer_and_bytes_unique}
 use Rattle.fields.specs.Lines.{until_lf, line_at}
 use Rattle.buffer.specs.Puts.{Put}
-use Rattle.soc.specs.declared.record.Soc.{Soc}
-use Rattle.text_lines.specs.Parts.{Whole, refuses, says}
 use Rattle.soc.specs.Limits.{text_max}
-use Rattle.text_reader.specs.Reading.{refused_soc, read_soc}
-use Rattle.text_reader.specs.declared.read.SocRead.{SocRead}
+use Rattle.text_reader.specs.Reading.{read_soc}
 use Rattle.fields.specs.WrittenLines.{written_lines}
-use Rattle.plan.specs.PlanAnswers.{plan_answer}
-use Rattle.plan.specs.declared.answer.PlanAnswer.{PlanAnswer}
-use Rattle.listing.specs.Asked.{plan_line_max, Wanted, text_behind, asked, asked_answer}
-use Rattle.listing.specs.Listing.{refusal_fields, plan_lines, plan_printed, text_printed, printed, listed, listing_max, listing_answer, listing_leaves}
-use Rattle.listing.specs.Rest.{wanted}
-use Rattle.buffer.specs.declared.written.Written.{Written}
-use Rattle.listing.specs.declared.asked.Asked.TheVariants.{No, For}
+use Rattle.listing.specs.Asked.{plan_line_max, Wanted, text_behind, asked}
+use Rattle.listing.specs.Listing.{refusal_fields, text_printed, printed, listed, listing_max, listing_answer, listing_leaves}
 use Rattle.listing.proofs.AskedLaws.{first-line, asked-long, asked-short}
 use Rattle.listing.proofs.FrontLaws.{next-high, until_front, line-front}
 
@@ -33,66 +28,30 @@ use Rattle.listing.proofs.FrontLaws.{next-high, until_front, line-front}
 pub put_as : {v w start buf : List ℕ} {r : ℕ} (n : ℕ) → v ≡ w → n ≤ listing_max → Put w 0 start buf r × (length w ≤ n) → Put v 0 start buf r × (length v ≤ listing_max)
 put_as n e h p = rw e (p.0, omega arith)
 
--- what is printed for the planner's answer
-module _ (s : Soc) (W B c : ℕ) (a : PlanAnswer) (e : a ≡ plan_answer s W B c) where
-  pub plan-refused : (a.refusal.number ≡ 0 → ⊥) → plan_printed s (plan_answer s W B c) ≡ refusal_fields a.refusal ∷ []
-  unfolding plan_printed
-  plan-refused h = ap (plan_printed s) (sym e) ∙ simp (ne_eqb a.refusal.number 0 h)
-
-  pub plan-found : a.refusal.number ≡ 0 → plan_printed s (plan_answer s W B c) ≡ plan_lines s a.plan
-  unfolding plan_printed
-  plan-found h = ap (plan_printed s) (sym e) ∙ simp (eq-eqb a.refusal.number 0 h)
-
--- what is printed for what was read of a text
-module _ (k : Wanted) (t : List ℕ) (a : SocRead) (e : a ≡ read_soc t) where
-  pub text-refused : (a.refusal.number ≡ 0 → ⊥) → text_printed k (read_soc t) ≡ refusal_fields a.refusal ∷ []
-  unfolding text_printed
-  text-refused h = ap (text_printed k) (sym e) ∙ simp (ne_eqb a.refusal.number 0 h)
-
-  pub text-read : a.refusal.number ≡ 0 → text_printed k (read_soc t)
-      ≡ plan_printed a.soc (plan_answer a.soc k.wires k.limit k.capture)
-  unfolding text_printed
-  text-read h = ap (text_printed k) (sym e) ∙ simp (eq-eqb a.refusal.number 0 h)
-
--- what the first line's answer says of it
-pub answer-no : (w : Whole Wanted) (c : ℕ) → No c ≡ asked_answer w → w ≡ refuses c
-unfolding asked_answer
-answer-no (refuses d) c e = let q : d ≡ c = cc in ap refuses q
-answer-no (says k) c e = clash cc
-
-pub answer_for : (w : Whole Wanted) (W B c : ℕ) → For W B c ≡ asked_answer w → w ≡ says (wanted W B c)
-unfolding asked_answer
-answer_for (refuses d) W B c e = clash cc
-answer_for (says k) W B c e =
-    let p : k.wires ≡ W = cc in
-    let q : k.limit ≡ B = cc in
-    let r : k.capture ≡ c = cc in
-    rw (← p, ← q, ← r)
-
 -- what is printed for an input, by its first line
 module _ (input : List ℕ) where
-  pub listed-no : (c : ℕ) → asked input ≡ refuses c → listed input ≡ written_lines (refusal_fields (refused c 0) ∷ [])
+  pub listed-no : (f : Fault) → asked input ≡ Err f → listed input ≡ written_lines (refusal_fields (refused f 0) ∷ [])
   unfolding listed printed
-  listed-no c e = rw e
+  listed-no f e = rw e
 
-  pub listed-says : (k : Wanted) → asked input ≡ says k → listed input ≡ written_lines (text_printed k (read_soc (text_behind input)))
+  pub listed-says : (k : Wanted) → asked input ≡ Ok k → listed input ≡ written_lines (text_printed k (read_soc (text_behind input)))
   unfolding listed printed
   listed-says k e = rw e
 
 -- a first line that is too long is refused, whatever follows
-listed-long : (input : List ℕ) → plan_line_max < (line_at input 0).next → listed input ≡ written_lines (refusal_fields (refused 3 0) ∷ [])
-listed-long input h = listed-no input 3 (asked-long input h)
+listed-long : (input : List ℕ) → plan_line_max < (line_at input 0).next → listed input ≡ written_lines (refusal_fields (refused WrongForm 0) ∷ [])
+listed-long input h = listed-no input WrongForm (asked-long input h)
 
 -- so is a text that is too long
-read-long : (t : List ℕ) → text_max < length t → read_soc t ≡ refused_soc (refused 1 0)
+read-long : (t : List ℕ) → text_max < length t → read_soc t ≡ Err (refused LongText 0)
 unfolding read_soc
 read-long t h = simp (lt-leb (length t) text_max h)
 
 -- what is printed depends on the text only by what is read of it
-printed-same : (w : Whole Wanted) (t u : List ℕ) → read_soc t ≡ read_soc u → printed w t ≡ printed w u
+printed-same : (w : Result Wanted Fault) (t u : List ℕ) → read_soc t ≡ read_soc u → printed w t ≡ printed w u
 unfolding printed
-printed-same (refuses c) t u e = refl
-printed-same (says k) t u e = ap (text_printed k) e
+printed-same (Err f) t u e = refl
+printed-same (Ok k) t u e = ap (text_printed k) e
 
 -- the input's first n bytes, with a first line that is not too long in them and more text behind it than may be
 module _ (n : ℕ) (input : List ℕ) (many : 61473 ≤ n) (more : n < length input) (line : line_at (take n input) 0 ≡ line_at input 0) (short : (line_at input 0).next ≤ plan_line_max) where
@@ -109,7 +68,7 @@ module _ (n : ℕ) (input : List ℕ) (many : 61473 ≤ n) (more : n < length in
 
   listed-front : listed (take n input) ≡ listed input
   unfolding listed
-  listed-front = ap written_lines (ap (λ (w : Whole Wanted). printed w (text_behind (take n input))) asked-front ∙ printed-same (asked input) (text_behind (take n input)) (text_behind input) read-front)
+  listed-front = ap written_lines (ap (λ (w : Result Wanted Fault). printed w (text_behind (take n input))) asked-front ∙ printed-same (asked input) (text_behind (take n input)) (text_behind input) read-front)
 
 -- the first 61,473 bytes of an input are enough: a first line of at most 32 bytes and then 61,441 bytes of text are refused whatever follows
 pub listed_enough : (n : ℕ) (input : List ℕ) → 61473 ≤ n → listed (take n input) ≡ listed input
@@ -130,5 +89,5 @@ listed_enough n input h = go (leb (length input) n) refl (ltb (until_lf input) n
         listed-long (take n input) (omega (arith, next-high (take n input), until_front n input)) ∙ sym (listed-long input (omega (arith, next-high input)))
 
 -- two answers that meet the promise of `listing` are equal, and so are the bytes
-pub listing_unique : (input start : List ℕ) (a b : Written) (x y : List ℕ) → (a ≡ listing_answer input start) × (x ≡ listing_leaves input start) → (b ≡ listing_answer input start) × (y ≡ listing_leaves input start) → (a ≡ b) × (x ≡ y)
+pub listing_unique : (input start : List ℕ) (a b : Result ℕ Refusal) (x y : List ℕ) → (a ≡ listing_answer input start) × (x ≡ listing_leaves input start) → (b ≡ listing_answer input start) × (y ≡ listing_leaves input start) → (a ≡ b) × (x ≡ y)
 listing_unique input start a b x y p q = answer_and_bytes_unique p q

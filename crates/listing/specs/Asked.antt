@@ -1,12 +1,14 @@
 -- The first line of the printing program's input (document 01, "The printing program"; document 02, item 5): "a line `Plan W B` (at most
 -- 32 bytes with its end), then a SOC text."
-use Rattle.std.specs.Prelude.{ℕ, cond, List, [], ◌∷◌, take, drop, leb}
+use Rattle.std.specs.Prelude.{ℕ, cond, List, [], ◌∷◌, take, drop, leb, Result, Err}
+use Rattle.units.specs.declared.Fault.{Fault}
+use Rattle.units.specs.declared.Fault.TheVariants.{WrongForm}
 use Rattle.fields.specs.Fields.{fields_of}
 use Rattle.fields.specs.Lines.{line_at}
 use Rattle.fields.specs.Readers.{Reader, got, ◌>>=◌, ◌>>◌, give, word, between}
-use Rattle.text_lines.specs.Parts.{Whole, refuses, says, whole}
-use Rattle.listing.specs.declared.asked.Asked.{Asked}
-use Rattle.listing.specs.declared.asked.Asked.TheVariants.{No, For}
+use Rattle.text_lines.specs.Parts.{whole}
+-- what the line asks for
+pub use Rattle.listing.specs.declared.asked.Wanted.{Wanted}
 
 -- "at most 32 bytes with its end"
 abbrev pub plan_line_max : ℕ
@@ -15,12 +17,6 @@ plan_line_max = 32
 -- a number "over 4,294,967,295" is 4
 abbrev pub asked_max : ℕ
 asked_max = 4294967295
-
--- what the line asks for
-pub record Wanted : Type 0 where
-  pub wires : ℕ
-  pub limit : ℕ
-  pub capture : ℕ
 
 -- c is "chosen for the whole SOC by an optional third number on the `Plan` line, 1 if absent"
 unfoldable pub capture_number : Reader ℕ
@@ -48,10 +44,5 @@ abbrev pub text_behind : List ℕ → List ℕ
 text_behind input = drop (line_at input 0).next input
 
 -- "a longer one is 3 before any other"
-unfoldable pub asked : List ℕ → Whole Wanted
-asked input = cond (leb (line_at input 0).next plan_line_max) (whole plan_line (fields_of (first_line input))) (refuses 3)
-
--- the same as an answer
-unfoldable pub asked_answer : Whole Wanted → Asked
-asked_answer (refuses c) = No c
-asked_answer (says k) = For k.wires k.limit k.capture
+unfoldable pub asked : List ℕ → Result Wanted Fault
+asked input = cond (leb (line_at input 0).next plan_line_max) (whole plan_line (fields_of (first_line input))) (Err WrongForm)

@@ -1,29 +1,27 @@
 -- What the printing program prints for an input (document 01, "The printing program"; document 02, items 1 and 5).
-use Rattle.std.specs.Prelude.{ℕ, suc, cond, List, [], ◌∷◌, ◌++◌, eqb}
-use Rattle.units.specs.Refusals.{refused}
+use Rattle.std.specs.Prelude.{ℕ, suc, cond, List, [], ◌∷◌, ◌++◌, Result, Ok, Err}
+use Rattle.units.specs.Refusals.{number_of, refused}
+use Rattle.units.specs.declared.Fault.{Fault}
+use Rattle.units.specs.declared.Fault.TheVariants.{BadPlan}
 use Rattle.units.specs.declared.Refusal.{Refusal}
 use Rattle.fields.specs.Bytes.{bytes}
 use Rattle.buffer.specs.Puts.{put_front}
-use Rattle.buffer.specs.WriterAnswers.{refused_write, written}
-use Rattle.buffer.specs.declared.written.Written.{Written}
+use Rattle.buffer.specs.WriterAnswers.{written}
 use Rattle.fields.specs.WrittenLines.{decimal, written_lines}
 use Rattle.soc.specs.Record.{name_of}
 use Rattle.soc.specs.declared.record.Soc.{Soc}
-use Rattle.text_lines.specs.Parts.{Whole, refuses, says}
 use Rattle.text_reader.specs.Reading.{read_soc}
-use Rattle.text_reader.specs.declared.read.SocRead.{SocRead}
 use Rattle.plan.specs.PlanAnswers.{plan_answer}
 use Rattle.plan_record.specs.declared.record.Bus.{Bus}
 use Rattle.plan_record.specs.declared.record.PlacedModule.{PlacedModule}
 use Rattle.plan_record.specs.declared.record.BusPlan.{BusPlan}
-use Rattle.plan.specs.declared.answer.PlanAnswer.{PlanAnswer}
 use Rattle.plan_record.specs.Record.{buses_of, modules_of}
 use Rattle.plan_record.specs.Good.{good_plan}
 use Rattle.listing.specs.Asked.{Wanted, asked, text_behind}
 
 -- the fields of a line: "`refused N line L`"
 unfoldable pub refusal_fields : Refusal → List (List ℕ)
-refusal_fields r = bytes "refused" ∷ decimal r.number ∷ bytes "line" ∷ decimal r.line ∷ []
+refusal_fields r = bytes "refused" ∷ decimal (number_of r.fault) ∷ bytes "line" ∷ decimal r.line ∷ []
 
 -- "W, B, time"
 unfoldable pub count_fields : BusPlan → List (List ℕ)
@@ -67,18 +65,17 @@ abbrev pub plan_lines : Soc → BusPlan → List (List (List ℕ))
 plan_lines s p = lines_behind (soc_fields s p) p
 
 -- "A refusal prints `refused N line L`.": that of the planner, that of the text, that of the first line, "before all else"
-unfoldable pub plan_printed : Soc → PlanAnswer → List (List (List ℕ))
-plan_printed s a = cond (eqb a.refusal.number 0) (plan_lines s a.plan) (refusal_fields a.refusal ∷ [])
+unfoldable pub plan_printed : Soc → Result BusPlan Refusal → List (List (List ℕ))
+plan_printed s (Ok p) = plan_lines s p
+plan_printed s (Err r) = refusal_fields r ∷ []
 
-unfoldable pub text_printed : Wanted → SocRead → List (List (List ℕ))
-text_printed k a =
-    cond (eqb a.refusal.number 0)
-    (plan_printed a.soc (plan_answer a.soc k.wires k.limit k.capture))
-    (refusal_fields a.refusal ∷ [])
+unfoldable pub text_printed : Wanted → Result Soc Refusal → List (List (List ℕ))
+text_printed k (Ok s) = plan_printed s (plan_answer s k.wires k.limit k.capture)
+text_printed k (Err r) = refusal_fields r ∷ []
 
-unfoldable pub printed : Whole Wanted → List ℕ → List (List (List ℕ))
-printed (refuses c) text = refusal_fields (refused c 0) ∷ []
-printed (says k) text = text_printed k (read_soc text)
+unfoldable pub printed : Result Wanted Fault → List ℕ → List (List (List ℕ))
+printed (Ok k) text = text_printed k (read_soc text)
+printed (Err f) text = refusal_fields (refused f 0) ∷ []
 
 -- the bytes that are printed for an input
 unfoldable pub listed : List ℕ → List ℕ
@@ -88,7 +85,7 @@ listed input = written_lines (printed (asked input) (text_behind input))
 abbrev pub listing_max : ℕ
 listing_max = 6144
 
-unfoldable pub listing_answer : List ℕ → List ℕ → Written
+unfoldable pub listing_answer : List ℕ → List ℕ → Result ℕ Refusal
 listing_answer input buf = written (listed input) buf
 
 unfoldable pub listing_leaves : List ℕ → List ℕ → List ℕ
@@ -98,8 +95,8 @@ listing_leaves input buf = put_front (listed input) buf
 unfoldable pub shown : BusPlan → List ℕ
 shown p = written_lines (lines_behind (count_fields p) p)
 
-unfoldable pub show_answer : BusPlan → List ℕ → Written
-show_answer p buf = cond (good_plan p) (written (shown p) buf) (refused_write 12)
+unfoldable pub show_answer : BusPlan → List ℕ → Result ℕ Refusal
+show_answer p buf = cond (good_plan p) (written (shown p) buf) (Err (refused BadPlan 0))
 
 unfoldable pub show_leaves : BusPlan → List ℕ → List ℕ
 show_leaves p buf = cond (good_plan p) (put_front (shown p) buf) buf

@@ -41,7 +41,7 @@ pub(crate) fn put_refusal(buf: &mut [u8], at: usize, r: Refusal) -> usize
     requires { at + refusal_room ≤ length buf.old }
     ensures { Put (written_lines (refusal_fields r ∷ [])) at buf.old buf.new result × (length (written_lines (refusal_fields r ∷ [])) ≤ refusal_room) }
 {
-    let figures = [r.number as u64, r.line as u64];
+    let figures = [u64::from(u8::from(r.fault)), r.line as u64];
     put_form(&mut *buf, at, b"refused # line #\n", &figures)
 }
 

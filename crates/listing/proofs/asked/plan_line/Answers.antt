@@ -1,26 +1,53 @@
--- `listing::asked::plan_line` meets its contract. The definition goes on behind the keyword as the code does. Assumes nothing.
+-- `listing::asked::plan_line` meets its contract. The definition goes on behind the keyword and behind each number as the code does, and then the line
+-- must end. A number that was read fits 32 bits. Assumes nothing.
+use native.Mathlib.Omega.{arith}
 use mathlib.Core.Path.{◌≡◌, sym, ap, ◌∙◌}
-use Rattle.fields.specs.Bytes.{bytes}
 use Rattle.fields.specs.Fields.{fields_of}
-use Rattle.fields.specs.Readers.{bytes_due, past_is}
-use Rattle.fields.proofs.PlaceAnswerLaws.{word-is}
-use Rattle.fields.proofs.ReaderLaws.{after-no, after-got}
-use Rattle.text_lines.specs.Parts.{closed}
-use Rattle.text_lines.proofs.HeadLaws.{closed-no}
-use Rattle.listing.specs.Asked.{plan_line, asked_answer}
+use Rattle.fields.specs.Readers.{got}
+use Rattle.fields.proofs.PlaceAnswerLaws.{word-is, number_is}
+use Rattle.fields.proofs.ReaderLaws.{after-no, after-got, between-within}
+use Rattle.text_lines.proofs.HeadLaws.{closed-no, closed-blank, closed-more}
+use Rattle.text_lines.proofs.PartLaws.{exit}
+use Rattle.listing.specs.Asked.{plan_numbers, plan_line}
 use Rattle.listing.proofs.asked.plan_line.Goals as goal
-use Rattle.listing.proofs.asked.plan_line.Goals.{After-past_word}
 
--- what the call answers
-keyword : (c : After-past_word) → let l = c.args.l.now in past_is l c.past_word.result ≡ bytes_due (bytes "Plan") (fields_of l)
-keyword c = word-is _ _ _ c.past_word.ensures
-
-pub returns-in-No : goal.returns-in-No
-unfolding plan_line asked_answer
-returns-in-No c = let l = c.args.l.now in
-    sym (ap asked_answer (closed-no _ _ (after-no _ _ _ (sym (keyword (goal.at.returns-in-No c).After-past_word) ∙ ap (past_is l) c.in-No.is))))
-
-pub returns-in-At : goal.returns-in-At
+pub returns-in_err-e1 : goal.returns-in_err-e1
 unfolding plan_line
-returns-in-At c = let l = c.args.l.now in
-    c.plan_numbers.ensures ∙ sym (ap (λ g. asked_answer (closed g)) (after-got _ _ _ _ (sym (keyword (goal.at.returns-in-At c).After-past_word) ∙ ap (past_is l) c.in-At.is)))
+returns-in_err-e1 c = rw (exit _ c.from_residual.ensures.1) (sym (closed-no _ _ (after-no _ _ _ (sym (word-is _ _ _ c.in_err-e1.ensures)))))
+
+pub returns-in_err-wires : goal.returns-in_err-wires
+unfolding plan_line plan_numbers
+returns-in_err-wires c = rw (exit _ c.from_residual-in_err-wires.ensures.1)
+    (sym (closed-no _ _ (after-got _ _ _ _ (sym (word-is _ _ _ c.in_ok-e1.ensures)) ∙ after-no _ _ _ (sym (number_is _ _ _ _ c.in_err-wires.ensures)))))
+
+pub returns-in_err-limit : goal.returns-in_err-limit
+unfolding plan_line plan_numbers
+returns-in_err-limit c = rw (exit _ c.from_residual-in_err-limit.ensures.1)
+    (sym (closed-no _ _ (after-got _ _ _ _ (sym (word-is _ _ _ c.in_ok-e1.ensures)) ∙ after-got _ _ _ _ (sym (number_is _ _ _ _ c.in_ok-wires.ensures))
+    ∙ after-no _ _ _ (sym (number_is _ _ _ _ c.in_err-limit.ensures)))))
+
+pub returns-in_err-capture : goal.returns-in_err-capture
+unfolding plan_line plan_numbers
+returns-in_err-capture c = rw (exit _ c.from_residual-in_err-capture.ensures.1)
+    (sym (closed-no _ _ (after-got _ _ _ _ (sym (word-is _ _ _ c.in_ok-e1.ensures)) ∙ after-got _ _ _ _ (sym (number_is _ _ _ _ c.in_ok-wires.ensures))
+    ∙ after-got _ _ _ _ (sym (number_is _ _ _ _ c.in_ok-limit.ensures)) ∙ after-no _ _ _ (sym c.in_err-capture.ensures))))
+
+pub returns-then-not-is_blank : goal.returns-then-not-is_blank
+unfolding plan_line plan_numbers
+returns-then-not-is_blank c = sym (closed-more _ _ _
+    (after-got _ _ _ _ (sym (word-is _ _ _ c.in_ok-e1.ensures)) ∙ after-got _ _ _ _ (sym (number_is _ _ _ _ c.in_ok-wires.ensures))
+    ∙ after-got _ _ _ _ (sym (number_is _ _ _ _ c.in_ok-limit.ensures)) ∙ after-got _ _ _ _ (sym c.in_ok-capture.ensures))
+    (sym c.is_blank.ensures ∙ c.if-not-is_blank.true))
+
+pub overflow_cast-result : goal.overflow_cast-result
+overflow_cast-result c = let w = between-within _ _ _ _ _ (sym (number_is _ _ _ _ c.in_ok-wires.ensures)) in omega arith
+
+pub overflow_cast-result-2 : goal.overflow_cast-result-2
+overflow_cast-result-2 c = let w = between-within _ _ _ _ _ (sym (number_is _ _ _ _ c.in_ok-limit.ensures)) in omega arith
+
+pub returns : goal.returns
+unfolding plan_line plan_numbers
+returns c = sym (closed-blank _ _ _
+    (after-got _ _ _ _ (sym (word-is _ _ _ c.in_ok-e1.ensures)) ∙ after-got _ _ _ _ (sym (number_is _ _ _ _ c.in_ok-wires.ensures))
+    ∙ after-got _ _ _ _ (sym (number_is _ _ _ _ c.in_ok-limit.ensures)) ∙ after-got _ _ _ _ (sym c.in_ok-capture.ensures))
+    (sym c.is_blank.ensures ∙ c.if-not-is_blank.false))

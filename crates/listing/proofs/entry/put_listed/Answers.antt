@@ -8,15 +8,13 @@ use Rattle.units.specs.Refusals.{refused}
 use Rattle.units.specs.declared.Refusal.{Refusal}
 use Rattle.fields.specs.declared.line.OneLine.{OneLine}
 use Rattle.buffer.proofs.PutLaws.{part_from, part-rest}
-use Rattle.text_lines.specs.Parts.{refuses, says}
 use Rattle.text_reader.specs.Reading.{read_soc}
 use Rattle.fields.specs.WrittenLines.{written_lines}
-use Rattle.listing.specs.Asked.{Wanted, asked, text_behind}
+use Rattle.listing.specs.Asked.{text_behind}
 use Rattle.listing.specs.Listing.{refusal_fields, text_printed, listing_max}
 use Rattle.listing.specs.Room.{refusal_room}
-use Rattle.listing.specs.Rest.{wanted}
 use Rattle.listing.proofs.AskedLaws.{first-line}
-use Rattle.listing.proofs.ListingLaws.{put_as, answer-no, answer_for, listed-no, listed-says}
+use Rattle.listing.proofs.ListingLaws.{put_as, listed-no, listed-says}
 use Rattle.listing.proofs.entry.put_listed.Goals as goal
 use Rattle.listing.proofs.entry.put_listed.Goals.{After-line_at-line}
 
@@ -41,17 +39,11 @@ slice_bounds-put_text-start c = omega (arith, inside (goal.at.slice_bounds-put_t
 pub slice_bounds-put_text-end : goal.slice_bounds-put_text-end
 slice_bounds-put_text-end c = omega (arith, inside (goal.at.slice_bounds-put_text-end c).After-line_at-line)
 
-pub put_text-requires : goal.put_text-requires
-put_text-requires c = c.requires
+pub returns-in-Ok : goal.returns-in-Ok
+returns-in-Ok c = let t = c.args.input.now in
+    let k = c.in-Ok.k in
+    put_as listing_max (listed-says t k (sym c.in-Ok.ensures) ∙ ap (λ (x : List ℕ). written_lines (text_printed k (read_soc x))) (sym (behind (goal.at.returns-in-Ok c).After-line_at-line))) (omega arith) c.put_text.ensures
 
-pub returns-in-No : goal.returns-in-No
-returns-in-No c = let t = c.args.input.now in
-    let e : asked t ≡ refuses c.in-No.c = answer-no (asked t) _ (sym c.in-No.is ∙ c.asked_of.ensures) in
-    let l : c.at.result ≡ refused c.in-No.c 0 = c.at.ensures in
-    put_as refusal_room (listed-no t _ e ∙ ap (λ (r : Refusal). written_lines (refusal_fields r ∷ [])) (sym l)) (omega arith) c.put_refusal.ensures
-
-pub returns-in-For : goal.returns-in-For
-returns-in-For c = let t = c.args.input.now in
-    let w : Wanted = wanted c.in-For.wires c.in-For.limit c.in-For.capture in
-    let e : asked t ≡ says w = answer_for (asked t) _ _ _ (sym c.in-For.is ∙ c.asked_of.ensures) in
-    put_as listing_max (listed-says t w e ∙ ap (λ (x : List ℕ). written_lines (text_printed w (read_soc x))) (sym (behind (goal.at.returns-in-For c).After-line_at-line))) (omega arith) c.put_text.ensures
+pub returns-in-Err : goal.returns-in-Err
+returns-in-Err c = let l : c.at.result ≡ refused c.in-Err.fault 0 = c.at.ensures in
+    put_as refusal_room (listed-no c.args.input.now c.in-Err.fault (sym c.in-Err.ensures) ∙ ap (λ (r : Refusal). written_lines (refusal_fields r ∷ [])) (sym l)) (omega arith) c.put_refusal.ensures
