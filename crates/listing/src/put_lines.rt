@@ -21,17 +21,14 @@ fn put_form(buf: &mut [u8], at: usize, form: &[u8], figures: &[u64]) -> usize
 {
     let mut e = at;
     let mut k: usize = 0;
-    let mut i: usize = 0;
-    while i < form.len() {
-        let b = form[i];
-        if b == 35 {
+    for b in form {
+        if *b == b'#' {
             e = fields::put_number(&mut *buf, e, figures[k]);
             k += 1;
         } else {
-            buf[e] = b;
+            buf[e] = *b;
             e += 1;
         }
-        i += 1;
     }
     e
 }
@@ -59,10 +56,8 @@ fn put_soc_line(buf: &mut [u8], at: usize, s: Soc, p: BusPlan) -> usize
     requires { (s.name_len ≤ name_max) × (at + name_room + count_room ≤ length buf.old) }
     ensures { Put (written_lines (soc_fields s p ∷ [])) at buf.old buf.new result × (length (written_lines (soc_fields s p ∷ [])) ≤ name_room + count_room) }
 {
-    let n = s.name_len;
-    let name = s.name;
     let a = buffer::put_bytes(&mut *buf, at, b"soc ");
-    let b = buffer::put_bytes(&mut *buf, a, &name[..n]);
+    let b = buffer::put_bytes(&mut *buf, a, &s.name[..s.name_len]);
     let c = buffer::put_bytes(&mut *buf, b, b" ");
     put_counts(&mut *buf, c, p)
 }
@@ -100,13 +95,9 @@ fn put_buses(buf: &mut [u8], at: usize, p: BusPlan) -> usize
     requires { (p.bus_count ≤ bus_places) × (at + bus_places * bus_room ≤ length buf.old) }
     ensures { Put (written_lines (bus_lines 1 (buses_of p))) at buf.old buf.new result × (length (written_lines (bus_lines 1 (buses_of p))) ≤ bus_places * bus_room) }
 {
-    let n = p.bus_count;
     let mut e = at;
-    let mut i: usize = 0;
-    while i < n {
-        let b = p.buses[i];
-        e = put_bus_line(&mut *buf, e, i as u64 + 1, b);
-        i += 1;
+    for (i, b) in p.buses[..p.bus_count].iter().enumerate() {
+        e = put_bus_line(&mut *buf, e, i as u64 + 1, *b);
     }
     e
 }
@@ -115,13 +106,9 @@ fn put_modules(buf: &mut [u8], at: usize, p: BusPlan) -> usize
     requires { (p.module_count ≤ module_places) × (at + module_places * module_room ≤ length buf.old) }
     ensures { Put (written_lines (module_lines (modules_of p))) at buf.old buf.new result × (length (written_lines (module_lines (modules_of p))) ≤ module_places * module_room) }
 {
-    let n = p.module_count;
     let mut e = at;
-    let mut i: usize = 0;
-    while i < n {
-        let m = p.modules[i];
-        e = put_module_line(&mut *buf, e, m);
-        i += 1;
+    for m in &p.modules[..p.module_count] {
+        e = put_module_line(&mut *buf, e, *m);
     }
     e
 }

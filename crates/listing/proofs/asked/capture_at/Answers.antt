@@ -1,7 +1,7 @@
 -- `listing::asked::capture_at` meets its contract. The definition reads the third number as the code does, where a field is left. A number
 -- that was read fits 32 bits. Assumes nothing.
 use native.Mathlib.Omega.{arith}
-use mathlib.Core.Path.{◌≡◌, sym, ap, ◌∙◌}
+use mathlib.Core.Path.{◌≡◌, sym, ◌∙◌}
 use mathlib.Core.Bool.{false}
 use lib.ListN.{drop}
 use Rattle.fields.specs.Fields.{fields_of, blank}

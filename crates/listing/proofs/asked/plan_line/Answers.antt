@@ -1,9 +1,7 @@
 -- `listing::asked::plan_line` meets its contract. The definition goes on behind the keyword and behind each number as the code does, and then the line
 -- must end. A number that was read fits 32 bits. Assumes nothing.
 use native.Mathlib.Omega.{arith}
-use mathlib.Core.Path.{◌≡◌, sym, ap, ◌∙◌}
-use Rattle.fields.specs.Fields.{fields_of}
-use Rattle.fields.specs.Readers.{got}
+use mathlib.Core.Path.{sym, ◌∙◌}
 use Rattle.fields.proofs.PlaceAnswerLaws.{word-is, number_is}
 use Rattle.fields.proofs.ReaderLaws.{after-no, after-got, between-within}
 use Rattle.text_lines.proofs.HeadLaws.{closed-no, closed-blank, closed-more}

@@ -7,18 +7,15 @@ use Rattle.listing.proofs.put_lines.put_form.Goals as goal
 use Rattle.listing.proofs.put_lines.put_form.Goals.{Else-b-eq35, Then-b-eq35, then-b-eq35, else-b-eq35}
 
 -- a mark has its figure
-figure : (c : Then-b-eq35) → c.loop-i.k < length c.args.figures.now
-figure c = figure_there c.loop-i.invariant c.loop-i-test.true c.if-b-eq35.true
+figure : (c : Then-b-eq35) → c.loop-b.k < length c.args.figures.now
+figure c = figure_there c.loop-b.invariant c.loop-b-test.true c.if-b-eq35.true
 
 -- a byte has its room
-room : (c : Else-b-eq35) → c.loop-i.e < length c.loop-i.buf
-room c = byte-room c.loop-i.invariant c.loop-i-test.true c.if-b-eq35.false
+room : (c : Else-b-eq35) → c.loop-b.e < length c.loop-b.buf
+room c = byte-room c.loop-b.invariant c.loop-b-test.true c.if-b-eq35.false
 
-pub loop-i-init : goal.loop-i-init
-loop-i-init c = formed-start c.requires.0 c.requires.1
-
-pub offset_bounds-figures-k : goal.offset_bounds-figures-k
-offset_bounds-figures-k c = omega (arith, figure (goal.at.offset_bounds-figures-k c).Then-b-eq35)
+pub loop-b-init : goal.loop-b-init
+loop-b-init c = formed-start c.requires.0 c.requires.1
 
 pub bounds-figures-k : goal.bounds-figures-k
 bounds-figures-k c = figure (goal.at.bounds-figures-k c).Then-b-eq35
@@ -32,15 +29,12 @@ bounds-buf-e c = room c
 pub overflow_add-e : goal.overflow_add-e
 overflow_add-e c = omega (arith, room c)
 
-pub loop-i-smaller : goal.loop-i-smaller
-loop-i-smaller c = omega (arith, c.loop-i-test.true)
-
-pub loop-i-preserved : goal.loop-i-preserved
-loop-i-preserved c = let h = c.loop-i-test.true in
-    (elim c.if-b-eq35.branch [ then-b-eq35 w ↦ rw (w.buf-is, w.e-is, w.k-is) (formed-figure c.loop-i.invariant h w.if-b-eq35.true w.put_number-e.ensures) | else-b-eq35 w ↦ rw (w.buf-is, w.e-is, w.k-is) (formed-next c.loop-i.invariant h w.if-b-eq35.false) ])
+pub loop-b-preserved : goal.loop-b-preserved
+loop-b-preserved c = let h = c.loop-b-test.true in
+    (elim c.if-b-eq35.branch [ then-b-eq35 w ↦ rw (w.buf-is, w.e-is, w.k-is) (formed-figure c.loop-b.invariant h w.if-b-eq35.true w.put_number-e.ensures) | else-b-eq35 w ↦ rw (w.buf-is, w.e-is, w.k-is) (formed-next c.loop-b.invariant h w.if-b-eq35.false) ])
 
 pub shape_of-buf : goal.shape_of-buf
-shape_of-buf c = c.loop-i.invariant.long
+shape_of-buf c = c.loop-b.invariant.long
 
 pub returns : goal.returns
-returns c = formed-end c.loop-i.invariant c.loop-i-test.false
+returns c = formed-end c.loop-b.invariant c.loop-b-test.false

@@ -1,16 +1,15 @@
 -- `listing::put_lines::put_refusal` meets its contract: the form with its figures is the line, and the figures bound its
 -- length. Assumes nothing.
 use native.Mathlib.Omega.{arith}
-use Prim.Native.Nat.{◌+◌, ◌≤◌}
+use Prim.Native.Nat.{◌≤◌}
 use mathlib.Core.Path.{◌≡◌, ◌∙◌}
 use mathlib.Core.List.{[], ◌∷◌}
 use lib.ListN.{length}
 use Rattle.units.specs.Refusals.{number_of}
-use Rattle.fields.specs.Bytes.{bytes}
 use Rattle.fields.specs.WrittenLines.{written_lines}
 use Rattle.listing.specs.Listing.{refusal_fields}
 use Rattle.listing.specs.Room.{refusal_room}
-use Rattle.listing.specs.Forms.{marks, formed}
+use Rattle.listing.specs.Forms.{marks}
 use Rattle.listing.proofs.LineLaws.{refusal_formed, refusal_size}
 use Rattle.listing.proofs.put_lines.put_refusal.Goals as goal
 use Rattle.listing.proofs.put_lines.put_refusal.Goals.{After-from-2}
