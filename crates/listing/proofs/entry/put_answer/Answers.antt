@@ -21,9 +21,6 @@ pub returns-in-Ok : goal.returns-in-Ok
 unfolding plan_printed
 returns-in-Ok c = put_as plan_room (ap (λ a. written_lines (plan_printed c.args.s a)) (sym c.in-Ok.ensures)) (omega arith) c.put_plan.ensures
 
-pub put_refusal-requires : goal.put_refusal-requires
-put_refusal-requires c = omega (arith, c.requires)
-
 pub returns-in-Err : goal.returns-in-Err
 unfolding plan_printed
 returns-in-Err c = put_as refusal_room (ap (λ a. written_lines (plan_printed c.args.s a)) (sym c.in-Err.ensures)) (omega arith) c.put_refusal.ensures

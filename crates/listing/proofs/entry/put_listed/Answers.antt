@@ -27,17 +27,11 @@ behind : (c : After-line_at-line) → let t = c.args.input.now in part_from c.li
 behind c = let t = c.args.input.now in
     part-rest c.line_at-line.result.next t ∙ ap (λ (o : OneLine). drop o.next t) c.line_at-line.ensures
 
-pub put_refusal-requires : goal.put_refusal-requires
-put_refusal-requires c = omega (arith, c.requires)
-
 pub slice_bounds-put_text-count : goal.slice_bounds-put_text-count
 slice_bounds-put_text-count c = omega (arith, inside (goal.at.slice_bounds-put_text-count c).After-line_at-line)
 
 pub slice_bounds-put_text-start : goal.slice_bounds-put_text-start
 slice_bounds-put_text-start c = omega (arith, inside (goal.at.slice_bounds-put_text-start c).After-line_at-line)
-
-pub slice_bounds-put_text-end : goal.slice_bounds-put_text-end
-slice_bounds-put_text-end c = omega (arith, inside (goal.at.slice_bounds-put_text-end c).After-line_at-line)
 
 pub returns-in-Ok : goal.returns-in-Ok
 returns-in-Ok c = let t = c.args.input.now in

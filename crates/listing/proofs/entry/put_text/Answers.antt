@@ -11,9 +11,6 @@ pub returns-in-Ok : goal.returns-in-Ok
 unfolding text_printed
 returns-in-Ok c = put_as listing_max (ap (λ a. written_lines (text_printed c.args.k a)) (sym c.in-Ok.ensures)) (omega arith) c.put_answer.ensures
 
-pub put_refusal-requires : goal.put_refusal-requires
-put_refusal-requires c = omega (arith, c.requires)
-
 pub returns-in-Err : goal.returns-in-Err
 unfolding text_printed
 returns-in-Err c = put_as refusal_room (ap (λ a. written_lines (text_printed c.args.k a)) (sym c.in-Err.ensures)) (omega arith) c.put_refusal.ensures

@@ -24,10 +24,6 @@ pub loop-i-init : goal.loop-i-init
 unfolding bus_lines written_lines
 loop-i-init c = (refl, put-none _ _, omega arith)
 
-pub put_bus_line-e-requires : goal.put_bus_line-e-requires
-put_bus_line-e-requires c = let l = length-take c.args.p.bus_count c.args.p.buses in
-    omega (arith, c.loop-i.invariant.1.behind, c.loop-i.invariant.2, c.requires.0, c.requires.1)
-
 pub loop-i-preserved : goal.loop-i-preserved
 loop-i-preserved c = let m = more (goal.at.loop-i-preserved c).In-loop-i in (
   c.put_bus_line-e.auto.buf ∙ c.loop-i.invariant.0,

@@ -24,10 +24,6 @@ pub loop-m-init : goal.loop-m-init
 unfolding module_lines written_lines
 loop-m-init c = (refl, put-none _ _, omega arith)
 
-pub put_module_line-e-requires : goal.put_module_line-e-requires
-put_module_line-e-requires c = let l = length-take c.args.p.module_count c.args.p.modules in
-    omega (arith, c.loop-m.invariant.1.behind, c.loop-m.invariant.2, c.requires.0, c.requires.1)
-
 pub loop-m-preserved : goal.loop-m-preserved
 loop-m-preserved c = let m = more (goal.at.loop-m-preserved c).In-loop-m in (
   c.put_module_line-e.auto.buf ∙ c.loop-m.invariant.0,

@@ -2,7 +2,6 @@
 -- line's length. Assumes nothing.
 use native.Mathlib.Omega.{arith}
 use Prim.Native.Nat.{◌+◌, ◌≤◌}
-use mathlib.Core.Path.{◌∙◌}
 use mathlib.Core.List.{[], ◌∷◌}
 use lib.ListN.{length}
 use Rattle.fields.specs.WrittenLines.{written_lines}
@@ -22,9 +21,6 @@ room c = omega (arith, short c, c.requires.1)
 pub put_counts-requires : goal.put_counts-requires
 put_counts-requires c = let f = soc-front c.args.p c.args.s c.requires.0 (room (goal.at.put_counts-requires c).Start) c.put_bytes-a.ensures c.put_bytes-b.ensures c.put_bytes-c.ensures in
     omega (arith, f.0, c.requires.1, c.put_bytes-c.auto.buf, c.put_bytes-b.auto.buf, c.put_bytes-a.auto.buf)
-
-pub shape_of-buf : goal.shape_of-buf
-shape_of-buf c = c.put_counts.auto.buf ∙ c.put_bytes-c.auto.buf ∙ c.put_bytes-b.auto.buf ∙ c.put_bytes-a.auto.buf
 
 pub returns : goal.returns
 returns c = let f = soc-front c.args.p c.args.s c.requires.0 (room (goal.at.returns c).Start) c.put_bytes-a.ensures c.put_bytes-b.ensures c.put_bytes-c.ensures in
