@@ -2,8 +2,8 @@
 use Prim.Native.Nat.{ℕ}
 use mathlib.Core.List.{List}
 use native.Mathlib.Omega.{arith}
-use Rattle.buffer.proofs.WriterAnswerLaws.{Fits, written-fits, unless_fits}
 use Rattle.units.specs.declared.Fault.TheVariants.{BadPlan}
+use Rattle.buffer.proofs.WriterAnswerLaws.{Fits, written-fits, unless_fits}
 use Rattle.plan_record.specs.Good.{good_plan}
 use Rattle.plan_record.specs.declared.record.BusPlan.{BusPlan}
 use Rattle.listing.specs.Listing.{listed, shown, listing_answer, show_answer}

@@ -8,19 +8,18 @@ use borrow.Author.Tests.{lt-leb, leb-true, leb-false, ltb-true, ltb-false}
 use lib.ListN.{length, take, length-drop}
 use lib.Seq.{take_all, take-take, length-take-le}
 use lib.Dec.{leb, ltb}
-use Rattle.units.specs.Refusals.{refused}
-use Rattle.units.proofs.Unique.{answer_and_bytes_unique}
-use Rattle.fields.specs.Lines.{until_lf, line_at}
-use Rattle.buffer.specs.Puts.{Put}
 use Rattle.std.specs.Prelude.{Result, Ok, Err}
+use Rattle.units.specs.Refusals.{refused}
 use Rattle.units.specs.declared.Fault.{Fault}
 use Rattle.units.specs.declared.Fault.TheVariants.{LongText, WrongForm}
 use Rattle.units.specs.declared.Refusal.{Refusal}
+use Rattle.units.proofs.Unique.{answer_and_bytes_unique}
+use Rattle.fields.specs.Lines.{until_lf, line_at}
+use Rattle.buffer.specs.Puts.{Put}
 use Rattle.soc.specs.Limits.{text_max}
 use Rattle.text_reader.specs.Reading.{read_soc}
 use Rattle.fields.specs.WrittenLines.{written_lines}
-use Rattle.listing.specs.Asked.{plan_line_max, text_behind, asked}
-use Rattle.listing.specs.declared.asked.Wanted.{Wanted}
+use Rattle.listing.specs.Asked.{plan_line_max, Wanted, text_behind, asked}
 use Rattle.listing.specs.Listing.{refusal_fields, text_printed, printed, listed, listing_max, listing_answer, listing_leaves}
 use Rattle.listing.proofs.AskedLaws.{first-line, asked-long, asked-short}
 use Rattle.listing.proofs.FrontLaws.{next-high, until_front, line-front}
@@ -31,9 +30,9 @@ put_as n e h p = rw e (p.0, omega arith)
 
 -- what is printed for an input, by its first line
 module _ (input : List ℕ) where
-  pub listed-no : (c : Fault) → asked input ≡ Err c → listed input ≡ written_lines (refusal_fields (refused c 0) ∷ [])
+  pub listed-no : (f : Fault) → asked input ≡ Err f → listed input ≡ written_lines (refusal_fields (refused f 0) ∷ [])
   unfolding listed printed
-  listed-no c e = rw e
+  listed-no f e = rw e
 
   pub listed-says : (k : Wanted) → asked input ≡ Ok k → listed input ≡ written_lines (text_printed k (read_soc (text_behind input)))
   unfolding listed printed
@@ -51,7 +50,7 @@ read-long t h = simp (lt-leb (length t) text_max h)
 -- what is printed depends on the text only by what is read of it
 printed-same : (w : Result Wanted Fault) (t u : List ℕ) → read_soc t ≡ read_soc u → printed w t ≡ printed w u
 unfolding printed
-printed-same (Err c) t u e = refl
+printed-same (Err f) t u e = refl
 printed-same (Ok k) t u e = ap (text_printed k) e
 
 -- the input's first n bytes, with a first line that is not too long in them and more text behind it than may be

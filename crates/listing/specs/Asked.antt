@@ -1,13 +1,14 @@
 -- The first line of the printing program's input (document 01, "The printing program"; document 02, item 5): "a line `Plan W B` (at most
 -- 32 bytes with its end), then a SOC text."
 use Rattle.std.specs.Prelude.{ℕ, cond, List, [], ◌∷◌, take, drop, leb, Result, Err}
+use Rattle.units.specs.declared.Fault.{Fault}
+use Rattle.units.specs.declared.Fault.TheVariants.{WrongForm}
 use Rattle.fields.specs.Fields.{fields_of}
 use Rattle.fields.specs.Lines.{line_at}
 use Rattle.fields.specs.Readers.{Reader, got, ◌>>=◌, ◌>>◌, give, word, between}
 use Rattle.text_lines.specs.Parts.{whole}
-use Rattle.units.specs.declared.Fault.{Fault}
-use Rattle.units.specs.declared.Fault.TheVariants.{WrongForm}
-use Rattle.listing.specs.declared.asked.Wanted.{Wanted}
+-- what the line asks for
+pub use Rattle.listing.specs.declared.asked.Wanted.{Wanted}
 
 -- "at most 32 bytes with its end"
 abbrev pub plan_line_max : ℕ

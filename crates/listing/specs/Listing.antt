@@ -17,8 +17,7 @@ use Rattle.plan_record.specs.declared.record.PlacedModule.{PlacedModule}
 use Rattle.plan_record.specs.declared.record.BusPlan.{BusPlan}
 use Rattle.plan_record.specs.Record.{buses_of, modules_of}
 use Rattle.plan_record.specs.Good.{good_plan}
-use Rattle.listing.specs.Asked.{asked, text_behind}
-use Rattle.listing.specs.declared.asked.Wanted.{Wanted}
+use Rattle.listing.specs.Asked.{Wanted, asked, text_behind}
 
 -- the fields of a line: "`refused N line L`"
 unfoldable pub refusal_fields : Refusal → List (List ℕ)

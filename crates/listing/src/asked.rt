@@ -3,8 +3,7 @@ ghost use Rattle.std.specs.Prelude.{◌≡◌, drop};
 ghost use Rattle.fields.specs.Fields.{fields_of};
 ghost use Rattle.fields.specs.Lines.{line_at};
 ghost use Rattle.text_lines.specs.Parts.{part_is, whole};
-ghost use Rattle.listing.specs.Asked.{capture_number, plan_numbers, plan_line, asked};
-ghost use Rattle.listing.specs.Rest.{capture_rest};
+ghost use Rattle.listing.specs.Asked.{capture_number, plan_line, asked};
 
 use fields::OneLine;
 use units::Fault;
@@ -32,35 +31,21 @@ fn capture_at(l: &[u8], at: usize) -> Result<(u32, usize), Fault>
     Ok((c as u32, e))
 }
 
-// c, to the line's end.
-fn capture_to_end(l: &[u8], at: usize, wires: u32, limit: u32) -> Result<Wanted, Fault>
-    ensures { result ≡ whole (capture_rest wires limit) (fields_of (drop at l.now)) }
-{
-    let (capture, e) = capture_at(l, at)?;
-    if !fields::is_blank(l, e) {
-        return Err(Fault::WrongForm);
-    }
-    Ok(Wanted {
-        wires,
-        limit,
-        capture,
-    })
-}
-
-// W and B from a place on, and c behind them.
-fn plan_numbers(l: &[u8], at: usize) -> Result<Wanted, Fault>
-    ensures { result ≡ whole plan_numbers (fields_of (drop at l.now)) }
-{
-    let (wires, e1) = fields::figure_at(l, at, 0, ASKED_MAX)?;
-    let (limit, e2) = fields::figure_at(l, e1, 0, ASKED_MAX)?;
-    capture_to_end(l, e2, wires as u32, limit as u32)
-}
-
 fn plan_line(l: &[u8]) -> Result<Wanted, Fault>
     ensures { result ≡ whole plan_line (fields_of l.now) }
 {
-    let e = fields::past_word(l, 0, b"Plan")?;
-    plan_numbers(l, e)
+    let e1 = fields::past_word(l, 0, b"Plan")?;
+    let (wires, e2) = fields::figure_at(l, e1, 0, ASKED_MAX)?;
+    let (limit, e3) = fields::figure_at(l, e2, 0, ASKED_MAX)?;
+    let (capture, e4) = capture_at(l, e3)?;
+    if !fields::is_blank(l, e4) {
+        return Err(Fault::WrongForm);
+    }
+    Ok(Wanted {
+        wires: wires as u32,
+        limit: limit as u32,
+        capture,
+    })
 }
 
 // What the input's first line asks for.

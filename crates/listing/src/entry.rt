@@ -15,24 +15,24 @@ use units::{CaptureCycles, Refusal, Wires};
 pub const LISTING_MAX: usize = 6144;
 
 // What is printed for a record.
-fn put_answer(buf: &mut [u8], s: Soc, w: Wanted) -> usize
+fn put_answer(buf: &mut [u8], s: Soc, k: Wanted) -> usize
     requires { listing_max ≤ length buf.old }
-    ensures { Printed (plan_printed s (plan_answer s w.wires w.limit w.capture)) buf.old buf.new result }
+    ensures { Printed (plan_printed s (plan_answer s k.wires k.limit k.capture)) buf.old buf.new result }
 {
-    match plan::plan(s, Wires(w.wires), w.limit, CaptureCycles(w.capture)) {
-        Ok(p) => put_plan(buf, 0, s, p),
-        Err(r) => put_refusal(buf, 0, r),
+    match plan::plan(s, Wires(k.wires), k.limit, CaptureCycles(k.capture)) {
+        Ok(p) => put_plan(&mut *buf, 0, s, p),
+        Err(r) => put_refusal(&mut *buf, 0, r),
     }
 }
 
 // What is printed for a SOC text, where the first line is good.
-fn put_text(buf: &mut [u8], text: &[u8], w: Wanted) -> usize
+fn put_text(buf: &mut [u8], text: &[u8], k: Wanted) -> usize
     requires { listing_max ≤ length buf.old }
-    ensures { Printed (text_printed w (read_soc text.now)) buf.old buf.new result }
+    ensures { Printed (text_printed k (read_soc text.now)) buf.old buf.new result }
 {
     match text_reader::read_soc(text) {
-        Ok(s) => put_answer(buf, s, w),
-        Err(r) => put_refusal(buf, 0, r),
+        Ok(s) => put_answer(&mut *buf, s, k),
+        Err(refusal) => put_refusal(&mut *buf, 0, refusal),
     }
 }
 
@@ -41,10 +41,9 @@ fn put_listed(buf: &mut [u8], input: &[u8]) -> usize
     ensures { Put (listed input.now) 0 buf.old buf.new result × (length (listed input.now) ≤ listing_max) }
 {
     let line = fields::line_at(input, 0);
-    let next = line.next;
     match asked_of(input, line) {
-        Ok(w) => put_text(buf, &input[next..], w),
-        Err(f) => put_refusal(buf, 0, Refusal::at(f, 0)),
+        Ok(k) => put_text(&mut *buf, &input[line.next..], k),
+        Err(fault) => put_refusal(&mut *buf, 0, Refusal::at(fault, 0)),
     }
 }
 
@@ -53,5 +52,5 @@ pub fn listing(input: &[u8], buf: &mut [u8]) -> Result<usize, Refusal>
 {
     let mut form = [0u8; LISTING_MAX];
     let n = put_listed(&mut form, input);
-    buffer::write(buf, &form[..n])
+    buffer::write(&mut *buf, &form[..n])
 }

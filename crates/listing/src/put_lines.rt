@@ -38,7 +38,7 @@ pub(crate) fn put_refusal(buf: &mut [u8], at: usize, r: Refusal) -> usize
     requires { at + refusal_room ≤ length buf.old }
     ensures { Put (written_lines (refusal_fields r ∷ [])) at buf.old buf.new result × (length (written_lines (refusal_fields r ∷ [])) ≤ refusal_room) }
 {
-    let figures = [u8::from(r.fault) as u64, r.line as u64];
+    let figures = [u64::from(u8::from(r.fault)), r.line as u64];
     put_form(&mut *buf, at, b"refused # line #\n", &figures)
 }
 
@@ -56,10 +56,8 @@ fn put_soc_line(buf: &mut [u8], at: usize, s: Soc, p: BusPlan) -> usize
     requires { (s.name_len ≤ name_max) × (at + name_room + count_room ≤ length buf.old) }
     ensures { Put (written_lines (soc_fields s p ∷ [])) at buf.old buf.new result × (length (written_lines (soc_fields s p ∷ [])) ≤ name_room + count_room) }
 {
-    let n = s.name_len;
-    let name = s.name;
     let a = buffer::put_bytes(&mut *buf, at, b"soc ");
-    let b = buffer::put_bytes(&mut *buf, a, &name[..n]);
+    let b = buffer::put_bytes(&mut *buf, a, &s.name[..s.name_len]);
     let c = buffer::put_bytes(&mut *buf, b, b" ");
     put_counts(&mut *buf, c, p)
 }
@@ -98,9 +96,8 @@ fn put_buses(buf: &mut [u8], at: usize, p: BusPlan) -> usize
     ensures { Put (written_lines (bus_lines 1 (buses_of p))) at buf.old buf.new result × (length (written_lines (bus_lines 1 (buses_of p))) ≤ bus_places * bus_room) }
 {
     let mut e = at;
-    for i in 0..p.bus_count {
-        let b = p.buses[i];
-        e = put_bus_line(&mut *buf, e, i as u64 + 1, b);
+    for (i, b) in p.buses[..p.bus_count].iter().enumerate() {
+        e = put_bus_line(&mut *buf, e, i as u64 + 1, *b);
     }
     e
 }
@@ -110,9 +107,8 @@ fn put_modules(buf: &mut [u8], at: usize, p: BusPlan) -> usize
     ensures { Put (written_lines (module_lines (modules_of p))) at buf.old buf.new result × (length (written_lines (module_lines (modules_of p))) ≤ module_places * module_room) }
 {
     let mut e = at;
-    for i in 0..p.module_count {
-        let m = p.modules[i];
-        e = put_module_line(&mut *buf, e, m);
+    for m in &p.modules[..p.module_count] {
+        e = put_module_line(&mut *buf, e, *m);
     }
     e
 }

@@ -1,13 +1,12 @@
--- `listing::asked::capture_at` meets its contract. The definition reads the third number as the code does, where a field is left. A number that was
--- read fits 32 bits. Assumes nothing.
+-- `listing::asked::capture_at` meets its contract. The definition reads the third number as the code does, where a field is left. A number
+-- that was read fits 32 bits. Assumes nothing.
 use native.Mathlib.Omega.{arith}
-use mathlib.Core.Path.{◌≡◌, sym, ap, ◌∙◌}
+use mathlib.Core.Path.{◌≡◌, sym, ◌∙◌}
 use mathlib.Core.Bool.{false}
 use lib.ListN.{drop}
 use Rattle.fields.specs.Fields.{fields_of, blank}
 use Rattle.fields.proofs.PlaceAnswerLaws.{number_is}
 use Rattle.fields.proofs.ReaderLaws.{between-within}
-use Rattle.text_lines.specs.Parts.{part_is}
 use Rattle.text_lines.proofs.PartLaws.{exit}
 use Rattle.listing.proofs.AskedLaws.{capture-none, capture-some}
 use Rattle.listing.proofs.asked.capture_at.Goals as goal
@@ -20,11 +19,12 @@ left c = sym c.is_blank.ensures ∙ c.if-is_blank.false
 pub returns-then-is_blank : goal.returns-then-is_blank
 returns-then-is_blank c = sym (capture-none _ (sym c.is_blank.ensures ∙ c.if-is_blank.true))
 
-pub overflow_cast-result : goal.overflow_cast-result
-overflow_cast-result c = record { fits = omega (arith, between-within _ _ _ _ _ (sym (number_is _ _ _ _ c.in_ok-c.ensures))) }
-
 pub returns-in_err-c : goal.returns-in_err-c
-returns-in_err-c c = rw (exit _ c.from_residual.ensures.1) (number_is _ _ _ _ c.in_err-c.ensures ∙ sym (capture-some _ (left (goal.at.returns-in_err-c c).Else-is_blank)))
+returns-in_err-c s = let e = number_is _ _ _ _ s.in_err-c.ensures ∙ sym (capture-some _ (left (goal.at.returns-in_err-c s).Else-is_blank)) in
+    rw (exit _ s.from_residual.ensures.1) e
+
+pub overflow_cast-result : goal.overflow_cast-result
+overflow_cast-result s = let w = between-within _ _ _ _ _ (sym (number_is _ _ _ _ s.in_ok-c.ensures)) in omega arith
 
 pub returns : goal.returns
-returns c = number_is _ _ _ _ c.in_ok-c.ensures ∙ sym (capture-some _ (left (goal.at.returns c).Else-is_blank))
+returns s = number_is _ _ _ _ s.in_ok-c.ensures ∙ sym (capture-some _ (left (goal.at.returns s).Else-is_blank))

@@ -2,25 +2,14 @@
 -- nothing.
 use native.Mathlib.Omega.{arith}
 use Prim.Native.Nat.{ℕ, ◌≤◌}
-use mathlib.Core.Path.{sym}
 use lib.ListN.{length, replicate, length-replicate}
-use lib.Seq.{length-take-le}
-use Rattle.buffer.proofs.PutLaws.{front-within, front-text}
+use Rattle.buffer.proofs.PutLaws.{front-text}
 use Rattle.listing.specs.Listing.{listing_max, listing_answer, listing_leaves}
 use Rattle.listing.proofs.entry.listing.Goals as goal
 
 -- the form's buffer is long enough
 long : (z : ℕ) → listing_max ≤ length (replicate listing_max z)
 long z = rw length-replicate (omega arith)
-
-pub put_listed-n-requires : goal.put_listed-n-requires
-put_listed-n-requires c = long 0
-
-pub slice_bounds-form-end : goal.slice_bounds-form-end
-slice_bounds-form-end c = front-within c.put_listed-n.ensures.0
-
-pub slice_bounds-write-end : goal.slice_bounds-write-end
-slice_bounds-write-end c = sym (length-take-le _ _ (front-within c.put_listed-n.ensures.0))
 
 pub returns : goal.returns
 unfolding listing_answer listing_leaves

@@ -8,10 +8,9 @@ use Rattle.units.specs.Refusals.{refused}
 use Rattle.units.specs.declared.Refusal.{Refusal}
 use Rattle.fields.specs.declared.line.OneLine.{OneLine}
 use Rattle.buffer.proofs.PutLaws.{part_from, part-rest}
-use Rattle.std.specs.Prelude.{Ok, Err}
 use Rattle.text_reader.specs.Reading.{read_soc}
 use Rattle.fields.specs.WrittenLines.{written_lines}
-use Rattle.listing.specs.Asked.{asked, text_behind}
+use Rattle.listing.specs.Asked.{text_behind}
 use Rattle.listing.specs.Listing.{refusal_fields, text_printed, listing_max}
 use Rattle.listing.specs.Room.{refusal_room}
 use Rattle.listing.proofs.AskedLaws.{first-line}
@@ -28,28 +27,17 @@ behind : (c : After-line_at-line) → let t = c.args.input.now in part_from c.li
 behind c = let t = c.args.input.now in
     part-rest c.line_at-line.result.next t ∙ ap (λ (o : OneLine). drop o.next t) c.line_at-line.ensures
 
-pub put_refusal-requires : goal.put_refusal-requires
-put_refusal-requires c = omega (arith, c.requires)
-
 pub slice_bounds-put_text-count : goal.slice_bounds-put_text-count
 slice_bounds-put_text-count c = omega (arith, inside (goal.at.slice_bounds-put_text-count c).After-line_at-line)
 
 pub slice_bounds-put_text-start : goal.slice_bounds-put_text-start
 slice_bounds-put_text-start c = omega (arith, inside (goal.at.slice_bounds-put_text-start c).After-line_at-line)
 
-pub slice_bounds-put_text-end : goal.slice_bounds-put_text-end
-slice_bounds-put_text-end c = omega (arith, inside (goal.at.slice_bounds-put_text-end c).After-line_at-line)
-
-pub put_text-requires : goal.put_text-requires
-put_text-requires c = c.requires
-
-pub returns-in-Err : goal.returns-in-Err
-returns-in-Err c = let t = c.args.input.now in
-    let e : asked t ≡ Err c.in-Err.f = sym c.asked_of.ensures ∙ c.in-Err.is in
-    let l : c.at.result ≡ refused c.in-Err.f 0 = c.at.ensures in
-    put_as refusal_room (listed-no t _ e ∙ ap (λ (r : Refusal). written_lines (refusal_fields r ∷ [])) (sym l)) (omega arith) c.put_refusal.ensures
-
 pub returns-in-Ok : goal.returns-in-Ok
 returns-in-Ok c = let t = c.args.input.now in
-    let e : asked t ≡ Ok c.in-Ok.w = sym c.asked_of.ensures ∙ c.in-Ok.is in
-    put_as listing_max (listed-says t _ e ∙ ap (λ (x : List ℕ). written_lines (text_printed c.in-Ok.w (read_soc x))) (sym (behind (goal.at.returns-in-Ok c).After-line_at-line))) (omega arith) c.put_text.ensures
+    let k = c.in-Ok.k in
+    put_as listing_max (listed-says t k (sym c.in-Ok.ensures) ∙ ap (λ (x : List ℕ). written_lines (text_printed k (read_soc x))) (sym (behind (goal.at.returns-in-Ok c).After-line_at-line))) (omega arith) c.put_text.ensures
+
+pub returns-in-Err : goal.returns-in-Err
+returns-in-Err c = let l : c.at.result ≡ refused c.in-Err.fault 0 = c.at.ensures in
+    put_as refusal_room (listed-no c.args.input.now c.in-Err.fault (sym c.in-Err.ensures) ∙ ap (λ (r : Refusal). written_lines (refusal_fields r ∷ [])) (sym l)) (omega arith) c.put_refusal.ensures

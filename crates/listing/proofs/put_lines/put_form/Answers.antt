@@ -1,5 +1,4 @@
 -- `listing::put_lines::put_form` meets its contract: what its invariant (Invariants.antt) leaves to show. Assumes nothing.
-use native.Mathlib.Omega.{arith}
 use Prim.Native.Nat.{◌<◌}
 use lib.ListN.{length}
 use Rattle.listing.proofs.FormLaws.{formed-start, formed-end, figure_there, formed-figure, byte-room, formed-next}
@@ -17,27 +16,15 @@ room c = byte-room c.loop-b.invariant c.loop-b-test.true c.if-b-eq35.false
 pub loop-b-init : goal.loop-b-init
 loop-b-init c = formed-start c.requires.0 c.requires.1
 
-pub offset_bounds-figures-k : goal.offset_bounds-figures-k
-offset_bounds-figures-k c = omega (arith, figure (goal.at.offset_bounds-figures-k c).Then-b-eq35)
-
 pub bounds-figures-k : goal.bounds-figures-k
 bounds-figures-k c = figure (goal.at.bounds-figures-k c).Then-b-eq35
-
-pub overflow_add-k : goal.overflow_add-k
-overflow_add-k c = omega (arith, figure (goal.at.overflow_add-k c).Then-b-eq35)
 
 pub bounds-buf-e : goal.bounds-buf-e
 bounds-buf-e c = room c
 
-pub overflow_add-e : goal.overflow_add-e
-overflow_add-e c = omega (arith, room c)
-
 pub loop-b-preserved : goal.loop-b-preserved
 loop-b-preserved c = let h = c.loop-b-test.true in
     (elim c.if-b-eq35.branch [ then-b-eq35 w ↦ rw (w.buf-is, w.e-is, w.k-is) (formed-figure c.loop-b.invariant h w.if-b-eq35.true w.put_number-e.ensures) | else-b-eq35 w ↦ rw (w.buf-is, w.e-is, w.k-is) (formed-next c.loop-b.invariant h w.if-b-eq35.false) ])
-
-pub shape_of-buf : goal.shape_of-buf
-shape_of-buf c = c.loop-b.invariant.long
 
 pub returns : goal.returns
 returns c = formed-end c.loop-b.invariant c.loop-b-test.false

@@ -5,9 +5,6 @@ use Rattle.buffer.proofs.PutLaws.{put_then}
 use Rattle.listing.proofs.LineLaws.{lines-text}
 use Rattle.listing.proofs.put_lines.put_plan.Goals as goal
 
-pub put_rest-requires : goal.put_rest-requires
-put_rest-requires c = (c.requires.1, c.requires.2, omega (arith, c.put_soc_line-a.ensures.0.behind, c.put_soc_line-a.ensures.1, c.put_soc_line-a.auto.buf, c.requires.3))
-
 pub returns : goal.returns
 returns c = (
   rw lines-text (put_then (omega (arith, c.requires.3)) c.put_soc_line-a.ensures.0 c.put_rest.ensures.0),

@@ -4,8 +4,5 @@ use lib.ListN.{length-append}
 use Rattle.buffer.proofs.PutLaws.{put_then}
 use Rattle.listing.proofs.put_lines.put_rest.Goals as goal
 
-pub put_modules-requires : goal.put_modules-requires
-put_modules-requires c = (c.requires.1, omega (arith, c.put_buses-a.ensures.0.behind, c.put_buses-a.ensures.1, c.put_buses-a.auto.buf, c.requires.2))
-
 pub returns : goal.returns
 returns c = (put_then (omega (arith, c.requires.2)) c.put_buses-a.ensures.0 c.put_modules.ensures.0, rw length-append (omega (arith, c.put_buses-a.ensures.1, c.put_modules.ensures.1)))

@@ -2,19 +2,14 @@
 -- line's length. Assumes nothing.
 use native.Mathlib.Omega.{arith}
 use Prim.Native.Nat.{◌+◌, ◌≤◌}
-use mathlib.Core.Path.{◌≡◌, ◌∙◌}
 use mathlib.Core.List.{[], ◌∷◌}
 use lib.ListN.{length}
-use Rattle.fields.specs.Names.{name_max}
 use Rattle.fields.specs.WrittenLines.{written_lines}
 use Rattle.listing.specs.Listing.{soc_fields}
 use Rattle.listing.specs.Room.{name_room, count_room}
 use Rattle.listing.proofs.LineLaws.{soc_size, soc-front}
 use Rattle.listing.proofs.put_lines.put_soc_line.Goals as goal
 use Rattle.listing.proofs.put_lines.put_soc_line.Goals.{Start}
-
-len : (c : Start) → length c.args.s.name ≡ name_max
-len c = c.well_formed.1.1.0.1.1.1.0.1.0.1
 
 -- how long the line is, and that there is room for it
 short : (s : Start) → length (written_lines (soc_fields s.args.s s.args.p ∷ [])) ≤ name_room + count_room
@@ -23,18 +18,9 @@ short c = let g = c.well_formed.1.1.1.0.1.1 in soc_size c.args.p c.args.s c.requ
 room : (s : Start) → s.args.at + length (written_lines (soc_fields s.args.s s.args.p ∷ [])) ≤ length s.args.buf.now
 room c = omega (arith, short c, c.requires.1)
 
-pub slice_bounds-name-end : goal.slice_bounds-name-end
-slice_bounds-name-end c = omega (arith, len (goal.at.slice_bounds-name-end c).Start, c.requires.0)
-
--- UNMATCHED slice-aggregate-put-bytes-2 : slice-aggregate-put-bytes-2
--- sym (length-take-le _ _ (omega (arith, len c, c.requires.0)))
-
 pub put_counts-requires : goal.put_counts-requires
 put_counts-requires c = let f = soc-front c.args.p c.args.s c.requires.0 (room (goal.at.put_counts-requires c).Start) c.put_bytes-a.ensures c.put_bytes-b.ensures c.put_bytes-c.ensures in
     omega (arith, f.0, c.requires.1, c.put_bytes-c.auto.buf, c.put_bytes-b.auto.buf, c.put_bytes-a.auto.buf)
-
-pub shape_of-buf : goal.shape_of-buf
-shape_of-buf c = c.put_counts.auto.buf ∙ c.put_bytes-c.auto.buf ∙ c.put_bytes-b.auto.buf ∙ c.put_bytes-a.auto.buf
 
 pub returns : goal.returns
 returns c = let f = soc-front c.args.p c.args.s c.requires.0 (room (goal.at.returns c).Start) c.put_bytes-a.ensures c.put_bytes-b.ensures c.put_bytes-c.ensures in
