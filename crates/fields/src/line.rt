@@ -54,6 +54,7 @@ pub fn next_line(text: &[u8], from: usize) -> Option<NextLine>
 {
     let mut at = from;
     let mut passed: usize = 0;
+    // from line to line, and so no count of an index: what a line's end is, `line_at` says, and no iterator of bytes
     while at < text.len() {
         let line = line_at(text, at);
         let to = line.to;

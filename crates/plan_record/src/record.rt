@@ -9,13 +9,13 @@ pub const BUS_PLACES: usize = 8;
 
 pub const MODULE_PLACES: usize = 39;
 
-#[derive(Clone, Copy)]
+#[derive(Clone, Copy, PartialEq, Eq)]
 pub struct Bus {
     pub width: Wires,
     pub busy: Cycles,
 }
 
-#[derive(Clone, Copy)]
+#[derive(Clone, Copy, PartialEq, Eq)]
 pub struct PlacedModule {
     pub number: usize,
     pub bus: usize,
@@ -25,7 +25,7 @@ pub struct PlacedModule {
 }
 
 // W, B, the buses, the planned modules ascending, and the time. Spare places are 0.
-#[derive(Clone, Copy)]
+#[derive(Clone, Copy, PartialEq, Eq)]
 pub struct BusPlan {
     pub wires: Wires,
     pub limit: u32,

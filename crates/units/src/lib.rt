@@ -6,17 +6,17 @@
 ghost use Rattle.std.specs.Prelude.{◌≡◌};
 ghost use Rattle.units.specs.Refusals.{number_of, refused};
 
-#[derive(Clone, Copy)]
+#[derive(Clone, Copy, PartialEq, Eq)]
 pub struct Wires(pub u32);
 
 #[derive(Clone, Copy, PartialEq, Eq)]
 pub struct FlipFlops(pub u32);
 
-#[derive(Clone, Copy)]
+#[derive(Clone, Copy, PartialEq, Eq)]
 pub struct Cycles(pub u64);
 
 // The clock cycles between load and unload.
-#[derive(Clone, Copy)]
+#[derive(Clone, Copy, PartialEq, Eq)]
 pub struct CaptureCycles(pub u32);
 
 // Why a call is refused, in the order of the documents' table of refusal numbers.
