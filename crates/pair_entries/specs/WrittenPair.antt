@@ -1,24 +1,19 @@
--- Writing a pair (document 02, item 3): "Plan, layout and writing work on the pair." What the entry itself refuses is about neither text.
-use Rattle.std.specs.Prelude.{ℕ, List}
-use Rattle.units.specs.declared.Refusal.{Refusal}
-use Rattle.soc.specs.declared.record.Soc.{Soc}
+-- Writing a pair (document 02, item 3): "Plan, layout and writing work on the pair."
+use Rattle.std.specs.Prelude.{ℕ, List, Result, Ok, Err}
 use Rattle.text_writer.specs.WrittenSoc.{write_answer, write_leaves}
 use Rattle.pair.specs.Pair.{read_pair}
-use Rattle.pair.specs.declared.read.Meant.{Meant}
-use Rattle.pair.specs.declared.read.Meant.TheVariants as meant
+use Rattle.pair.specs.declared.read.PairRead.{PairRead}
+use Rattle.pair.specs.declared.read.PairRefusal.{PairRefusal}
 use Rattle.pair_entries.specs.OfPair.{of_pair}
-use Rattle.pair_entries.specs.declared.written.PairWritten.{PairWritten}
 
-abbrev pub refused_write : Refusal → Meant → PairWritten
-refused_write r m = record { meant = m; answer = record { refusal = r; len = 0 } }
-
--- the combined description written
-abbrev pub write_of : List ℕ → Soc → PairWritten
-write_of buf s = record { meant = meant.Neither; answer = write_answer s buf }
-
-unfoldable pub write_pair : List ℕ → List ℕ → List ℕ → PairWritten
-write_pair base overlay buf = of_pair (read_pair base overlay) refused_write (write_of buf)
+-- the combined description written: how many bytes were written
+unfoldable pub write_pair : List ℕ → List ℕ → List ℕ → Result ℕ PairRefusal
+write_pair base overlay buf = of_pair (read_pair base overlay) λ s. write_answer s buf
 
 -- what the lent buffer then holds: of a refused pair "lent buffers keep every byte"
+unfoldable pub leaves_of : Result PairRead PairRefusal → List ℕ → List ℕ
+leaves_of (Ok p) buf = write_leaves p.soc buf
+leaves_of (Err r) buf = buf
+
 unfoldable pub write_pair_leaves : List ℕ → List ℕ → List ℕ → List ℕ
-write_pair_leaves base overlay buf = of_pair (read_pair base overlay) (λ r m. buf) (λ s. write_leaves s buf)
+write_pair_leaves base overlay buf = leaves_of (read_pair base overlay) buf

@@ -3,10 +3,11 @@
 
 mod laid;
 mod planned;
+mod refused;
 mod timed;
 mod written;
 
-pub use laid::{PairLayout, layout_pair};
-pub use planned::{PairPlan, plan_pair};
-pub use timed::{PairModuleTime, module_time_pair};
-pub use written::{PairWritten, write_pair};
+pub use laid::layout_pair;
+pub use planned::plan_pair;
+pub use timed::module_time_pair;
+pub use written::write_pair;

@@ -1,21 +1,13 @@
 -- `pair_entries::laid::layout_pair` meets its contract: the pair is read first, then the layout is asked for. Assumes nothing.
-use mathlib.Core.Path.{sym, ap, ◌∙◌}
-use Rattle.pair_entries.specs.OfPair.{of_pair}
-use Rattle.pair_entries.specs.LaidPair.{refused_layout, layout_of, layout_pair}
-use Rattle.pair_entries.proofs.EntryLaws.{of_refused, of_accepted}
+use Rattle.wrapper_layout.specs.LayoutAnswers.{layout_answer}
+use Rattle.pair_entries.specs.LaidPair.{layout_pair}
+use Rattle.pair_entries.proofs.EntryLaws.{leaves, says}
 use Rattle.pair_entries.proofs.laid.layout_pair.Goals as goal
 
-pub returns-then-pair-ne0 : goal.returns-then-pair-ne0
+pub returns-in_err-pair : goal.returns-in_err-pair
 unfolding layout_pair
-returns-then-pair-ne0 c = let p = c.read_pair-pair in
-    let answers = layout_of c.args.«module» c.args.test c.args.width.0 c.args.capture.0 in
-    c.refused_layout.ensures ∙ sym (of_refused p.result refused_layout answers c.if-pair-ne0.true)
-    ∙ ap (λ r. of_pair r refused_layout answers) p.ensures
+returns-in_err-pair c = leaves (λ s. layout_answer s c.args.«module» c.args.test c.args.width.0 c.args.capture.0) _ c.in_err-pair.ensures c.from_residual.ensures.1
 
 pub returns : goal.returns
 unfolding layout_pair
-returns c = let p = c.read_pair-pair in
-    let answers = layout_of c.args.«module» c.args.test c.args.width.0 c.args.capture.0 in
-    rw c.layout.ensures
-    (sym (of_accepted p.result refused_layout answers c.if-pair-ne0.false)
-    ∙ ap (λ r. of_pair r refused_layout answers) p.ensures)
+returns c = says (λ s. layout_answer s c.args.«module» c.args.test c.args.width.0 c.args.capture.0) _ _ c.in_ok-pair.ensures c.layout.ensures c.map_err.ensures.cases
