@@ -13,10 +13,8 @@ fn main(rt: HostRuntime) -> io::Result<()> {
     let mut input = [0u8; INPUT_MAX];
     let n = full_input::read_full(&mut rt.reader(), &mut input)?;
     let mut out = [0u8; LISTING_MAX];
-    let listed = listing::listing(&input[..n], &mut out);
-    let len = listed.len;
-    if len <= LISTING_MAX {
-        io::writer(&rt).write_all(&out[..len])?;
+    match listing::listing(&input[..n], &mut out) {
+        Ok(len) if len <= LISTING_MAX => io::writer(&rt).write_all(&out[..len]),
+        _ => Ok(()),
     }
-    Ok(())
 }
