@@ -66,6 +66,7 @@ fn field_end(text: &[u8], to: usize) -> usize
 }
 
 // The part between two marks, from the first field to the last.
+#[tactic(auto, unfolding(crate::specs::Trimmed::trimmed))]
 pub fn trimmed_part(text: &[u8], marks: Marks) -> Part
     ensures { result ≡ trimmed text.now marks.from marks.to }
 {

@@ -1,8 +1,8 @@
 -- Laws of the lines of a block and of its marks: each of its lines begins with the number of its module, and the marks are found as the
 -- blocks are read one by one. Assumes nothing.
 use Prim.Native.Nat.{ℕ, zero, suc, ◌-◌}
-use mathlib.Core.Path.{◌≡◌, refl, sym, ap, ◌∙◌}
-use mathlib.Core.Bool.{Bool, true, false, cond, ◌&&◌, true≢false}
+use mathlib.Core.Path.{◌≡◌, refl, ap, ◌∙◌}
+use mathlib.Core.Bool.{Bool, true, false, cond, ◌&&◌}
 use mathlib.Core.List.{List, [], ◌∷◌}
 use mathlib.Core.Option.{Option, some, none}
 use borrow.Author.Tests.{eq-eqb}
@@ -27,7 +27,7 @@ use Rattle.text_lines.specs.declared.level.Shape.{Shape}
 use Rattle.text_lines.proofs.BoundLaws.{closed-got}
 use Rattle.text_reader.specs.Lines.{LinesRead, line}
 use Rattle.text_reader.specs.Reading.{module_rest}
-use Rattle.text_reader.specs.Marks.{Other, LinesOf, Marked}
+use Rattle.text_reader.specs.Marks.{Other, LinesOf}
 use Rattle.text_reader.proofs.CountLaws.{after_gives}
 use Rattle.text_reader.proofs.LinesOfLaws.{line_first, rest-passes, word_other}
 use Rattle.text_reader.proofs.MarkLaws.{marked_line}

@@ -18,6 +18,7 @@ pub struct BlockLine {
 }
 
 // `Overlay` name.
+#[tactic(auto, unfolding(text_lines::specs::Kinds::overlay_line))]
 pub(crate) fn overlay_line(l: &[u8]) -> Result<Name, Fault>
     ensures { result ≡ whole overlay_line (fields_of l.now) }
 {

@@ -1,6 +1,6 @@
 -- The pair of a SOC text, the base, and an overlay (document 02, item 3): the combined description, or the first refusal and the text
 -- that is meant.
-use Rattle.std.specs.Prelude.{ℕ, suc, Bool, true, false, cond, not, ◌&&◌, List, [], ◌∷◌, ltb, eqb, Result, Ok, Err}
+use Rattle.std.specs.Prelude.{ℕ, suc, Bool, true, cond, not, ◌&&◌, List, [], ◌∷◌, ltb, eqb, Result, Ok, Err}
 use Rattle.units.specs.Refusals.{refused}
 use Rattle.units.specs.declared.Fault.TheVariants.{OtherBase}
 use Rattle.units.specs.declared.Refusal.{Refusal}

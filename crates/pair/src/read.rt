@@ -43,9 +43,10 @@ pub struct PairMarked {
 fn has_same_head(s: Soc, o: Overlay) -> bool
     ensures { result ≡ same_head s o }
 {
-    let a = s.name;
-    let b = o.name;
-    s.name_len == o.name_len && fields::same_bytes(&a, &b) && s.power == o.power && s.xy == o.xy
+    s.name_len == o.name_len
+        && fields::same_bytes(&s.name, &o.name)
+        && s.power == o.power
+        && s.xy == o.xy
 }
 
 // Whether module m, where the overlay has it, is in a base of n modules, and has its level there.

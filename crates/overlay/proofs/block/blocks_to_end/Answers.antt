@@ -3,7 +3,6 @@ use native.Mathlib.Omega.{arith}
 use Prim.Native.Nat.{◌+◌, ◌-◌, ◌≤◌}
 use mathlib.Core.Path.{◌≡◌, refl, sym, ◌∙◌}
 use mathlib.Core.Bool.{true, false}
-use mathlib.Core.List.{[]}
 use lib.ListN.{length-set, get_or, set}
 use lib.Seq.{get_or-set_other}
 use Rattle.std.proofs.lemmas.Result.{err_from_is_err_and}
@@ -72,10 +71,10 @@ returns-then-is_none c = let l = c.loop in
     let b = bound k in (
       sym (behind k ∙ blocks_end _ (blocks c.args.o (41 - (l.counter + 1)) (c.in_ok-block.block.number + 1)) _ z),
       λ h.
-      rw z at
-      (Marking.marks
-      (marking_next c.args.m l.low c.in_ok-block.block.number (get_or (set l.has c.in_ok-block.block.number true) c.args.m false) _ _ _ _ _ _ _
-      l.invariant.6 b.0 (block-lines _ _ _ _ _ (step_got c.in_ok-block.ensures))
-      (λ n. get_or-set_other l.has _ c.args.m true false (λ q. n (sym q))) c.marked-marks.ensures)
-      h),
+          rw z at
+          (Marking.marks
+          (marking_next c.args.m l.low c.in_ok-block.block.number (get_or (set l.has c.in_ok-block.block.number true) c.args.m false) _ _ _ _ _ _ _
+          l.invariant.6 b.0 (block-lines _ _ _ _ _ (step_got c.in_ok-block.ensures))
+          (λ n. get_or-set_other l.has _ c.args.m true false (λ q. n (sym q))) c.marked-marks.ensures)
+          h),
     )

@@ -24,12 +24,11 @@ loop-m-preserved c = let l = c.loop-m in
     let h : l.m < length a.has = omega (arith, len-has s) in
     let o : l.m < length a.over = omega (arith, len-over s) in
     let b : l.m < length a.base = omega (arith, len-base s) in
-    let k : l.m < length l.list = omega (arith, l.invariant.0) in
-    (
+    let k : l.m < length l.list = omega (arith, l.invariant.0) in (
       simp length-set l.invariant.0,
       l.invariant.1 ∙ elim c.if-has-m.branch [
-        then-has-m w ↦ laid-over l.m a.has a.over a.base l.list c.if-has-m.list h o b k _ w.if-has-m.true w.list-is |
-        else-has-m w ↦ laid_base l.m a.has a.over a.base l.list c.if-has-m.list h o b k _ w.if-has-m.false w.list-is
+        | then-has-m w ↦ laid-over l.m a.has a.over a.base l.list c.if-has-m.list h o b k _ w.if-has-m.true w.list-is
+        | else-has-m w ↦ laid_base l.m a.has a.over a.base l.list c.if-has-m.list h o b k _ w.if-has-m.false w.list-is
       ],
     )
 

@@ -5,4 +5,4 @@ use Rattle.pair.specs.Pair.{places_fit}
 use Rattle.pair.proofs.read.places_fit.Given as goal
 
 abbrev pub invariant-loop-m : goal.invariant-loop-m
-invariant-loop-m l = places_fit l.n 0 l.has l.over l.base ≡ places_fit l.n l.m (drop l.m l.has) (drop l.m l.over) (drop l.m l.base)
+invariant-loop-m l = let a = l.fn in places_fit a.n 0 a.has a.over a.base ≡ places_fit a.n l.m (drop l.m a.has) (drop l.m a.over) (drop l.m a.base)

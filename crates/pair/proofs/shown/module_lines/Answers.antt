@@ -12,9 +12,9 @@ use Rattle.pair.proofs.shown.module_lines.Goals.{Joined-shown, then-shown, else-
 -- the text that the part is of
 text : (c : Joined-shown) → c.if-shown.text.now ≡ cond c.in-Ok.shown.over c.args.overlay.now c.args.base.now
 text c = elim c.if-shown.branch [
-      then-shown w ↦ rw w.if-shown.true (ap (λ t. t.now) w.text-is) |
-      else-shown w ↦ rw w.if-shown.false (ap (λ t. t.now) w.text-is)
-    ]
+  | then-shown w ↦ rw w.if-shown.true (ap (λ t. t.now) w.text-is)
+  | else-shown w ↦ rw w.if-shown.false (ap (λ t. t.now) w.text-is)
+]
 
 there : (c : Joined-shown) → Before (length c.if-shown.text.now) c.in-Ok.shown.part
 there c = text_lies c.args.base.now c.args.overlay.now c.in-Ok.shown c.if-shown.text.now (text c) (lines_lie c.args.base.now c.args.overlay.now c.args.m _ c.in-Ok.ensures)
