@@ -1,145 +1,122 @@
 -- Laws of the answers of a pair taken apart: each says the entry's own refusal, its line and the text that is meant, or its figure, and
 -- none of them is cut. Lent buffers have fewer than 2^56 bytes. Assumes nothing.
 use Prim.Native.Nat.{ℕ, ◌+◌, ◌*◌, ◌/◌, ◌%◌, ◌<◌, ◌≤◌}
-use mathlib.Core.Path.{◌≡◌, refl, sym, ◌∙◌}
+use mathlib.Core.Path.{◌≡◌, refl, ◌∙◌}
 use mathlib.Core.Bool.{Bool, true, false, cond}
 use mathlib.Core.List.{List}
 use native.Mathlib.Omega.{arith}
-use borrow.Author.Tests.{eqb-true, eqb-false, leb-true}
-use lib.Dec.{leb, eqb}
+use borrow.Author.Tests.{leb-true}
+use lib.Dec.{leb}
 use lib.ListN.{length}
-use Rattle.units.specs.Refusals.{accepted, refused}
-use Rattle.units.specs.declared.Refusal.{Refusal}
+use Rattle.std.specs.Prelude.{Result, Ok, Err, ⊤}
+use Rattle.units.specs.Refusals.{number_of, refused}
+use Rattle.units.specs.declared.Fault.TheVariants.{ShortBuffer}
+use Rattle.units.proofs.FaultLaws.{number_bounds}
 use Rattle.soc.specs.Limits.{text_max}
+use Rattle.wrapper_fit.specs.Maxima.{module_time_max, test_time_max, width_max}
+use Rattle.wrapper_times.specs.declared.asked.ModuleTime.{ModuleTime}
 use Rattle.pair.specs.Pair.{read_pair}
-use Rattle.pair.specs.declared.read.Meant.{Meant}
 use Rattle.pair.specs.declared.read.Meant.TheVariants as meant
-use Rattle.late_changes.proofs.PairRefused.{pair_told}
+use Rattle.pair.specs.declared.read.PairRead.{PairRead}
+use Rattle.pair.specs.declared.read.PairRefusal.{PairRefusal}
 use Rattle.pair_entries.specs.LaidPair.{layout_pair}
 use Rattle.pair_entries.specs.PlannedPair.{plan_pair}
 use Rattle.pair_entries.specs.TimedPair.{module_time_pair}
 use Rattle.pair_entries.specs.WrittenPair.{write_pair}
-use Rattle.pair_entries.proofs.PairEntries.{told_number, write_pair_told, layout_pair_told, module_time_pair_told}
-use Rattle.pair_entries.proofs.PairEntries.{plan-pair_told}
+use Rattle.pair_entries.proofs.EntryLaws.{Told}
+use Rattle.pair_entries.proofs.PairEntries.{told_number, write_pair_told, layout_pair_told, module_time_pair_told, plan-pair_told}
 use Rattle.c_forms.specs.SocForm.{soc_bytes}
 use Rattle.c_forms.specs.PlanForm.{plan_bytes}
 use Rattle.c_forms.specs.LayoutForm.{layout_bytes}
-use Rattle.c_interface.specs.Codes.{above_max, above, given, meant_number, line_max, pair_refused, pair_figure, pair_given}
+use Rattle.c_interface.specs.Codes.{above_max, above, itself, cycles_of, wires_of, both_bytes, given, meant_number, line_max, pair_refused, pair_figure, pair_given}
 use Rattle.c_interface.specs.Codes.{read_pair_code, write_pair_code, layout_pair_code, module_time_pair_code}
 use Rattle.c_interface.specs.Codes.{module_wires_pair_code, plan_pair_code}
-use Rattle.c_interface.specs.Apart.{roomed, roomed_meant, PairSays}
+use Rattle.c_interface.specs.Apart.{roomed_or, PairRefused, PairSays, pair_roomed}
 use Rattle.c_interface.proofs.ApartLaws.{above-number, above-figure}
-use Rattle.c_interface.proofs.CodeLaws.{meant-most}
+use Rattle.c_interface.proofs.CodeLaws.{meant_most}
 
-module _ (r : Refusal) (m : Meant) (number : r.number ≤ 17) (line : r.line ≤ text_max + 1) where
-  cut : 4 * (r.line % line_max) + meant_number m < above_max
-  cut = omega (arith, meant-most m)
+refused_says : (r : PairRefusal) → r.refusal.line ≤ text_max + 1 → PairRefused (pair_refused r) r
+unfolding pair_refused
+refused_says r line =
+    record {
+      number = above-number (number_of r.refusal.fault) (4 * (r.refusal.line % line_max) + meant_number r.meant) small;
+      line = omega (arith, figure, most);
+      text = omega (arith, figure, most);
+    }
+  where
+    most : meant_number r.meant ≤ 2
+    most = meant_most r.meant
 
-  refused-figure : pair_refused r m / 256 ≡ 4 * r.line + meant_number m
-  unfolding pair_refused
-  refused-figure = above-figure r.number (4 * (r.line % line_max) + meant_number m) (omega arith) cut ∙ (omega arith)
+    small : number_of r.refusal.fault < 256
+    small = omega (arith, number_bounds r.refusal.fault)
 
-  refused_says : (v : ℕ) → (r.number ≡ 0 → ⊥) → PairSays (pair_refused r m) r m v
-  unfolding pair_refused
-  refused_says v h =
-      record {
-        number = above-number r.number (4 * (r.line % line_max) + meant_number m) (omega arith);
-        figure = λ e. absurd (h e);
-        line = λ k. omega (arith, refused-figure, meant-most m);
-        text = λ k. omega (arith, refused-figure, meant-most m);
-      }
+    figure : above (number_of r.refusal.fault) (4 * (r.refusal.line % line_max) + meant_number r.meant) / 256 ≡ 4 * r.refusal.line + meant_number r.meant
+    figure =
+        above-figure (number_of r.refusal.fault) (4 * (r.refusal.line % line_max) + meant_number r.meant) small (omega (arith, most))
+        ∙ (omega arith)
 
-  pub figure-says : (v : ℕ) → v < above_max → PairSays (pair_figure r m v) r m v
-  unfolding pair_figure
-  figure-says v h = go (eqb r.number 0) refl
+pub figure-says : {A : Type 0} (P : A → Type 0) (figure : A → ℕ) → ((v : A) → P v → figure v < above_max) → (a : Result A PairRefusal) → Told P a
+    → PairSays (pair_figure figure a) figure a
+unfolding pair_figure
+figure-says P figure low (Ok v) t = (above-number 0 (figure v) (omega arith), above-figure 0 (figure v) (omega arith) (low v t))
+figure-says P figure low (Err r) t = refused_says r t.1
+
+module _ (buf : List ℕ) (short : length buf < above_max) where
+  given-says : {A : Type 0} (P : A → Type 0) (form : A → List ℕ) (a : Result A PairRefusal) → Told P a
+      → PairSays (pair_given form a buf) (λ v. length (form v)) (pair_roomed form a buf)
+  unfolding pair_given given roomed_or meant_number
+  given-says P form (Ok v) t = go (leb (length (form v)) (length buf)) refl
     where
-      go : (t : Bool) → eqb r.number 0 ≡ t → PairSays (cond t (above 0 v) (pair_refused r m)) r m v
+      go : (u : Bool) → leb (length (form v)) (length buf) ≡ u
+          → PairSays (cond u (above 0 (length (form v))) (above 11 0)) (λ v. length (form v))
+          (cond u (Ok v) (Err (record { refusal = refused ShortBuffer 0; meant = meant.Neither })))
       go true e =
-          let z = eqb-true r.number 0 e in
+          let l = leb-true (length (form v)) (length buf) e in
+          (above-number 0 (length (form v)) (omega arith), above-figure 0 (length (form v)) (omega arith) (omega arith))
+      go false e =
           record {
-            number = above-number 0 v (omega arith) ∙ sym z;
-            figure = λ k. above-figure 0 v (omega arith) h;
-            line = λ k. absurd (k z);
-            text = λ k. absurd (k z);
+            number = above-number 11 0 (omega arith);
+            line = omega (arith, above-figure 11 0 (omega arith) (omega arith));
+            text = omega (arith, above-figure 11 0 (omega arith) (omega arith));
           }
-      go false e = refused_says v (eqb-false r.number 0 e)
-
-  module _ (buf : List ℕ) (short : length buf < above_max) (w : List ℕ) where
-    pub given-says : PairSays (pair_given r m w buf) (roomed r w buf) (roomed_meant r m) (length w)
-    unfolding pair_given given roomed roomed_meant meant_number
-    given-says = go (eqb r.number 0) refl (leb (length w) (length buf)) refl
-      where
-        go : (t : Bool) → eqb r.number 0 ≡ t → (u : Bool) → leb (length w) (length buf) ≡ u
-            → PairSays (cond t (cond u (above 0 (length w)) (above 11 0)) (pair_refused r m)) (cond t (cond u accepted (refused 11 0)) r)
-            (cond t meant.Neither m) (length w)
-        go true e true k =
-            let l = leb-true (length w) (length buf) k in
-            record {
-              number = above-number 0 (length w) (omega arith);
-              figure = λ z. above-figure 0 (length w) (omega arith) (omega arith);
-              line = λ z. absurd (z refl);
-              text = λ z. absurd (z refl);
-            }
-        go true e false k =
-            record {
-              number = above-number 11 0 (omega arith);
-              figure = λ z. absurd (omega arith);
-              line = λ z. omega (arith, above-figure 11 0 (omega arith) (omega arith));
-              text = λ z. omega (arith, above-figure 11 0 (omega arith) (omega arith));
-            }
-        go false e u k = refused_says (length w) (eqb-false r.number 0 e)
+  given-says P form (Err r) t = refused_says r t.1
 
 module _ (base overlay : List ℕ) where
   module _ (buf : List ℕ) (short : length buf < above_max) where
     pub read-pair-says :
-        let p = read_pair base overlay in
-        let w = soc_bytes p.soc in
-        PairSays (read_pair_code base overlay buf) (roomed p.refusal w buf) (roomed_meant p.refusal p.meant) (length w)
-    read-pair-says =
-        let p = read_pair base overlay in
-        given-says p.refusal p.meant (told_number base overlay) (pair_told base overlay).1 buf short (soc_bytes p.soc)
+        PairSays (read_pair_code base overlay buf) (λ p. length (both_bytes p)) (pair_roomed both_bytes (read_pair base overlay) buf)
+    read-pair-says = given-says buf short (λ p. ⊤) both_bytes (read_pair base overlay) (go (read_pair base overlay) (told_number base overlay))
+      where
+        go : (a : Result PairRead PairRefusal)
+            → ((r : PairRefusal) → a ≡ Err r → (number_of r.refusal.fault ≤ 17) × (r.refusal.line ≤ text_max + 1)) → Told (λ p. ⊤) a
+        go (Ok p) h = tt
+        go (Err r) h = h r refl
 
-    pub write-pair-says :
-        let a = write_pair base overlay buf in
-        PairSays (write_pair_code base overlay buf) a.answer.refusal a.meant a.answer.len
+    pub write-pair-says : PairSays (write_pair_code base overlay buf) itself (write_pair base overlay buf)
     write-pair-says =
-        let a = write_pair base overlay buf in
-        let l = write_pair_told base overlay buf in
-        figure-says a.answer.refusal a.meant l.0 l.1 a.answer.len (omega (arith, l.2))
+        figure-says (λ n. n ≤ length buf) itself (λ n h. omega arith) (write_pair base overlay buf) (write_pair_told base overlay buf)
 
-    pub layout_pair-says : (m i w c : ℕ) →
-        let a = layout_pair base overlay m i w c in
-        let r = a.answer.refusal in
-        let b = layout_bytes a.answer in
-        PairSays (layout_pair_code base overlay m i w c buf) (roomed r b buf) (roomed_meant r a.meant) (length b)
+    pub layout_pair-says : (m i w c : ℕ)
+        → PairSays (layout_pair_code base overlay m i w c buf) (λ l. length (layout_bytes l))
+        (pair_roomed layout_bytes (layout_pair base overlay m i w c) buf)
     layout_pair-says m i w c =
-        let a = layout_pair base overlay m i w c in
-        let l = layout_pair_told base overlay m i w c in
-        given-says a.answer.refusal a.meant l.0 l.1 buf short (layout_bytes a.answer)
+        given-says buf short (λ l. l.cycles.0 ≤ test_time_max) layout_bytes (layout_pair base overlay m i w c)
+        (layout_pair_told base overlay m i w c)
 
-    pub plan-pair-says : (W B c : ℕ) →
-        let a = plan_pair base overlay W B c in
-        let r = a.answer.refusal in
-        let b = plan_bytes a.answer.plan in
-        PairSays (plan_pair_code base overlay W B c buf) (roomed r b buf) (roomed_meant r a.meant) (length b)
+    pub plan-pair-says : (W B c : ℕ)
+        → PairSays (plan_pair_code base overlay W B c buf) (λ p. length (plan_bytes p))
+        (pair_roomed plan_bytes (plan_pair base overlay W B c) buf)
     plan-pair-says W B c =
-        let a = plan_pair base overlay W B c in
-        let l = plan-pair_told base overlay W B c in
-        given-says a.answer.refusal a.meant l.0 l.1 buf short (plan_bytes a.answer.plan)
+        given-says buf short (λ p. ⊤) plan_bytes (plan_pair base overlay W B c) (plan-pair_told base overlay W B c)
 
   module _ (m w c : ℕ) where
-    pub module-time-pair-says :
-        let a = module_time_pair base overlay m w c in
-        PairSays (module_time_pair_code base overlay m w c) a.answer.refusal a.meant a.answer.cycles.0
-    module-time-pair-says =
-        let a = module_time_pair base overlay m w c in
-        let l = module_time_pair_told base overlay m w c in
-        figure-says a.answer.refusal a.meant l.0 l.1 a.answer.cycles.0 (omega (arith, l.2))
+    abbrev Kept : ModuleTime → Type 0
+    Kept t = (t.cycles.0 ≤ module_time_max) × (t.wires.0 ≤ width_max)
 
-    pub module-wires-pair-says :
-        let a = module_time_pair base overlay m w c in
-        PairSays (module_wires_pair_code base overlay m w c) a.answer.refusal a.meant a.answer.wires.0
+    pub module-time-pair-says : PairSays (module_time_pair_code base overlay m w c) cycles_of (module_time_pair base overlay m w c)
+    module-time-pair-says =
+        figure-says Kept cycles_of (λ t h. omega (arith, h.0)) (module_time_pair base overlay m w c) (module_time_pair_told base overlay m w c)
+
+    pub module-wires-pair-says : PairSays (module_wires_pair_code base overlay m w c) wires_of (module_time_pair base overlay m w c)
     module-wires-pair-says =
-        let a = module_time_pair base overlay m w c in
-        let l = module_time_pair_told base overlay m w c in
-        figure-says a.answer.refusal a.meant l.0 l.1 a.answer.wires.0 (omega (arith, l.3))
+        figure-says Kept wires_of (λ t h. omega (arith, h.1)) (module_time_pair base overlay m w c) (module_time_pair_told base overlay m w c)

@@ -3,38 +3,74 @@
 #![tactic(auto)]
 
 ghost use Rattle.std.specs.Prelude.{◌≡◌};
-ghost use Rattle.c_interface.specs.Codes.{above, code, bytes_code, read_code, read_held, write_code, write_held, layout_code, layout_held, module_time_code, module_wires_code, plan_code, plan_held, write_plan_code, write_plan_held, read_plan_code, read_plan_held, listing_code, listing_held, show_code, show_held, meant_number, pair_refused, read_pair_code, read_pair_held, part_figure, module_lines_code};
+ghost use Rattle.c_interface.specs.Codes.{above, refusal_code, code, itself, cycles_of, wires_of, bytes_code, read_code, read_held, write_code, write_held, layout_code, layout_held, module_time_code, module_wires_code, plan_code, plan_held, write_plan_code, write_plan_held, read_plan_code, read_plan_held, listing_code, listing_held, show_code, show_held, meant_number, pair_refused, read_pair_code, read_pair_held, places_of, module_lines_code};
 ghost use Rattle.c_interface.specs.Codes.{pair_figure, write_pair_code, layout_pair_code, layout_pair_held};
 ghost use Rattle.c_interface.specs.Codes.{module_time_pair_code, module_wires_pair_code, plan_pair_code, plan_pair_held};
-ghost use Rattle.c_interface.specs.Codes.{is_finished, budget_code, budget_held};
+ghost use Rattle.c_interface.specs.Codes.{budget_code, budget_held};
 ghost use Rattle.pair_entries.specs.WrittenPair.{write_pair_leaves};
 
 use budget::Ended;
-use pair::Meant;
-use units::{CaptureCycles, Refusal, Wires};
+use pair::{Meant, PairRefusal, Shown};
+use units::{CaptureCycles, Fault, Refusal, Wires};
+use wrapper::ModuleTime;
 
 // v has 56 bits: a line and a length stay far below, and a time has at most 46.
+#[tactic(auto, unfolding(crate::specs::Codes::above))]
 fn above_byte(n: u8, v: u64) -> u64
     ensures { result ≡ above n v }
 {
-    n as u64 + 256 * (v % 72057594037927936)
+    u64::from(n) + 256 * (v % 72057594037927936)
 }
 
-fn code_of(r: Refusal, v: u64) -> u64
-    ensures { result ≡ code r v }
+#[tactic(auto, unfolding(crate::specs::Codes::refusal_code))]
+fn refusal_code(r: Refusal) -> u64
+    ensures { result ≡ refusal_code r }
 {
-    if r.number == 0 {
-        return above_byte(0, v);
+    above_byte(u8::from(r.fault), r.line as u64)
+}
+
+#[tactic(auto, unfolding(crate::specs::Codes::code))]
+fn code_of(answer: Result<u64, Refusal>) -> u64
+    ensures { result ≡ code itself answer }
+{
+    match answer {
+        Ok(figure) => above_byte(0, figure),
+        Err(r) => refusal_code(r),
     }
-    above_byte(r.number, r.line as u64)
+}
+
+fn as_figure(n: usize) -> u64
+    ensures { result ≡ itself n }
+{
+    n as u64
+}
+
+fn cycles_of(t: ModuleTime) -> u64
+    ensures { result ≡ cycles_of t }
+{
+    t.cycles.0
+}
+
+fn wires_of(t: ModuleTime) -> u64
+    ensures { result ≡ wires_of t }
+{
+    u64::from(t.wires.0)
+}
+
+// How many bytes were written.
+fn code_of_length(written: Result<usize, Refusal>) -> u64
+    ensures { result ≡ code itself written }
+{
+    code_of(written.map(as_figure))
 }
 
 // Where k bytes of a result were put, and 0 says that there was no room.
+#[tactic(auto, unfolding(crate::specs::Codes::bytes_code, crate::specs::Codes::code))]
 fn code_of_bytes(k: usize) -> u64
     ensures { result ≡ bytes_code k }
 {
     if k == 0 {
-        return above_byte(11, 0);
+        return refusal_code(Refusal::at(Fault::ShortBuffer, 0));
     }
     above_byte(0, k as u64)
 }
@@ -43,18 +79,17 @@ pub fn tallowwing_read_soc(text: &[u8], into: &mut [u8]) -> u64
     ensures { (result ≡ read_code text.now into.old) × (into.new ≡ read_held text.now into.old) }
 {
     let read = text::read_soc(text);
-    if read.refusal.number != 0 {
-        return code_of(read.refusal, 0);
+    match read {
+        Ok(s) => code_of_bytes(c_forms::soc_bytes(s, into)),
+        Err(r) => refusal_code(r),
     }
-    code_of_bytes(c_forms::soc_bytes(read.soc, &mut *into))
 }
 
 pub fn tallowwing_write_soc(soc: &[u8], into: &mut [u8]) -> u64
     ensures { (result ≡ write_code soc.now into.old) × (into.new ≡ write_held soc.now into.old) }
 {
-    let s = c_forms::soc_in(soc);
-    let written = text::write_soc(s, &mut *into);
-    code_of(written.refusal, written.len as u64)
+    let written = text::write_soc(c_forms::soc_in(soc), into);
+    code_of_length(written)
 }
 
 pub fn tallowwing_layout(
@@ -68,11 +103,10 @@ pub fn tallowwing_layout(
     ensures { (result ≡ layout_code soc.now «module» test width capture into.old) × (into.new ≡ layout_held soc.now «module» test width capture into.old) }
 {
     let s = c_forms::soc_in(soc);
-    let laid = wrapper::layout(s, module, test, Wires(width), CaptureCycles(capture));
-    if laid.refusal.number != 0 {
-        return code_of(laid.refusal, 0);
+    match wrapper::layout(s, module, test, Wires(width), CaptureCycles(capture)) {
+        Ok(l) => code_of_bytes(c_forms::layout_bytes(l, into)),
+        Err(r) => refusal_code(r),
     }
-    code_of_bytes(c_forms::layout_bytes(laid, &mut *into))
 }
 
 pub fn tallowwing_module_time(soc: &[u8], module: u32, width: u32, capture: u32) -> u64
@@ -80,7 +114,7 @@ pub fn tallowwing_module_time(soc: &[u8], module: u32, width: u32, capture: u32)
 {
     let s = c_forms::soc_in(soc);
     let time = wrapper::module_time(s, module, Wires(width), CaptureCycles(capture));
-    code_of(time.refusal, time.cycles.0)
+    code_of(time.map(cycles_of))
 }
 
 pub fn tallowwing_module_wires(soc: &[u8], module: u32, width: u32, capture: u32) -> u64
@@ -88,26 +122,16 @@ pub fn tallowwing_module_wires(soc: &[u8], module: u32, width: u32, capture: u32
 {
     let s = c_forms::soc_in(soc);
     let best = wrapper::module_time(s, module, Wires(width), CaptureCycles(capture));
-    code_of(best.refusal, best.wires.0 as u64)
+    code_of(best.map(wires_of))
 }
 
 pub fn tallowwing_plan(soc: &[u8], wires: u32, limit: u32, capture: u32, into: &mut [u8]) -> u64
     ensures { (result ≡ plan_code soc.now wires limit capture into.old) × (into.new ≡ plan_held soc.now wires limit capture into.old) }
 {
     let s = c_forms::soc_in(soc);
-    let answer = plan::plan(s, Wires(wires), limit, CaptureCycles(capture));
-    if answer.refusal.number != 0 {
-        return code_of(answer.refusal, 0);
-    }
-    code_of_bytes(c_forms::plan_bytes(answer.plan, &mut *into))
-}
-
-fn is_finished(e: Ended) -> bool
-    ensures { result ≡ is_finished e }
-{
-    match e {
-        Ended::Finished => true,
-        Ended::Unfinished => false,
+    match plan::plan(s, Wires(wires), limit, CaptureCycles(capture)) {
+        Ok(p) => code_of_bytes(c_forms::plan_bytes(p, into)),
+        Err(r) => refusal_code(r),
     }
 }
 
@@ -123,54 +147,51 @@ pub fn tallowwing_budget(
         × (into.new ≡ budget_held soc.now wires limit capture tries into.old) }
 {
     let s = c_forms::soc_in(soc);
-    let answer = budget::plan_within(s, Wires(wires), limit, CaptureCycles(capture), tries);
-    if answer.refusal.number != 0 {
-        return code_of(answer.refusal, 0);
+    match budget::plan_within(s, Wires(wires), limit, CaptureCycles(capture), tries) {
+        Ok(found) => code_of_bytes(c_forms::budget_bytes(
+            found.ended == Ended::Finished,
+            found.plan.is_some(),
+            found.tries,
+            found.plan.unwrap_or(plan_record::no_plan()),
+            into,
+        )),
+        Err(r) => refusal_code(r),
     }
-    let ended = answer.ended;
-    let finished = is_finished(ended);
-    code_of_bytes(c_forms::budget_bytes(
-        finished,
-        answer.known,
-        answer.tries,
-        answer.plan,
-        &mut *into,
-    ))
 }
 
 pub fn tallowwing_write_plan(from: &[u8], into: &mut [u8]) -> u64
     ensures { (result ≡ write_plan_code from.now into.old) × (into.new ≡ write_plan_held from.now into.old) }
 {
-    let p = c_forms::plan_in(from);
-    let filed = plan_file::write_plan(p, &mut *into);
-    code_of(filed.refusal, filed.len as u64)
+    let filed = plan_file::write_plan(c_forms::plan_in(from), into);
+    code_of_length(filed)
 }
 
 pub fn tallowwing_read_plan(file: &[u8], into: &mut [u8]) -> u64
     ensures { (result ≡ read_plan_code file.now into.old) × (into.new ≡ read_plan_held file.now into.old) }
 {
     let held = plan_file::read_plan(file);
-    if held.refusal.number != 0 {
-        return code_of(held.refusal, 0);
+    match held {
+        Ok(p) => code_of_bytes(c_forms::plan_bytes(p, into)),
+        Err(r) => refusal_code(r),
     }
-    code_of_bytes(c_forms::plan_bytes(held.plan, &mut *into))
 }
 
 pub fn tallowwing_listing(input: &[u8], into: &mut [u8]) -> u64
     ensures { (result ≡ listing_code input.now into.old) × (into.new ≡ listing_held input.now into.old) }
 {
-    let listed = listing::listing(input, &mut *into);
-    code_of(listed.refusal, listed.len as u64)
+    let listed = listing::listing(input, into);
+    code_of_length(listed)
 }
 
 pub fn tallowwing_show(from: &[u8], into: &mut [u8]) -> u64
     ensures { (result ≡ show_code from.now into.old) × (into.new ≡ show_held from.now into.old) }
 {
-    let p = c_forms::plan_in(from);
-    let shown = plan_lines::show(p, &mut *into);
-    code_of(shown.refusal, shown.len as u64)
+    let shown = plan_lines::show(c_forms::plan_in(from), into);
+    code_of_length(shown)
 }
 
+// A crate cannot say how another's type becomes a number of the language's, so this is no `From`.
+#[tactic(auto, unfolding(crate::specs::Codes::meant_number))]
 fn meant_number(m: Meant) -> u64
     ensures { result ≡ meant_number m }
 {
@@ -182,63 +203,55 @@ fn meant_number(m: Meant) -> u64
 }
 
 // A line stays far below 2⁵⁴.
-fn pair_refused(r: Refusal, m: Meant) -> u64
-    ensures { result ≡ pair_refused r m }
+#[tactic(auto, using(crate::proofs::CodeLaws::meant_most), unfolding(crate::specs::Codes::pair_refused))]
+fn pair_refused(r: PairRefusal) -> u64
+    ensures { result ≡ pair_refused r }
 {
     above_byte(
-        r.number,
-        4 * (r.line as u64 % 18014398509481984) + meant_number(m),
+        u8::from(r.refusal.fault),
+        4 * (r.refusal.line as u64 % 18014398509481984) + meant_number(r.meant),
     )
 }
 
-fn pair_code_of(r: Refusal, m: Meant, v: u64) -> u64
-    ensures { result ≡ pair_figure r m v }
+#[tactic(auto, unfolding(crate::specs::Codes::pair_figure))]
+fn pair_code_of(answer: Result<u64, PairRefusal>) -> u64
+    ensures { result ≡ pair_figure itself answer }
 {
-    if r.number == 0 {
-        return above_byte(0, v);
+    match answer {
+        Ok(v) => above_byte(0, v),
+        Err(r) => pair_refused(r),
     }
-    pair_refused(r, m)
 }
 
 pub fn tallowwing_read_pair(base: &[u8], overlay: &[u8], into: &mut [u8]) -> u64
     ensures { (result ≡ read_pair_code base.now overlay.now into.old) × (into.new ≡ read_pair_held base.now overlay.now into.old) }
 {
-    let both = pair::read_pair(base, overlay);
-    if both.refusal.number != 0 {
-        let meant = both.meant;
-        return pair_refused(both.refusal, meant);
+    match pair::read_pair(base, overlay) {
+        Ok(both) => code_of_bytes(c_forms::soc_bytes(both.soc, into)),
+        Err(r) => pair_refused(r),
     }
-    code_of_bytes(c_forms::soc_bytes(both.soc, &mut *into))
 }
 
-fn part_figure(over: bool, from: usize, to: usize) -> u64
-    ensures { result ≡ part_figure over from to }
+#[tactic(auto, unfolding(crate::specs::Codes::part_figure))]
+fn part_figure(s: Shown) -> u64
+    ensures { result ≡ places_of s }
 {
-    let places = 131072 * (from as u64 % 65536) + 2 * (to as u64 % 65536);
-    if over {
-        return places + 1;
-    }
-    places + 0
+    let (from, to) = (s.part.from as u64, s.part.to as u64);
+    131072 * (from % 65536) + 2 * (to % 65536) + u64::from(s.over)
 }
 
 pub fn tallowwing_module_lines(base: &[u8], overlay: &[u8], module: u32) -> u64
     ensures { result ≡ module_lines_code base.now overlay.now «module» }
 {
-    let shown = pair::lines_shown(base, overlay, module);
-    if shown.refusal.number != 0 {
-        let meant = shown.meant;
-        return pair_refused(shown.refusal, meant);
-    }
-    above_byte(0, part_figure(shown.over, shown.part.from, shown.part.to))
+    pair_code_of(pair::lines_shown(base, overlay, module).map(part_figure))
 }
 
 pub fn tallowwing_write_pair(base: &[u8], overlay: &[u8], into: &mut [u8]) -> u64
     ensures { (result ≡ write_pair_code base.now overlay.now into.old)
         × (into.new ≡ write_pair_leaves base.now overlay.now into.old) }
 {
-    let written = pair_entries::write_pair(base, overlay, &mut *into);
-    let meant = written.meant;
-    pair_code_of(written.answer.refusal, meant, written.answer.len as u64)
+    let written = pair_entries::write_pair(base, overlay, into);
+    pair_code_of(written.map(as_figure))
 }
 
 pub fn tallowwing_layout_pair(
@@ -253,19 +266,12 @@ pub fn tallowwing_layout_pair(
     ensures { (result ≡ layout_pair_code base.now overlay.now «module» test width capture into.old)
         × (into.new ≡ layout_pair_held base.now overlay.now «module» test width capture into.old) }
 {
-    let laid = pair_entries::layout_pair(
-        base,
-        overlay,
-        module,
-        test,
-        Wires(width),
-        CaptureCycles(capture),
-    );
-    if laid.answer.refusal.number != 0 {
-        let meant = laid.meant;
-        return pair_refused(laid.answer.refusal, meant);
+    let (w, c) = (Wires(width), CaptureCycles(capture));
+    let laid = pair_entries::layout_pair(base, overlay, module, test, w, c);
+    match laid {
+        Ok(l) => code_of_bytes(c_forms::layout_bytes(l, into)),
+        Err(unlaid) => pair_refused(unlaid),
     }
-    code_of_bytes(c_forms::layout_bytes(laid.answer, &mut *into))
 }
 
 pub fn tallowwing_module_time_pair(
@@ -277,15 +283,9 @@ pub fn tallowwing_module_time_pair(
 ) -> u64
     ensures { result ≡ module_time_pair_code base.now overlay.now «module» width capture }
 {
-    let time = pair_entries::module_time_pair(
-        base,
-        overlay,
-        module,
-        Wires(width),
-        CaptureCycles(capture),
-    );
-    let meant = time.meant;
-    pair_code_of(time.answer.refusal, meant, time.answer.cycles.0)
+    let (w, c) = (Wires(width), CaptureCycles(capture));
+    let time = pair_entries::module_time_pair(base, overlay, module, w, c);
+    pair_code_of(time.map(cycles_of))
 }
 
 pub fn tallowwing_module_wires_pair(
@@ -297,15 +297,9 @@ pub fn tallowwing_module_wires_pair(
 ) -> u64
     ensures { result ≡ module_wires_pair_code base.now overlay.now «module» width capture }
 {
-    let best = pair_entries::module_time_pair(
-        base,
-        overlay,
-        module,
-        Wires(width),
-        CaptureCycles(capture),
-    );
-    let meant = best.meant;
-    pair_code_of(best.answer.refusal, meant, best.answer.wires.0 as u64)
+    let (w, c) = (Wires(width), CaptureCycles(capture));
+    let best = pair_entries::module_time_pair(base, overlay, module, w, c);
+    pair_code_of(best.map(wires_of))
 }
 
 pub fn tallowwing_plan_pair(
@@ -319,16 +313,10 @@ pub fn tallowwing_plan_pair(
     ensures { (result ≡ plan_pair_code base.now overlay.now wires limit capture into.old)
         × (into.new ≡ plan_pair_held base.now overlay.now wires limit capture into.old) }
 {
-    let planned = pair_entries::plan_pair(
-        base,
-        overlay,
-        Wires(wires),
-        limit,
-        CaptureCycles(capture),
-    );
-    if planned.answer.refusal.number != 0 {
-        let meant = planned.meant;
-        return pair_refused(planned.answer.refusal, meant);
+    let (w, c) = (Wires(wires), CaptureCycles(capture));
+    let planned = pair_entries::plan_pair(base, overlay, w, limit, c);
+    match planned {
+        Ok(p) => code_of_bytes(c_forms::plan_bytes(p, into)),
+        Err(unplanned) => pair_refused(unplanned),
     }
-    code_of_bytes(c_forms::plan_bytes(planned.answer.plan, &mut *into))
 }
