@@ -7,7 +7,7 @@ ghost use Rattle.buffer.specs.WriterAnswers.{written};
 use super::put::write_bytes;
 use units::{Fault, Refusal};
 
-// How many of n bytes are written into a room: all of them, or none.
+// How many of n bytes are written into a room: all of them, or none. A name of its own, since two edits of the gate bend it.
 fn all_or_none(n: usize, room: usize) -> usize
     ensures { result ≡ all_or_none n room }
 {

@@ -31,6 +31,7 @@ pub fn bad_byte(text: &[u8]) -> Option<usize>
     None
 }
 
+// The library's equality, under the name that the definition has.
 pub fn same_bytes(a: &[u8], b: &[u8]) -> bool
     ensures { result ≡ same_bytes a.now b.now }
 {

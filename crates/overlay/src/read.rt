@@ -17,6 +17,7 @@ use text_reader::{Marks, due, options_step, taken};
 use units::{Fault, Refusal};
 
 // What an overlay says: which modules it has, and each at the place of its number; the other places hold a spare module.
+// Its name is as the record has it.
 #[derive(Clone, Copy)]
 pub struct Overlay {
     pub name_len: usize,

@@ -24,7 +24,8 @@ pub struct PlacedModule {
     pub start: Cycles,
 }
 
-// W, B, the buses, the planned modules ascending, and the time. Spare places are 0.
+// W, B, the buses, the planned modules ascending, and the time. Spare places are 0. Counts and not a type that keeps to them, with no heap:
+// refusal 12 judges records that break just that (`is_good_plan`).
 #[derive(Clone, Copy, PartialEq, Eq)]
 pub struct BusPlan {
     pub wires: Wires,

@@ -29,7 +29,7 @@ pub fn time_at(table: &[u64], i: usize, w: Wires) -> Cycles
 pub fn larger(a: Cycles, b: Cycles) -> Cycles
     ensures { result.0 ≡ max a.0 b.0 }
 {
-    if a.0 < b.0 { b } else { a }
+    Cycles(a.0.max(b.0))
 }
 
 // Every module has its bus, and the plan takes less than the best so far: its time and its bus numbers become the best.

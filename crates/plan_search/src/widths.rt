@@ -15,7 +15,8 @@ use super::place::{FOUND_BUSES, FOUND_MODULES, SEARCH_BUSES, SEARCH_MODULES, pla
 use super::thumb::bound_of;
 use units::{Cycles, Wires};
 
-// The first plan of least time: its buses, their widths, the bus of each module, and its time. Spare places are 0.
+// The first plan of least time: its buses, their widths, the bus of each module, and its time. Spare places are 0. There is no heap, so a
+// count stands beside the arrays.
 #[derive(Clone, Copy)]
 pub struct Found {
     pub count: usize,

@@ -4,7 +4,7 @@ ghost use Rattle.soc.specs.Planned.{is_planned, planned_of, planned_is};
 
 use super::{MODULES_MAX, Module, Soc};
 
-// The numbers of the planned modules, ascending; spare places are 0.
+// The numbers of the planned modules, ascending; spare places are 0. There is no heap, so a count stands beside the array.
 #[derive(Clone, Copy, PartialEq, Eq)]
 pub struct Planned {
     pub count: usize,

@@ -1,5 +1,5 @@
 // The SOC record and its limits. What is in use stands at the front of an array, as many places as its count says; the spare places
-// behind it are 0.
+// behind it are 0. A count and not a type that keeps to it, with no heap: refusal 14 judges records that break just that (`is_good`).
 ghost use Rattle.std.specs.Prelude.{◌≡◌};
 ghost use Rattle.soc.specs.Record.{no_test, no_module, no_soc};
 

@@ -8,7 +8,7 @@ use super::part::{key_flag, line_end};
 use fields::NAME_MAX;
 use units::Fault;
 
-// A name at the front of its places.
+// A name at the front of its places, as the record has it.
 #[derive(Clone, Copy)]
 pub struct Name {
     pub len: usize,

@@ -18,7 +18,7 @@ pub struct Terminals {
     pub bidirs: u32,
 }
 
-// How many there are, and their lengths at the front of the places.
+// How many there are, and their lengths at the front of the places, as the record has them.
 #[derive(Clone, Copy)]
 pub struct Chains {
     pub count: usize,
