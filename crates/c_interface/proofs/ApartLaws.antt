@@ -23,7 +23,6 @@ use Rattle.wrapper_fit.specs.Maxima.{test_time_max, module_time_max, width_max}
 use Rattle.wrapper_times.specs.TimeAnswers.{module_time_answer}
 use Rattle.wrapper_times.specs.declared.asked.ModuleTime.{ModuleTime}
 use Rattle.wrapper_layout.specs.LayoutAnswers.{layout_answer}
-use Rattle.wrapper_layout.specs.declared.laid.WrapperLayout.{WrapperLayout}
 use Rattle.wrapper.proofs.WrapperAnswerLaws.{Told, layout_told, module_time_told}
 use Rattle.plan.specs.PlanAnswers.{plan_answer}
 use Rattle.plan.proofs.PlannerLaws.{answer_told}

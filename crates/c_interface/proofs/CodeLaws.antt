@@ -9,7 +9,7 @@ use lib.Dec.{leb}
 use lib.ListN.{length}
 use Rattle.std.specs.Prelude.{Result, Ok, Err, IsOkAnd, MatchResult}
 use Rattle.units.specs.declared.Refusal.{Refusal}
-use Rattle.buffer.specs.Puts.{put_front, put_count}
+use Rattle.buffer.specs.Puts.{put_count}
 use Rattle.c_forms.specs.Words.{PutFront}
 use Rattle.pair.specs.declared.read.Meant.{Meant}
 use Rattle.pair.specs.declared.read.Meant.TheVariants as meant

@@ -25,7 +25,6 @@ use Rattle.pair_entries.specs.TimedPair.{module_time_pair}
 use Rattle.pair_entries.specs.WrittenPair.{write_pair}
 use Rattle.pair_entries.proofs.EntryLaws.{Told}
 use Rattle.pair_entries.proofs.PairEntries.{told_number, write_pair_told, layout_pair_told, module_time_pair_told, plan-pair_told}
-use Rattle.c_forms.specs.SocForm.{soc_bytes}
 use Rattle.c_forms.specs.PlanForm.{plan_bytes}
 use Rattle.c_forms.specs.LayoutForm.{layout_bytes}
 use Rattle.c_interface.specs.Codes.{above_max, above, itself, cycles_of, wires_of, both_bytes, given, meant_number, line_max, pair_refused, pair_figure, pair_given}

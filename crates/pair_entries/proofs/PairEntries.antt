@@ -10,7 +10,6 @@ use Rattle.std.specs.Prelude.{Result, Ok, Err, IfErr, MatchResult, ⊤}
 use Rattle.units.specs.Refusals.{number_of}
 use Rattle.units.specs.declared.Refusal.{Refusal}
 use Rattle.soc.specs.Limits.{text_max}
-use Rattle.soc.specs.declared.record.Soc.{Soc}
 use Rattle.text_writer.specs.WrittenSoc.{write_answer, write_leaves}
 use Rattle.text_writer.proofs.SocWriterLaws.{write_fits}
 use Rattle.wrapper_fit.specs.Maxima.{test_time_max, module_time_max, width_max}
@@ -25,7 +24,7 @@ use Rattle.pair.specs.declared.read.PairRead.{PairRead}
 use Rattle.pair.specs.declared.read.PairRefusal.{PairRefusal}
 use Rattle.late_changes.proofs.PairOnly.{pair-good}
 use Rattle.late_changes.proofs.PairRefused.{PairNumber, pair_told}
-use Rattle.pair_entries.specs.OfPair.{its_own, of_pair}
+use Rattle.pair_entries.specs.OfPair.{its_own}
 use Rattle.pair_entries.specs.LaidPair.{layout_pair}
 use Rattle.pair_entries.specs.PlannedPair.{plan_pair}
 use Rattle.pair_entries.specs.TimedPair.{module_time_pair}

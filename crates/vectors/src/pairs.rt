@@ -1,11 +1,11 @@
 // Prints what is answered of a SOC text and an overlay (document 02, item 3): the plan's time, a test's and a module's, the written form,
 // and the lines of a module as they stand.
 use super::lent::{BEFORE, at_most, kept_to};
-use super::print::{BOTH_PADDED, END, INTO, MEANT, PAIR, print, print_line, read_text};
-use pair::Meant;
+use super::print::{BOTH_PADDED, END, INTO, MEANT, PAIR, number, print, print_line, read_text};
+use pair::{Meant, PairRefusal};
 use pair_entries::{layout_pair, module_time_pair, plan_pair, write_pair};
 use std::io;
-use units::{CaptureCycles, Refusal, Wires};
+use units::{CaptureCycles, Wires};
 
 // The text that a refusal is about: 0 neither, 1 the base, 2 the overlay.
 fn text_of(m: Meant) -> u64 {
@@ -16,8 +16,19 @@ fn text_of(m: Meant) -> u64 {
     }
 }
 
-fn print_time(rt: &HostRuntime, r: Refusal, m: Meant, time: u64) -> io::Result<()> {
-    print_line(rt, PAIR, r.number as u64, r.line as u64, text_of(m), time)
+// A time, or the refusal in its place.
+fn print_time(rt: &HostRuntime, time: Result<u64, PairRefusal>) -> io::Result<()> {
+    match time {
+        Ok(t) => print_line(rt, PAIR, 0, 0, 0, t),
+        Err(r) => print_line(
+            rt,
+            PAIR,
+            number(r.refusal.fault),
+            r.refusal.line as u64,
+            text_of(r.meant),
+            0,
+        ),
+    }
 }
 
 // The plan's time of a pair.
@@ -30,13 +41,7 @@ fn show_planned(
     capture: u32,
 ) -> io::Result<()> {
     let planned = plan_pair(base, overlay, Wires(w), b, CaptureCycles(capture));
-    let meant = planned.meant;
-    print_time(
-        rt,
-        planned.answer.refusal,
-        meant,
-        planned.answer.plan.time.0,
-    )
+    print_time(rt, planned.map(|p| p.time.0))
 }
 
 // The plan's time of the pair that is arguments i and j.
@@ -89,11 +94,9 @@ pub(crate) fn show_asked(
     let k = read_text(rt, j, &mut overlay)?;
     let c = CaptureCycles(capture);
     let laid = layout_pair(&base[..n], &overlay[..k], module, test, Wires(width), c);
-    let meant = laid.meant;
-    print_time(rt, laid.answer.refusal, meant, laid.answer.cycles.0)?;
+    print_time(rt, laid.map(|l| l.cycles.0))?;
     let time = module_time_pair(&base[..n], &overlay[..k], module, Wires(width), c);
-    let about = time.meant;
-    print_time(rt, time.answer.refusal, about, time.answer.cycles.0)
+    print_time(rt, time.map(|t| t.cycles.0))
 }
 
 // Lends the writer the first n bytes of a buffer, and prints what it wrote.
@@ -105,19 +108,14 @@ fn show_into(
     n: usize,
 ) -> io::Result<()> {
     let k = at_most(n, &*buf);
-    let w = write_pair(base, overlay, &mut buf[..k]);
-    let meant = w.meant;
-    let end = kept_to(&*buf, w.answer.len);
-    print_line(rt, MEANT, text_of(meant), 0, 0, 0)?;
-    print_line(
-        rt,
-        INTO,
-        k as u64,
-        w.answer.refusal.number as u64,
-        w.answer.len as u64,
-        end as u64,
-    )?;
-    let to = at_most(w.answer.len, &*buf);
+    let (len, text, refused) = match write_pair(base, overlay, &mut buf[..k]) {
+        Ok(n) => (n, 0, 0),
+        Err(r) => (0, text_of(r.meant), number(r.refusal.fault)),
+    };
+    let end = kept_to(&*buf, len);
+    print_line(rt, MEANT, text, 0, 0, 0)?;
+    print_line(rt, INTO, k as u64, refused, len as u64, end as u64)?;
+    let to = at_most(len, &*buf);
     print(rt, &buf[..to])
 }
 

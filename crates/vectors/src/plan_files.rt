@@ -2,8 +2,10 @@
 // parts, and with each byte changed in turn; the same plan's file as it was before a module's start stood in it; and the file of a module
 // with as many cycles as there may be (document 02, item 5).
 use super::lent::{BEFORE, at_most, kept_to};
-use super::print::{CHANGED, INTO, PLAN_FILE, READ_BACK, WRONG, print_line, soc_in};
-use plan_record::BusPlan;
+use super::print::{
+    CHANGED, INTO, PLAN_FILE, READ_BACK, WRONG, number, number_of, print_line, soc_in,
+};
+use plan_record::{BusPlan, no_plan};
 use std::io;
 use units::{CaptureCycles, Wires};
 
@@ -16,16 +18,15 @@ fn by_hand() -> [u8; 80] {
        \0\0\x28\0\x04\x02\x02\x02\x41\0\0\0\0\0\0\0"
 }
 
-// The number of a file's refusal. A file that is accepted must be the file of the plan that it says.
-fn refusal_of(rt: &HostRuntime, file: &[u8]) -> io::Result<u8> {
-    let read = plan_file::read_plan(file);
-    let number = read.refusal.number;
-    if number != 0 {
-        return Ok(number);
-    }
+// The number of a file's refusal, or 0. A file that is accepted must be the file of the plan that it says.
+fn refusal_of(rt: &HostRuntime, file: &[u8]) -> io::Result<u64> {
+    let p = match plan_file::read_plan(file) {
+        Ok(p) => p,
+        Err(r) => return Ok(number(r.fault)),
+    };
     let mut buffer = [0u8; 300];
-    let w = plan_file::write_plan(read.plan, &mut buffer);
-    let n = at_most(w.len, &buffer);
+    let len = plan_file::write_plan(p, &mut buffer).unwrap_or(0);
+    let n = at_most(len, &buffer);
     if !fields::same_bytes(file, &buffer[..n]) {
         print_line(rt, WRONG, 0, 0, 0, 0)?;
     }
@@ -41,7 +42,7 @@ fn show_file(rt: &HostRuntime, buf: &[u8], len: usize) -> io::Result<()> {
         rt,
         READ_BACK,
         n as u64,
-        refusal_of(rt, &buf[..n])? as u64,
+        refusal_of(rt, &buf[..n])?,
         same as u64,
         0,
     )
@@ -50,17 +51,12 @@ fn show_file(rt: &HostRuntime, buf: &[u8], len: usize) -> io::Result<()> {
 // Lends the writer the first n bytes of a buffer, and reads back what it wrote.
 fn show_into(rt: &HostRuntime, p: BusPlan, buf: &mut [u8], n: usize) -> io::Result<()> {
     let k = at_most(n, &*buf);
-    let w = plan_file::write_plan(p, &mut buf[..k]);
-    let end = kept_to(&*buf, w.len);
-    print_line(
-        rt,
-        INTO,
-        k as u64,
-        w.refusal.number as u64,
-        w.len as u64,
-        end as u64,
-    )?;
-    show_file(rt, &*buf, w.len)
+    let written = plan_file::write_plan(p, &mut buf[..k]);
+    let refused = number_of(&written);
+    let len = written.unwrap_or(0);
+    let end = kept_to(&*buf, len);
+    print_line(rt, INTO, k as u64, refused, len as u64, end as u64)?;
+    show_file(rt, &*buf, len)
 }
 
 // The file of the plan of the text that is argument i, with n bytes lent. A limit that is not b makes the plan's record another.
@@ -73,7 +69,7 @@ pub(crate) fn show_plan_file(
     n: usize,
 ) -> io::Result<()> {
     let answer = plan::plan(soc_in(rt, i)?, Wires(w), b, CaptureCycles(1));
-    let mut p = answer.plan;
+    let mut p = answer.unwrap_or(no_plan());
     p.limit = limit;
     print_line(rt, PLAN_FILE, w as u64, limit as u64, 0, 0)?;
     let mut buffer = [BEFORE; 300];
@@ -109,7 +105,7 @@ pub(crate) fn show_longest(rt: &HostRuntime, low: u8) -> io::Result<()> {
 }
 
 // The number of the refusal of the file by hand with another byte at a place; 1 where it has that byte.
-fn refusal_with(rt: &HostRuntime, at: usize, b: u8) -> io::Result<u8> {
+fn refusal_with(rt: &HostRuntime, at: usize, b: u8) -> io::Result<u64> {
     let mut file = by_hand();
     if 80 <= at || file[at] == b {
         return Ok(1);

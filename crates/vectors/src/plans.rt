@@ -1,7 +1,7 @@
 // Prints plans (document 01, "The plan"; document 02, items 1 and 5), also those of the planner with a spending limit (item 7).
-use super::print::{BUDGET, BUS, PLACED, PLAN, SPENT, START, print_line, soc_in};
-use budget::Ended;
-use plan_record::BusPlan;
+use super::print::{BUDGET, BUS, PLACED, PLAN, SPENT, START, number_of, print_line, soc_in};
+use budget::{BudgetAnswer, Ended};
+use plan_record::{BusPlan, no_plan};
 use std::io;
 use units::{CaptureCycles, Wires};
 
@@ -27,7 +27,7 @@ fn print_placed(rt: &HostRuntime, p: BusPlan) -> io::Result<()> {
     Ok(())
 }
 
-// The plan of the text that is argument i.
+// The plan of the text that is argument i; one that says nothing where it is refused.
 pub(crate) fn show_plan(
     rt: &HostRuntime,
     i: usize,
@@ -36,23 +36,19 @@ pub(crate) fn show_plan(
     capture: u32,
 ) -> io::Result<()> {
     let answer = plan::plan(soc_in(rt, i)?, Wires(w), b, CaptureCycles(capture));
-    let p = answer.plan;
-    print_line(
-        rt,
-        PLAN,
-        w as u64,
-        b as u64,
-        answer.refusal.number as u64,
-        p.time.0,
-    )?;
+    let refused = number_of(&answer);
+    let p = answer.unwrap_or(no_plan());
+    print_line(rt, PLAN, w as u64, b as u64, refused, p.time.0)?;
     print_buses(rt, p)?;
     print_placed(rt, p)
 }
 
-fn finished_number(e: Ended) -> u64 {
-    match e {
-        Ended::Finished => 1,
-        Ended::Unfinished => 0,
+// What is found where nothing is sought.
+fn no_answer() -> BudgetAnswer {
+    BudgetAnswer {
+        ended: Ended::Unfinished,
+        tries: 0,
+        plan: None,
     }
 }
 
@@ -66,22 +62,15 @@ pub(crate) fn show_budget(
     tries: u64,
 ) -> io::Result<()> {
     let answer = budget::plan_within(soc_in(rt, i)?, Wires(w), b, CaptureCycles(capture), tries);
-    let p = answer.plan;
-    let ended = answer.ended;
-    print_line(
-        rt,
-        BUDGET,
-        tries,
-        w as u64,
-        b as u64,
-        answer.refusal.number as u64,
-    )?;
+    print_line(rt, BUDGET, tries, w as u64, b as u64, number_of(&answer))?;
+    let found = answer.unwrap_or(no_answer());
+    let p = found.plan.unwrap_or(no_plan());
     print_line(
         rt,
         SPENT,
-        finished_number(ended),
-        answer.tries,
-        answer.known as u64,
+        (found.ended == Ended::Finished) as u64,
+        found.tries,
+        found.plan.is_some() as u64,
         p.time.0,
     )?;
     print_buses(rt, p)?;

@@ -6,6 +6,7 @@ ghost use Rattle.io.specs.Counts.{IsPrefixLen};
 use soc::Soc;
 use std::io::Write;
 use std::{env, fs, io};
+use units::{Fault, Refusal};
 
 // The lines of `print_line`, by their numbers there.
 pub const BYTES: usize = 1;
@@ -169,10 +170,27 @@ pub(crate) fn read_text(rt: &HostRuntime, i: usize, buf: &mut [u8]) -> io::Resul
     Ok(k)
 }
 
-// The record of the text that is argument i; one that says nothing where it is refused.
+// A fault's number in the documents' table.
+pub(crate) fn number(f: Fault) -> u64 {
+    u64::from(u8::from(f))
+}
+
+// The number of an answer's refusal, or 0.
+pub(crate) fn number_of<T>(answer: &Result<T, Refusal>) -> u64 {
+    match answer {
+        Ok(_) => 0,
+        Err(r) => number(r.fault),
+    }
+}
+
+// The record of a text; one that says nothing where it is refused.
+pub(crate) fn record_of(text: &[u8]) -> Soc {
+    text::read_soc(text).unwrap_or(soc::no_soc())
+}
+
+// The same of the text that is argument i.
 pub(crate) fn soc_in(rt: &HostRuntime, i: usize) -> io::Result<Soc> {
     let mut buffer = [0u8; 65536];
     let n = read_text(rt, i, &mut buffer)?;
-    let read = text::read_soc(&buffer[..n]);
-    Ok(read.soc)
+    Ok(record_of(&buffer[..n]))
 }

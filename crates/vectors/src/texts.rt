@@ -4,7 +4,9 @@
 ghost use Rattle.io.specs.Counts.{IsPrefixLen};
 
 use super::lent::{BEFORE, at_most, kept_to};
-use super::print::{FORM, INTO, PADDED, REFUSED, print, print_line, read_text};
+use super::print::{
+    FORM, INTO, PADDED, REFUSED, number, number_of, print, print_line, read_text, record_of,
+};
 use super::records::print_soc;
 use soc::Soc;
 use std::{env, io};
@@ -12,17 +14,12 @@ use std::{env, io};
 // Lends the writer the first n bytes of a buffer, and answers how long the written form is.
 fn show_into(rt: &HostRuntime, s: Soc, buf: &mut [u8], n: usize) -> io::Result<usize> {
     let k = at_most(n, &*buf);
-    let w = text::write_soc(s, &mut buf[..k]);
-    let end = kept_to(&*buf, w.len);
-    print_line(
-        rt,
-        INTO,
-        k as u64,
-        w.refusal.number as u64,
-        w.len as u64,
-        end as u64,
-    )?;
-    Ok(w.len)
+    let written = text::write_soc(s, &mut buf[..k]);
+    let refused = number_of(&written);
+    let len = written.unwrap_or(0);
+    let end = kept_to(&*buf, len);
+    print_line(rt, INTO, k as u64, refused, len as u64, end as u64)?;
+    Ok(len)
 }
 
 fn show_lent(rt: &HostRuntime, s: Soc, n: usize) -> io::Result<usize> {
@@ -34,9 +31,8 @@ fn show_lent(rt: &HostRuntime, s: Soc, n: usize) -> io::Result<usize> {
 fn put_form(text: &[u8], buf: &mut [u8]) -> usize
     ensures { IsPrefixLen result buf.new }
 {
-    let read = text::read_soc(text);
-    let w = text::write_soc(read.soc, &mut *buf);
-    at_most(w.len, &*buf)
+    let len = text::write_soc(record_of(text), &mut *buf).unwrap_or(0);
+    at_most(len, &*buf)
 }
 
 fn show_form(rt: &HostRuntime, text: &[u8]) -> io::Result<()> {
@@ -54,24 +50,22 @@ fn show_form(rt: &HostRuntime, text: &[u8]) -> io::Result<()> {
 }
 
 // The last difference would wrap only if nothing were written, and then show a buffer that is not shorter.
+fn show_written(rt: &HostRuntime, s: Soc) -> io::Result<()> {
+    print_soc(rt, s)?;
+    let len = show_lent(rt, s, 65536)?;
+    show_lent(rt, s, len)?;
+    show_lent(rt, s, std::num::wrapping_sub_usize(len, 1))?;
+    Ok(())
+}
+
 fn show_text(rt: &HostRuntime, text: &[u8]) -> io::Result<()> {
-    let read = text::read_soc(text);
-    if read.refusal.number != 0 {
-        print_line(
-            rt,
-            REFUSED,
-            read.refusal.number as u64,
-            read.refusal.line as u64,
-            0,
-            0,
-        )?;
-        return Ok(());
+    match text::read_soc(text) {
+        Ok(s) => {
+            show_written(rt, s)?;
+            show_form(rt, text)
+        }
+        Err(r) => print_line(rt, REFUSED, number(r.fault), r.line as u64, 0, 0),
     }
-    print_soc(rt, read.soc)?;
-    let len = show_lent(rt, read.soc, 65536)?;
-    show_lent(rt, read.soc, len)?;
-    show_lent(rt, read.soc, std::num::wrapping_sub_usize(len, 1))?;
-    show_form(rt, text)
 }
 
 // The texts that the arguments name. The buffer has more bytes than a text may have.

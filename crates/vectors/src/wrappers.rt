@@ -1,5 +1,7 @@
 // Prints layouts and times (document 01, "The wrapper rule"; document 02, items 2, 5 and 8).
-use super::print::{CHAINS, INTERNAL, LAYOUT, SCANS, TIME, TIMES, WIRES, print_line, soc_in};
+use super::print::{
+    CHAINS, INTERNAL, LAYOUT, SCANS, TIME, TIMES, WIRES, number_of, print_line, soc_in,
+};
 use soc::Soc;
 use std::io;
 use units::{CaptureCycles, Wires};
@@ -32,34 +34,31 @@ pub(crate) fn show_layout(
     capture: u32,
 ) -> io::Result<()> {
     let c = CaptureCycles(capture);
-    let l = wrapper::layout(soc_in(rt, i)?, module, test, Wires(width), c);
+    let laid = wrapper::layout(soc_in(rt, i)?, module, test, Wires(width), c);
     print_line(
         rt,
         LAYOUT,
         module as u64,
         test as u64,
         width as u64,
-        l.refusal.number as u64,
+        number_of(&laid),
     )?;
-    if l.refusal.number == 0 {
+    if let Ok(l) = laid {
         print_line(rt, SCANS, l.si, l.so, l.cycles.0, 0)?;
         print_layout(rt, l)?;
     }
     Ok(())
 }
 
+// Where a time is refused, 0 is printed in its place.
 fn show_time(rt: &HostRuntime, s: Soc, module: u32, width: u32, capture: u32) -> io::Result<()> {
-    let t = wrapper::layout(s, module, 1, Wires(width), CaptureCycles(capture));
-    let m = wrapper::module_time(s, module, Wires(width), CaptureCycles(capture));
-    print_line(
-        rt,
-        TIME,
-        width as u64,
-        m.refusal.number as u64,
-        t.cycles.0,
-        m.cycles.0,
-    )?;
-    print_line(rt, WIRES, m.wires.0 as u64, 0, 0, 0)
+    let (w, c) = (Wires(width), CaptureCycles(capture));
+    let test = wrapper::layout(s, module, 1, w, c).map_or(0, |l| l.cycles.0);
+    let best = wrapper::module_time(s, module, w, c);
+    let refused = number_of(&best);
+    let (cycles, wires) = best.map_or((0, 0), |m| (m.cycles.0, m.wires.0));
+    print_line(rt, TIME, width as u64, refused, test, cycles)?;
+    print_line(rt, WIRES, wires as u64, 0, 0, 0)
 }
 
 // The times of a module of the text that is argument i, at some widths.

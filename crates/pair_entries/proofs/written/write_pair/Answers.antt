@@ -1,6 +1,6 @@
 -- `pair_entries::written::write_pair` meets its contract: the pair is read first, and what is refused of it leaves the buffer as it was.
 -- Assumes nothing.
-use Rattle.text_writer.specs.WrittenSoc.{write_answer, write_leaves}
+use Rattle.text_writer.specs.WrittenSoc.{write_answer}
 use Rattle.pair_entries.specs.WrittenPair.{write_pair, leaves_of, write_pair_leaves}
 use Rattle.pair_entries.proofs.EntryLaws.{leaves, says}
 use Rattle.pair_entries.proofs.written.write_pair.Goals as goal
