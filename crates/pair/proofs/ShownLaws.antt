@@ -1,6 +1,6 @@
 -- Laws of the lines of a module of a pair: which answer there is, and that the part lies in the text that it is of. Assumes nothing.
 use Prim.Native.Nat.{ℕ, ◌≤◌, ◌<◌}
-use mathlib.Core.Path.{◌≡◌}
+use mathlib.Core.Path.{◌≡◌, refl}
 use mathlib.Core.Bool.{Bool, true, false, cond, true≢false, false≢true}
 use mathlib.Core.List.{List}
 use borrow.Author.Tests.{lt-ltb, le-ltb}
@@ -10,9 +10,10 @@ use Rattle.std.specs.Prelude.{Result, Ok, Err}
 use Rattle.units.proofs.TestLaws.{clash}
 use Rattle.units.specs.Refusals.{refused}
 use Rattle.units.specs.declared.Fault.TheVariants.{NotThere}
+use Rattle.fields.specs.Fields.{part}
 use Rattle.module_part.proofs.PartLaws.{Before, part-inside}
 use Rattle.pair.specs.Pair.{refused_pair, read_pair}
-use Rattle.pair.specs.Shown.{shown_in, shown_of, lines_shown}
+use Rattle.pair.specs.Shown.{shown_in, shown_of, lines_shown, part_of}
 use Rattle.pair.specs.declared.read.Meant.TheVariants as meant
 use Rattle.pair.specs.declared.read.PairRead.{PairRead}
 use Rattle.pair.specs.declared.read.PairRefusal.{PairRefusal}
@@ -50,3 +51,19 @@ module _ (base overlay : List ℕ) where
   pub lines_lie : (m : ℕ) (s : Shown) → Ok s ≡ lines_shown base overlay m → Lies base overlay s
   unfolding lines_shown
   lines_lie m s e = of_lies (read_pair base overlay) m e
+
+-- the text that a part is of
+module _ (base overlay : List ℕ) (s : Shown) (t : List ℕ) (is : t ≡ cond s.over overlay base) where
+  pub text_lies : Lies base overlay s → Before (length t) s.part
+  text_lies l = rw is (go s.over l.over l.under)
+    where
+      go : (o : Bool) → (o ≡ true → Before (length overlay) s.part) → (o ≡ false → Before (length base) s.part) → Before (length (cond o overlay base)) s.part
+      go true f g = f refl
+      go false f g = g refl
+
+  pub text_part : part t s.part.from s.part.to ≡ part_of s base overlay
+  text_part = rw is (go s.over)
+    where
+      go : (o : Bool) → part (cond o overlay base) s.part.from s.part.to ≡ cond o (part overlay s.part.from s.part.to) (part base s.part.from s.part.to)
+      go true = refl
+      go false = refl

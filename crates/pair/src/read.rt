@@ -134,7 +134,11 @@ fn meant_of<T>(meant: Meant, read: Result<T, Refusal>) -> Result<T, PairRefusal>
 }
 
 // What a pair says, and the marks of module m in the texts that have it. Each text is read once, the overlay where the base is not refused.
-pub(crate) fn read_pair_marked(base: &[u8], overlay: &[u8], m: u32) -> Result<PairMarked, PairRefusal>
+pub(crate) fn read_pair_marked(
+    base: &[u8],
+    overlay: &[u8],
+    m: u32,
+) -> Result<PairMarked, PairRefusal>
     ensures { PairReadMarked m base.now overlay.now result }
 {
     let b = meant_of(Meant::Base, read_soc_marked(base, m))?;
