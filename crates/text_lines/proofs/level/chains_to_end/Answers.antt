@@ -1,8 +1,8 @@
 -- `text_lines::level::chains_to_end` meets its contract. The definition goes on behind the number of chains and behind the colon as the code
 -- does. The number that was read is within its limit, as `lengths_to_end` requires. Assumes nothing.
-use mathlib.Core.Path.{◌≡◌, sym, ap, ◌∙◌}
-use Rattle.fields.proofs.PlaceAnswerLaws.{word-is, number_is, key-number-is}
-use Rattle.fields.proofs.ReaderLaws.{after-no, after-got, key-between-within, between-within}
+use mathlib.Core.Path.{sym, ap, ◌∙◌}
+use Rattle.fields.proofs.PlaceAnswerLaws.{word-is, key-number-is}
+use Rattle.fields.proofs.ReaderLaws.{after-no, after-got, key-between-within}
 use Rattle.fields.specs.Bytes.{bytes}
 use Rattle.soc.specs.Limits.{chains_max}
 use Rattle.text_lines.specs.Parts.{closed}

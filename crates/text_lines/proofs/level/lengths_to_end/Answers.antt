@@ -1,5 +1,5 @@
 -- `text_lines::level::lengths_to_end` meets its contract. The lengths are what `lengths_at` read, and the line ends behind them or not. Assumes nothing.
-use mathlib.Core.Path.{◌≡◌, sym, ap, ◌∙◌}
+use mathlib.Core.Path.{sym}
 use Rattle.text_lines.proofs.HeadLaws.{closed-no, closed-end, closed-left}
 use Rattle.text_lines.proofs.PartLaws.{exit}
 use Rattle.text_lines.proofs.LevelLaws.{lengths-no, lengths-got}
