@@ -12,7 +12,7 @@ use Rattle.fields.specs.Readers.{no, got, FieldsGot, Reader, after, give}
 use Rattle.fields.proofs.ReaderLaws.{key-between-within}
 use Rattle.soc.specs.Limits.{tests_max, position_max}
 use Rattle.text_lines.specs.Parts.{key_given, rule, is_next, closed, whole}
-use Rattle.text_lines.specs.Kinds.{SecondLine, Position, Tests, module_due, pair_rule, position_part, total_tests, tests_part, second_part, second_line, tests_line}
+use Rattle.text_lines.specs.Kinds.{Position, Tests, module_due, pair_rule, position_part, total_tests, tests_part, second_part, second_line, tests_line}
 
 -- what a line says was read, and nothing is left of it
 pub closed-got : {A : Type 0} (g : FieldsGot A) (a : A) → closed g ≡ Ok a → g ≡ got a []

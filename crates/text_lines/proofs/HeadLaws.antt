@@ -1,7 +1,6 @@
 -- Laws of whole lines, and of the lines with which a SOC text begins: what follows where fields are left and where none are, how a name is
 -- placed, and that the modules of a text are at most as many as there are places. Assumes nothing.
 use borrow.Author.Tests.{leb-true}
-use native.Mathlib.Omega.{arith}
 use Prim.Native.Nat.{ℕ, ◌≤◌}
 use mathlib.Core.Path.{◌≡◌, refl, ap, ◌∙◌}
 use mathlib.Core.Bool.{true, false, ◌&&◌}

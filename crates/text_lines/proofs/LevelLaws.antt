@@ -1,33 +1,28 @@
 -- Laws of a module's first line: places that are filled from the front, where those behind are spare; what a chain's length gives
--- from what it reads; and that a level and a block's number that were read are within their limits. Assumes nothing.
+-- from what it reads; that chains end the line; and that a level and a block's number that were read are within their limits. Assumes nothing.
 use native.Mathlib.Omega.{arith}
 use Prim.Native.Nat.{ℕ, ◌+◌, ◌-◌, ◌≤◌, ◌<◌}
 use mathlib.Core.Path.{◌≡◌, refl, sym, ap, ◌∙◌}
 use mathlib.Core.Bool.{Bool, true, false}
 use mathlib.Core.List.{List, [], ◌++◌}
-use lib.ListN.{length, take, drop, set, replicate, length-replicate, replicate-append-replicate, take-append-drop}
-use lib.Seq.{length-take-le, drop-drop, drop_at, drop-set-lt}
+use lib.ListN.{length, take, drop, set, replicate, take-append-drop}
+use lib.Seq.{length-take-le, drop-drop, drop-set-lt}
+use Rattle.std.proofs.lemmas.List.{drop-replicate}
 use Rattle.units.proofs.TestLaws.{clash}
 use borrow.Author.Tests.{leb-true}
 use lib.Dec.{leb}
 use Rattle.std.specs.Prelude.{Ok}
 use Rattle.units.specs.declared.Fault.{Fault}
 use Rattle.units.specs.declared.FlipFlops.{FlipFlops}
-use Rattle.fields.specs.Readers.{Got, Reads, FieldsGot, no, got, after, give, each, between}
+use Rattle.fields.specs.Readers.{Got, Reads, FieldsGot, no, got, after, give, each, word, between}
 use Rattle.fields.specs.Bytes.{bytes}
 use Rattle.fields.proofs.ReaderLaws.{after-no, after-got, key-between-within}
 use Rattle.soc.specs.Limits.{modules_max, level_max, chains_max, length_max}
 use Rattle.units.specs.Places.{padded}
 use Rattle.soc.specs.Record.{flip_flops}
-use Rattle.text_lines.specs.Parts.{rule, whole}
-use Rattle.text_lines.specs.Kinds.{Terminals, Shape, BlockStart, level, chain_length, lengths, lengths_part, block_number, block_line}
+use Rattle.text_lines.specs.Parts.{keyed, rule, whole}
+use Rattle.text_lines.specs.Kinds.{Terminals, Chains, Shape, BlockStart, level, chain_length, lengths, chains, lengths_part, chains_part, block_number, block_line}
 use Rattle.text_lines.proofs.BoundLaws.{closed-got}
-
-module _ {A : Type 0} (n : ℕ) (z : A) where
-  drop-replicate : (m : ℕ) → m ≤ n → drop m (replicate n z) ≡ replicate (n - m) z
-  drop-replicate m h =
-      let e : n ≡ m + (n - m) = omega arith in
-      ap (λ k. drop m (replicate k z)) e ∙ ap (drop m) (sym (replicate-append-replicate m (n - m) z)) ∙ drop_at (replicate m z) (replicate (n - m) z) m (length-replicate m z)
 
 module _ {A : Type 0} (n : ℕ) (z : A) (xs : List A) (i : ℕ) (spare : drop i xs ≡ replicate (n - i) z) where
   -- those behind spare places are spare
@@ -35,7 +30,7 @@ module _ {A : Type 0} (n : ℕ) (z : A) (xs : List A) (i : ℕ) (spare : drop i 
   spare-behind k h m =
       let e : k ≡ i + (k - i) = omega arith in
       let f : n - i - (k - i) ≡ n - k = omega arith in
-      ap (λ j. drop j xs) e ∙ sym (drop-drop (k - i) i xs) ∙ ap (drop (k - i)) spare ∙ drop-replicate (n - i) z (k - i) (omega arith) ∙ rw f
+      ap (λ j. drop j xs) e ∙ sym (drop-drop (k - i) i xs) ∙ ap (drop (k - i)) spare ∙ drop-replicate (k - i) (n - i) z ∙ rw f
 
   -- the first spare place is filled
   pub spare-set : (v : A) → i < n → drop (i + 1) (set xs i v) ≡ replicate (n - (i + 1)) z
@@ -58,26 +53,33 @@ module _ (fs : List (List ℕ)) where
   unfolding chain_length
   chain_got n gs e = after-got (between 1 length_max fs) _ n gs e
 
--- the lengths of the chains, as they stand in what the line says
-module _ (s v : ℕ) (t : Terminals) (fs : List (List ℕ)) where
-  pub lengths-no : (c : Fault) → lengths s fs ≡ no c → lengths_part s v t fs ≡ no c
-  unfolding lengths lengths_part after
-  lengths-no c h = go (each s (λ _. chain_length) 0 fs) h
-    where
-      go : (g : FieldsGot (List FlipFlops)) → after g (λ xs. give (padded chains_max (flip_flops 0) xs)) ≡ no c
-          → after {B = Shape} g (λ xs. give (record { level = v; terminals = t; chains = record { count = s; lengths = padded chains_max (flip_flops 0) xs } })) ≡ no c
-      go (no d) h = let k : d ≡ c = cc in ap no k
-      go (got xs gs) h = clash cc
+-- the chains, as they stand in what the line says
+module _ (v : ℕ) (t : Terminals) where
+  shaped : Chains → Shape
+  shaped c = record { level = v; terminals = t; chains = c }
 
-  pub lengths-got : (xs : List FlipFlops) (gs : List (List ℕ)) → lengths s fs ≡ got xs gs
-      → lengths_part s v t fs ≡ got (record { level = v; terminals = t; chains = record { count = s; lengths = xs } }) gs
-  unfolding lengths lengths_part after
-  lengths-got xs gs h = go (each s (λ _. chain_length) 0 fs) h
+  lengths-end : (s : ℕ) (fs : List (List ℕ)) → lengths_part s v t fs ≡ after (after (lengths s fs) (λ xs. give (record { count = s; lengths = xs }))) (λ c. give (shaped c))
+  unfolding lengths lengths_part shaped after
+  lengths-end s fs = go (each s (λ _. chain_length) 0 fs)
     where
-      go : (g : FieldsGot (List FlipFlops)) → after g (λ xs. give (padded chains_max (flip_flops 0) xs)) ≡ got xs gs
-          → after {B = Shape} g (λ xs. give (record { level = v; terminals = t; chains = record { count = s; lengths = padded chains_max (flip_flops 0) xs } })) ≡ got (record { level = v; terminals = t; chains = record { count = s; lengths = xs } }) gs
-      go (no d) h = clash cc
-      go (got ys hs) h = let k : padded chains_max (flip_flops 0) ys ≡ xs = cc in let l : hs ≡ gs = cc in rw (k, l) refl
+      go : (g : FieldsGot (List FlipFlops)) → after {B = Shape} g (λ xs. give (record { level = v; terminals = t; chains = record { count = s; lengths = padded chains_max (flip_flops 0) xs } }))
+          ≡ after {B = Shape} (after {B = Chains} (after g (λ xs. give (padded chains_max (flip_flops 0) xs))) (λ xs. give (record { count = s; lengths = xs }))) (λ c. give (record { level = v; terminals = t; chains = c }))
+      go (no c) = refl
+      go (got xs gs) = refl
+
+  pub chains-end : (fs : List (List ℕ)) → chains_part v t fs ≡ after (chains fs) (λ c. give (record { level = v; terminals = t; chains = c }))
+  unfolding chains chains_part shaped after
+  chains-end fs = go (keyed "ScanChains" 0 chains_max fs)
+    where
+      colon : (s : ℕ) (g : FieldsGot (Unit {0})) → after {B = Shape} g (λ _. lengths_part s v t)
+          ≡ after {B = Shape} (after {B = Chains} g (λ _ gs. after {B = Chains} (lengths s gs) (λ xs. give (record { count = s; lengths = xs })))) (λ c. give (record { level = v; terminals = t; chains = c }))
+      colon s (no c) = refl
+      colon s (got u gs) = lengths-end s gs
+
+      go : (g : FieldsGot ℕ) → after {B = Shape} g (λ s gs. after {B = Shape} (word ":" gs) (λ _. lengths_part s v t))
+          ≡ after {B = Shape} (after {B = Chains} g (λ s gs. after {B = Chains} (word ":" gs) (λ _ hs. after {B = Chains} (lengths s hs) (λ xs. give (record { count = s; lengths = xs }))))) (λ c. give (record { level = v; terminals = t; chains = c }))
+      go (no c) = refl
+      go (got s gs) = colon s (word ":" gs)
 
 -- what stands behind a value that two readings gave: the first gave one, with which the second went on
 record Came {E S A B : Type 0} (g : Got E S A) (k : A → Reads E S B) (b : B) (t : S) : Type 0 where

@@ -93,6 +93,14 @@ lengths s = do
   give (padded chains_max (flip_flops 0) fs)
 
 -- "`ScanChains` s `:` then s lengths"
+unfoldable pub chains : Reader Chains
+chains = do
+  s ← keyed "ScanChains" 0 chains_max
+  word ":"
+  xs ← lengths s
+  give (record { count = s; lengths = xs })
+
+-- the same at the end of a module's first line
 unfoldable pub lengths_part : ℕ → ℕ → Terminals → Reader Shape
 lengths_part s v t = do
   fs ← each s (λ _. chain_length) 0

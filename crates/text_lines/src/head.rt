@@ -47,6 +47,7 @@ pub fn key_name(l: &[u8], w: &[u8]) -> Result<Name, Fault>
 }
 
 // `SocName` name.
+#[tactic(auto, unfolding(crate::specs::Kinds::name_line))]
 pub fn name_line(l: &[u8]) -> Result<Name, Fault>
     ensures { result ≡ whole name_line (fields_of l.now) }
 {

@@ -3,7 +3,7 @@ ghost use Rattle.std.specs.Prelude.{◌≡◌, ◌≤◌, drop};
 ghost use Rattle.fields.specs.Fields.{fields_of};
 ghost use Rattle.fields.specs.Readers.{figure_is};
 ghost use Rattle.text_lines.specs.Parts.{part_is, whole};
-ghost use Rattle.text_lines.specs.Kinds.{level, terminals, lengths, chains_part, lengths_part, shape_part, level_line};
+ghost use Rattle.text_lines.specs.Kinds.{level, terminals, lengths, chains, shape_part, level_line};
 ghost use Rattle.soc.specs.Limits.{chains_max};
 
 use super::part::{key_due, line_end};
@@ -75,41 +75,29 @@ fn lengths_at(l: &[u8], from: usize, n: usize) -> Result<([FlipFlops; CHAINS_MAX
     Ok((lengths, at))
 }
 
-// The s lengths from a place on, to the line's end, behind the module's level and its terminals.
-fn lengths_to_end(
-    l: &[u8],
-    at: usize,
-    s: usize,
-    level: u32,
-    terminals: Terminals,
-) -> Result<Shape, Fault>
-    requires { s ≤ chains_max }
-    ensures { result ≡ whole (lengths_part s level terminals) (fields_of (drop at l.now)) }
-{
-    let (lengths, e) = lengths_at(l, at, s)?;
-    line_end(l, e)?;
-    Ok(Shape {
-        level,
-        terminals,
-        chains: Chains { count: s, lengths },
-    })
-}
-
-// `ScanChains` s `:` then s lengths, to the line's end.
-fn chains_to_end(l: &[u8], at: usize, level: u32, terminals: Terminals) -> Result<Shape, Fault>
-    ensures { result ≡ whole (chains_part level terminals) (fields_of (drop at l.now)) }
+// `ScanChains` s `:` then s lengths.
+fn chains_at(l: &[u8], at: usize) -> Result<(Chains, usize), Fault>
+    ensures { part_is l.now result ≡ chains (fields_of (drop at l.now)) }
 {
     let (s, e1) = key_figure(l, at, b"ScanChains", 0, CHAINS_MAX as u32)?;
     let e2 = fields::past_word(l, e1, b":")?;
-    lengths_to_end(l, e2, s as usize, level, terminals)
+    let count = s as usize;
+    let (lengths, e3) = lengths_at(l, e2, count)?;
+    Ok((Chains { count, lengths }, e3))
 }
 
-// A module's first line behind its level v, to the line's end.
-pub fn shape_to_end(l: &[u8], at: usize, v: u32) -> Result<Shape, Fault>
-    ensures { result ≡ whole (shape_part v) (fields_of (drop at l.now)) }
+// A module's first line behind its level, to the line's end.
+pub fn shape_to_end(l: &[u8], at: usize, level: u32) -> Result<Shape, Fault>
+    ensures { result ≡ whole (shape_part level) (fields_of (drop at l.now)) }
 {
-    let (terminals, e) = terminals_at(l, at)?;
-    chains_to_end(l, e, v, terminals)
+    let (terminals, e1) = terminals_at(l, at)?;
+    let (chains, e2) = chains_at(l, e1)?;
+    line_end(l, e2)?;
+    Ok(Shape {
+        level,
+        terminals,
+        chains,
+    })
 }
 
 // The line of module m, where the previous module has level last.

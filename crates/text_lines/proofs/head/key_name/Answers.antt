@@ -1,8 +1,8 @@
 -- `text_lines::head::key_name` meets its contract. What `next_field_lem` names is the first field behind the keyword, by the law of fields. Assumes nothing.
 use native.Mathlib.Omega.{arith}
-use mathlib.Core.Path.{◌≡◌, sym, ap, ◌∙◌}
-use Rattle.fields.proofs.PlaceAnswerLaws.{word-is, number_is, key-number-is}
-use Rattle.fields.proofs.ReaderLaws.{after-no, after-got, key-between-within, between-within}
+use mathlib.Core.Path.{sym, ap, ◌∙◌}
+use Rattle.fields.proofs.PlaceAnswerLaws.{word-is}
+use Rattle.fields.proofs.ReaderLaws.{after-no, after-got}
 use Rattle.fields.proofs.FieldLaws.{next_field_lem, next-nothing}
 use Rattle.text_lines.specs.Kinds.{name_part}
 use Rattle.text_lines.specs.Parts.{closed}

@@ -2,7 +2,7 @@
 -- code does. A name is at most as long as its places. Assumes nothing.
 use native.Mathlib.Omega.{arith}
 use Prim.Native.Nat.{◌-◌}
-use mathlib.Core.Path.{◌≡◌, sym, ap, ◌∙◌}
+use mathlib.Core.Path.{◌≡◌, sym, ◌∙◌}
 use mathlib.Core.Path.{refl}
 use lib.ListN.{length, length-take, length-drop}
 use Rattle.fields.specs.Fields.{part}

@@ -1,7 +1,7 @@
 -- `text_lines::head::options_at` meets its contract. The definition reads the two flags as the code does, and the line ends behind them or not.
 -- Assumes nothing.
-use mathlib.Core.Path.{◌≡◌, sym, ap, ◌∙◌}
-use Rattle.fields.proofs.ReaderLaws.{after-no, after-got, key-between-within, between-within}
+use mathlib.Core.Path.{sym, ◌∙◌}
+use Rattle.fields.proofs.ReaderLaws.{after-no, after-got}
 use Rattle.text_lines.proofs.HeadLaws.{closed-no, closed-end, closed-left}
 use Rattle.text_lines.proofs.PartLaws.{exit}
 use Rattle.text_lines.specs.Kinds.{options_part}

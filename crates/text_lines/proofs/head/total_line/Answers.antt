@@ -1,6 +1,6 @@
 -- `text_lines::head::total_line` meets its contract. The number is what `key_figure` read, and the line ends behind it or not. Assumes nothing.
-use mathlib.Core.Path.{◌≡◌, sym, ap, ◌∙◌}
-use Rattle.fields.proofs.PlaceAnswerLaws.{word-is, number_is, key-number-is}
+use mathlib.Core.Path.{sym}
+use Rattle.fields.proofs.PlaceAnswerLaws.{key-number-is}
 use Rattle.text_lines.proofs.HeadLaws.{closed-no, closed-end, closed-left}
 use Rattle.text_lines.proofs.PartLaws.{exit}
 use Rattle.text_lines.specs.Kinds.{total_line}

@@ -1,8 +1,8 @@
 -- `text_lines::level::level_line` meets its contract. The definition goes on behind the level as the code does. A level that was read is
 -- within its limit, so the cast keeps it. Assumes nothing.
 use native.Mathlib.Omega.{arith}
-use mathlib.Core.Path.{◌≡◌, sym, ap, ◌∙◌}
-use Rattle.fields.proofs.ReaderLaws.{after-no, after-got, key-between-within, between-within}
+use mathlib.Core.Path.{sym, ap, ◌∙◌}
+use Rattle.fields.proofs.ReaderLaws.{after-no, after-got}
 use Rattle.text_lines.specs.Parts.{closed}
 use Rattle.text_lines.proofs.HeadLaws.{closed-no}
 use Rattle.text_lines.proofs.PartLaws.{exit}

@@ -1,9 +1,9 @@
 -- `text_lines::level::level_part` meets its contract. The definition goes on behind the module's number, behind the level and with its rule as
 -- the code does. A level that was read is within its limit, so the cast keeps it. Assumes nothing.
 use native.Mathlib.Omega.{arith}
-use mathlib.Core.Path.{◌≡◌, sym, ap, ◌∙◌}
-use Rattle.fields.proofs.PlaceAnswerLaws.{word-is, number_is, key-number-is}
-use Rattle.fields.proofs.ReaderLaws.{after-no, after-got, key-between-within, between-within}
+use mathlib.Core.Path.{sym, ◌∙◌}
+use Rattle.fields.proofs.PlaceAnswerLaws.{key-number-is}
+use Rattle.fields.proofs.ReaderLaws.{after-no, after-got, key-between-within}
 use Rattle.fields.specs.Bytes.{bytes}
 use Rattle.soc.specs.Limits.{level_max}
 use Rattle.text_lines.proofs.PartLaws.{exit, rule-kept, rule_broken}

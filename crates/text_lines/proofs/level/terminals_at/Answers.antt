@@ -1,9 +1,9 @@
 -- `text_lines::level::terminals_at` meets its contract. The definition reads the three numbers as the code does. Each is within its limit, so
 -- the casts keep them. Assumes nothing.
 use native.Mathlib.Omega.{arith}
-use mathlib.Core.Path.{◌≡◌, sym, ap, ◌∙◌}
-use Rattle.fields.proofs.PlaceAnswerLaws.{word-is, number_is, key-number-is}
-use Rattle.fields.proofs.ReaderLaws.{after-no, after-got, key-between-within, between-within}
+use mathlib.Core.Path.{sym, ◌∙◌}
+use Rattle.fields.proofs.PlaceAnswerLaws.{key-number-is}
+use Rattle.fields.proofs.ReaderLaws.{after-no, after-got, key-between-within}
 use Rattle.fields.specs.Bytes.{bytes}
 use Rattle.soc.specs.Limits.{terminals_max}
 use Rattle.text_lines.proofs.PartLaws.{exit}

@@ -1,7 +1,7 @@
 -- `text_lines::part::due_at` meets its contract. What `next_field_lem` names is the first field, by the law of fields; its number is cut at a cap that
 -- is over the number due, so that the test on the cut number is the one on the number. Assumes nothing.
 use native.Mathlib.Omega.{arith}
-use mathlib.Core.Path.{◌≡◌, sym, ap, ◌∙◌}
+use mathlib.Core.Path.{sym, ap, ◌∙◌}
 use Rattle.fields.proofs.FieldLaws.{FieldIs, next_field_lem, next-nothing}
 use Rattle.text_lines.specs.Parts.{due}
 use Rattle.text_lines.proofs.PartLaws.{due_bad, due-got, due_other}

@@ -1,6 +1,6 @@
 -- `text_lines::part::flag_at` meets its contract: a flag is the keyword `0` or the keyword `1`. Assumes nothing.
-use mathlib.Core.Path.{◌≡◌, sym, ap, ◌∙◌}
-use Rattle.fields.proofs.PlaceAnswerLaws.{word-is, number_is, key-number-is}
+use mathlib.Core.Path.{sym}
+use Rattle.fields.proofs.PlaceAnswerLaws.{word-is}
 use Rattle.text_lines.proofs.PartLaws.{exit, flag-0, flag-1, flag-no}
 use Rattle.text_lines.proofs.part.flag_at.Goals as goal
 

@@ -3,9 +3,9 @@
 use native.Mathlib.Omega.{arith}
 use Prim.Native.Nat.{◌<◌}
 use lib.IntN.{pos}
-use mathlib.Core.Path.{◌≡◌, sym, ap, ◌∙◌}
-use Rattle.fields.proofs.PlaceAnswerLaws.{word-is, number_is, key-number-is}
-use Rattle.fields.proofs.ReaderLaws.{after-no, after-got, key-between-within, between-within}
+use mathlib.Core.Path.{sym, ap, ◌∙◌}
+use Rattle.fields.proofs.PlaceAnswerLaws.{word-is, number_is}
+use Rattle.fields.proofs.ReaderLaws.{between-within}
 use Rattle.text_lines.proofs.PartLaws.{exit, signed, given-word, given-figure}
 use Rattle.soc.proofs.FigureLaws.{figure_back}
 use Rattle.text_lines.proofs.part.given_at.Goals as goal

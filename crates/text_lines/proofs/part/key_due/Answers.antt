@@ -1,7 +1,7 @@
 -- `text_lines::part::key_due` meets its contract. The definition goes on behind the keyword as the code does. Assumes nothing.
-use mathlib.Core.Path.{◌≡◌, sym, ap, ◌∙◌}
-use Rattle.fields.proofs.PlaceAnswerLaws.{word-is, number_is, key-number-is}
-use Rattle.fields.proofs.ReaderLaws.{after-no, after-got, key-between-within, between-within}
+use mathlib.Core.Path.{sym, ◌∙◌}
+use Rattle.fields.proofs.PlaceAnswerLaws.{word-is}
+use Rattle.fields.proofs.ReaderLaws.{after-no, after-got}
 use Rattle.text_lines.proofs.PartLaws.{exit}
 use Rattle.text_lines.proofs.part.key_due.Goals as goal
 

@@ -1,7 +1,7 @@
 -- `text_lines::second::position_to_end` meets its contract. The definition goes on behind each figure as the code does: to the rule for the pair,
 -- and then the line must end. Assumes nothing.
-use mathlib.Core.Path.{◌≡◌, sym, ap, ◌∙◌}
-use Rattle.fields.proofs.ReaderLaws.{after-no, after-got, key-between-within, between-within}
+use mathlib.Core.Path.{sym, ◌∙◌}
+use Rattle.fields.proofs.ReaderLaws.{after-no, after-got}
 use Rattle.text_lines.proofs.HeadLaws.{closed-no, closed-end, closed-left}
 use borrow.Author.Rules.{rules}
 use mir.Syntax.{w32}

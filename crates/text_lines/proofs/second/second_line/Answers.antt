@@ -1,6 +1,6 @@
 -- `text_lines::second::second_line` meets its contract. The definition goes on behind the module's number as the code does. Assumes nothing.
-use mathlib.Core.Path.{◌≡◌, sym, ap, ◌∙◌}
-use Rattle.fields.proofs.ReaderLaws.{after-no, after-got, key-between-within, between-within}
+use mathlib.Core.Path.{sym, ap, ◌∙◌}
+use Rattle.fields.proofs.ReaderLaws.{after-no, after-got}
 use Rattle.text_lines.specs.Parts.{closed}
 use Rattle.text_lines.proofs.HeadLaws.{closed-no}
 use Rattle.text_lines.proofs.PartLaws.{exit}

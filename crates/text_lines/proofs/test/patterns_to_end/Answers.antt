@@ -1,9 +1,9 @@
 -- `text_lines::test::patterns_to_end` meets its contract. The definition goes on behind the patterns and behind the power as the code does, and
 -- then the line must end; the patterns are within their limits, so that they fit. Assumes nothing.
 use native.Mathlib.Omega.{arith}
-use mathlib.Core.Path.{◌≡◌, sym, ap, ◌∙◌}
-use Rattle.fields.proofs.PlaceAnswerLaws.{word-is, number_is, key-number-is}
-use Rattle.fields.proofs.ReaderLaws.{after-no, after-got, key-between-within, between-within}
+use mathlib.Core.Path.{sym, ◌∙◌}
+use Rattle.fields.proofs.PlaceAnswerLaws.{key-number-is}
+use Rattle.fields.proofs.ReaderLaws.{after-no, after-got, key-between-within}
 use Rattle.text_lines.proofs.HeadLaws.{closed-no, closed-end, closed-left}
 use Rattle.text_lines.proofs.PartLaws.{exit}
 use borrow.Author.Rules.{rules}

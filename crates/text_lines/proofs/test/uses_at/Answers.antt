@@ -1,6 +1,6 @@
 -- `text_lines::test::uses_at` meets its contract. The definition goes on behind each flag and with the rule on pins as the code does. Assumes nothing.
-use mathlib.Core.Path.{◌≡◌, sym, ap, ◌∙◌}
-use Rattle.fields.proofs.ReaderLaws.{after-no, after-got, key-between-within, between-within}
+use mathlib.Core.Path.{sym, ◌∙◌}
+use Rattle.fields.proofs.ReaderLaws.{after-no, after-got}
 use Rattle.text_lines.proofs.PartLaws.{exit, pins-kept, pins_broken}
 use Rattle.text_lines.specs.Kinds.{uses}
 use Rattle.text_lines.proofs.test.uses_at.Goals as goal
