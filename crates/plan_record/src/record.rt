@@ -60,7 +60,7 @@ pub fn no_placed() -> PlacedModule
     }
 }
 
-// What a refusal answers in the place of a plan.
+// The plan that says nothing: of bytes that are no record, and where no plan is known.
 pub fn no_plan() -> BusPlan
     ensures { result ≡ no_plan }
 {

@@ -91,7 +91,7 @@ pub fn no_module() -> Module
     }
 }
 
-// What a refusal answers in the place of a record.
+// The record that says nothing: of bytes that are no record.
 pub fn no_soc() -> Soc
     ensures { result ≡ no_soc }
 {

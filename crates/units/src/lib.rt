@@ -1,6 +1,6 @@
 // Wires, flip-flops and cycles: three counts that the papers keep apart, each a type of its own, so that one cannot be passed where
-// another is wanted. Beside them the capture cycles of a test (document 02, item 5). And a refusal: its number in document 01's table,
-// and its line.
+// another is wanted. Beside them the capture cycles of a test (document 02, item 5). And a refusal: its fault, which has a number in
+// document 01's table, and its line.
 #![tactic(auto)]
 
 ghost use Rattle.std.specs.Prelude.{◌≡◌};
