@@ -2,6 +2,13 @@
 ghost use Rattle.std.specs.Prelude.{◌≡◌, drop, get_or, ◌+◌};
 ghost use Rattle.fields.specs.Bytes.{allowed, bad_byte, same_bytes, lf_next};
 
+// What stands at and behind a place. A part and no `skip`, which would go past the bytes before it one by one.
+pub(crate) fn behind(s: &[u8], at: usize) -> &[u8]
+    ensures { result.now ≡ drop at s.now }
+{
+    &s[at.min(s.len())..]
+}
+
 fn is_lf_at(text: &[u8], at: usize) -> bool
     ensures { result ≡ lf_next (drop at text.now) }
 {

@@ -2,21 +2,17 @@
 use Prim.Native.Nat.{◌+◌}
 use mathlib.Core.Path.{ap, ◌∙◌}
 use mathlib.Core.Bool.{not}
-use lib.ListN.{drop}
 use Rattle.std.proofs.Common.{rules, tests}
-use Rattle.std.specs.Iterator.Adapters.{skip_count, take_while_source}
 use Rattle.std.proofs.lemmas.Iterator.{YieldsList-from_slice}
-use Rattle.std.proofs.lemmas.Iterator.Adapters.{YieldsList-from_skip}
 use Rattle.std.proofs.lemmas.Iterator.Consumers.{count_from_yields_List}
 use Rattle.std.proofs.lemmas.Iterator.Search.{YieldsList-from_take_while}
 use Rattle.std.proofs.lemmas.List.Folds.{length-prefix_len}
-use Rattle.fields.specs.Fields.{gap}
+use Rattle.fields.specs.Fields.{gap, run}
 use Rattle.fields.proofs.CountLaws.{run-counts, count-is}
 use Rattle.fields.proofs.field.past_run.Goals as goal
 
 pub returns : goal.returns
 returns c =
-    let rest = drop c.args.from c.args.l.now in
-    let yields = YieldsList-from_skip {s = take_while_source c.take_while.result} c.args.from (YieldsList-from_slice c.args.l.now (cc)) (ap skip_count c.take_while.ensures.source ∙ c.skip.ensures.count) in
+    let yields = YieldsList-from_slice c.behind.result.now (cc) in
     let count = count_from_yields_List c.take_while.result _ c.count.ensures.ran (YieldsList-from_take_while _ (λ b. not (gap b)) yields c.take_while.ensures.closure c.take_while.ensures.done (λ x b q k. search (rules, tests))) in
-    ap (λ n. c.args.from + n) (count ∙ length-prefix_len (λ b. not (gap b)) rest ∙ count-is _ _ run-counts rest)
+    ap (λ n. c.args.from + n) (count ∙ length-prefix_len (λ b. not (gap b)) c.behind.result.now ∙ count-is _ _ run-counts c.behind.result.now ∙ ap run c.behind.ensures)
