@@ -42,6 +42,7 @@ pub fn bad_byte(text: &[u8]) -> Option<usize>
 }
 
 // The library's equality, under the name that the definition has.
+#[tactic(auto, using(crate::proofs::ByteLaws::same_is, crate::proofs::ByteLaws::same_front))]
 pub fn same_bytes(a: &[u8], b: &[u8]) -> bool
     ensures { result ≡ same_bytes a.now b.now }
 {

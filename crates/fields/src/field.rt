@@ -42,6 +42,7 @@ pub fn next_field(l: &[u8], from: usize) -> Option<(usize, usize)>
 }
 
 // Whether nothing but spaces and tabs stands at or behind a place.
+#[tactic(auto, using(crate::proofs::FieldLaws::none_left))]
 pub fn is_blank(l: &[u8], from: usize) -> bool
     ensures { result ≡ blank (fields_of (drop from l.now)) }
 {
