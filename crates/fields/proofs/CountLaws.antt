@@ -1,12 +1,14 @@
 -- Laws of a count of the elements at the front of a list that pass a test, which is the length of the longest such front. `gaps`, `run` and
 -- `until_lf` are such counts.
-use Prim.Native.Nat.{ℕ, suc, ◌+◌, ◌≤◌}
+use Prim.Native.Nat.{ℕ, suc, ◌+◌, ◌≤◌, ◌<◌}
 use mathlib.Core.Path.{◌≡◌, refl, sym, subst}
 use mathlib.Core.Bool.{Bool, true, false, cond, not}
 use mathlib.Core.List.{List, [], ◌∷◌}
+use native.Mathlib.Numerals.{add-one}
 use native.Mathlib.Omega.{arith}
-use lib.ListN.{length}
+use lib.ListN.{length, get_or, drop, drop_of_length-le}
 use lib.Dec.{eqb}
+use lib.Seq.{drop-cons}
 use Rattle.std.specs.List.{prefix_len}
 use Rattle.std.proofs.lemmas.List.Sums.{prefix_len-le-length}
 use Rattle.fields.specs.Bytes.{lf}
@@ -43,6 +45,16 @@ module _ (f : List ℕ → ℕ) (p : ℕ → Bool) (k : Counts f p) where
       go : (t : Bool) → cond t (1 + prefix_len p l) 0 ≡ cond t (suc (prefix_len p l)) 0
       go true = omega arith
       go false = refl
+
+  -- a place before a byte that passes, before one that doesn't, and behind the end
+  pub count_on : (s : List ℕ) (i : ℕ) → i < length s → p (get_or s i 0) ≡ true → i + f (drop i s) ≡ (i + 1) + f (drop (i + 1) s)
+  count_on s i h e = rw (add-one, drop-cons s i 0, k.more) (simp e (omega arith))
+
+  pub count_stop : (s : List ℕ) (i : ℕ) → i < length s → p (get_or s i 0) ≡ false → i + f (drop i s) ≡ i
+  count_stop s i h e = rw (drop-cons s i 0, k.more) (simp e (omega arith))
+
+  pub count-end : (s : List ℕ) (i : ℕ) → length s ≤ i → i + f (drop i s) ≡ i
+  count-end s i h = rw (drop_of_length-le s h, k.none) (omega arith)
 
   pub count_le : (l : List ℕ) → f l ≤ length l
   count_le l = subst (λ n. n ≤ length l) (count-is l) (prefix_len-le-length p l)

@@ -10,8 +10,9 @@ use lib.ListN.{length, take, drop, length-drop, drop_of_length-le}
 use lib.Dec.{ltb}
 use lib.Seq.{drop-drop}
 use Rattle.units.proofs.TestLaws.{clash}
-use Rattle.fields.specs.Fields.{gap, begins, on_field, fields_of, part, gaps, run, run_end, field_from, next_field, field_end}
+use Rattle.fields.specs.Fields.{gap, begins, on_field, fields_of, part, gaps, run, run_end, field_from, next_field, field_end, blank}
 use Rattle.std.specs.Prelude.{Option, None, Some}
+use Rattle.std.specs.Option.{is_none}
 use Rattle.fields.proofs.CountLaws.{run-counts, count_le}
 
 -- the first field at or behind at is the part of s from a to e
@@ -109,3 +110,9 @@ fields-behind s at f fs h = go (next_field s at) refl
     go : (n : Option (ℕ × ℕ)) → next_field s at ≡ n → fs ≡ fields_of (drop (field_end s at) s)
     go (Some (a, e)) q = let k : part s a e ∷ fields_of (drop e s) ≡ f ∷ fs = sym (next_field_lem s at a e q).is ∙ h in rw (next-end s at a e q) (cc)
     go None q = let k = next-nothing s at q in clash cc
+
+-- there is a field where `next_field` names one, and none where it names none
+pub none_left : (s : List ℕ) (at : ℕ) (n : Option (ℕ × ℕ)) (t : Bool) → n ≡ next_field s at → t ≡ is_none n → t ≡ blank (fields_of (drop at s))
+unfolding blank
+none_left s at None t q h = h ∙ sym (ap blank (next-nothing s at (sym q)))
+none_left s at (Some (a, e)) t q h = h ∙ sym (ap blank (next_field_lem s at a e (sym q)).is)

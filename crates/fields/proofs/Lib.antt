@@ -1,5 +1,6 @@
 pub mod PlaceAnswerLaws
 pub mod BackLaws
+pub mod ByteLaws
 pub mod CountLaws
 pub mod FieldLaws
 pub mod FormLaws

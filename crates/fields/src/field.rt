@@ -2,8 +2,6 @@
 ghost use Rattle.std.specs.Prelude.{◌≡◌, ◌+◌, drop};
 ghost use Rattle.fields.specs.Fields.{gap, gaps, run, next_field, fields_of, blank};
 
-use super::byte::behind;
-
 fn is_gap(b: u8) -> bool
     ensures { result ≡ gap b }
 {
@@ -13,13 +11,23 @@ fn is_gap(b: u8) -> bool
 fn past_gaps(l: &[u8], from: usize) -> usize
     ensures { result ≡ from + gaps (drop from l.now) }
 {
-    from + behind(l, from).iter().take_while(|b| is_gap(**b)).count()
+    for i in from..l.len() {
+        if !is_gap(l[i]) {
+            return i;
+        }
+    }
+    from.max(l.len())
 }
 
 fn past_run(l: &[u8], from: usize) -> usize
     ensures { result ≡ from + run (drop from l.now) }
 {
-    from + behind(l, from).iter().take_while(|b| !is_gap(**b)).count()
+    for i in from..l.len() {
+        if is_gap(l[i]) {
+            return i;
+        }
+    }
+    from.max(l.len())
 }
 
 // The next field: where it begins and where it ends.
@@ -34,6 +42,7 @@ pub fn next_field(l: &[u8], from: usize) -> Option<(usize, usize)>
 }
 
 // Whether nothing but spaces and tabs stands at or behind a place.
+#[tactic(auto, using(crate::proofs::FieldLaws::none_left))]
 pub fn is_blank(l: &[u8], from: usize) -> bool
     ensures { result ≡ blank (fields_of (drop from l.now)) }
 {

@@ -2,8 +2,6 @@
 ghost use Rattle.std.specs.Prelude.{◌≡◌, ◌+◌, ◌<◌, length, drop};
 ghost use Rattle.fields.specs.Lines.{until_lf, line_to, line_at, NextLineIs};
 
-use super::byte::behind;
-
 // A line's place without its end, and where the next line begins.
 #[derive(Clone, Copy)]
 pub struct OneLine {
@@ -23,7 +21,12 @@ pub struct NextLine {
 fn past_line(text: &[u8], from: usize) -> usize
     ensures { result ≡ from + until_lf (drop from text.now) }
 {
-    from + behind(text, from).iter().take_while(|b| **b != 10).count()
+    for i in from..text.len() {
+        if text[i] == 10 {
+            return i;
+        }
+    }
+    from.max(text.len())
 }
 
 // Where the line from a place, whose LF is at e, ends: before a CR that stands before the LF.

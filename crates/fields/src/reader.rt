@@ -10,10 +10,10 @@ pub fn past_word(l: &[u8], at: usize, w: &[u8]) -> Result<usize, Fault>
     ensures { result ≡ word_answer l.now at w.now }
 {
     let Some((from, to)) = super::next_field(l, at) else {
-        return Err(Fault::WrongForm);
+        return Err(Fault::WrongForm); // no field is left
     };
     if !super::same_bytes(&l[from..to], w) {
-        return Err(Fault::WrongForm);
+        return Err(Fault::WrongForm); // another keyword
     }
     Ok(to)
 }

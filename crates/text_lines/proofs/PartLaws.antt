@@ -1,15 +1,13 @@
--- Laws of the parts of a line: what a field's number, which an answer has cut at a cap, says of a number that is due, below the cap; when a
--- rule is kept; what a `?` hands on; and what keywords that are there or not say of a flag and of a figure that may be not given. Assumes
--- nothing.
-use Prim.Native.Nat.{ℕ, ◌<◌, min}
+-- Laws of the parts of a line: what a field's number, which an answer has cut at a cap, says of a number that is due and of a figure that
+-- may be not given, both below the cap; when a rule is kept; what a `?` hands on; and whether a keyword is next. Assumes nothing.
+use Prim.Native.Nat.{ℕ, ◌≤◌, ◌<◌, min}
 use mathlib.Core.Path.{◌≡◌, refl, sym, ap, ◌∙◌}
 use mathlib.Core.Bool.{Bool, true, false, cond}
 use mathlib.Core.List.{List, [], ◌∷◌}
 use mathlib.Core.Option.{Option, some, none}
 use native.Mathlib.Omega.{arith}
-use borrow.Author.Tests.{eq-eqb, ne_eqb, le-leb}
-use lib.Dec.{leb}
-use lib.IntN.{ℤ, pos}
+use borrow.Author.Tests.{eq-eqb, ne_eqb, le-leb, lt-leb}
+use lib.IntN.{pos}
 use Rattle.std.specs.Prelude as prelude
 use Rattle.std.specs.Prelude.{Result, Ok, Err}
 use Rattle.std.specs.Result.{IsErrAnd, is_ok}
@@ -17,11 +15,10 @@ use Rattle.std.proofs.lemmas.Result.{err_from_is_err_and}
 use Rattle.units.specs.declared.Fault.{Fault}
 use Rattle.units.specs.declared.Fault.TheVariants.{WrongForm, WrongFigure, BrokenRule, PlannedPins}
 use Rattle.units.proofs.TestLaws.{clash}
-use Rattle.fields.specs.Bytes.{bytes, same_bytes}
-use Rattle.fields.specs.Numbers.{cap, cut, decimal_of}
-use Rattle.fields.specs.Readers.{no, got, FieldsGot, bytes_due, within, between, past_is}
-use Rattle.soc.specs.Record.{not_given}
-use Rattle.text_lines.specs.Parts.{due_is, flag, given_is, or_not_given, rule, pins, is_next}
+use Rattle.fields.specs.Bytes.{same_bytes}
+use Rattle.fields.specs.Numbers.{cap, cut}
+use Rattle.fields.specs.Readers.{no, got, FieldsGot, bytes_due, past_is}
+use Rattle.text_lines.specs.Parts.{due_is, given_is, rule, pins, is_next}
 
 -- the field is no number, the number v, or where v is the cap, some number from there on
 module _ (n : ℕ) (fs : List (List ℕ)) where
@@ -44,6 +41,29 @@ module _ (n : ℕ) (fs : List (List ℕ)) where
   due_other v (some m) h k l =
       let q : min m cap ≡ v = cc in
       simp (ne_eqb m n (λ e. k (omega arith)))
+
+-- the same of a figure that may be not given
+module _ (high : ℕ) (fs : List (List ℕ)) where
+  pub given_bad : (o : Option ℕ) → cut o ≡ prelude.None → given_is high o fs ≡ no WrongFigure
+  unfolding given_is cut
+  given_bad none h = refl
+  given_bad (some m) h = clash cc
+
+  pub given-got : (v : ℕ) (o : Option ℕ) → cut o ≡ prelude.Some v → v ≤ high → high < cap → given_is high o fs ≡ got (pos v) fs
+  unfolding given_is cut
+  given-got v none h k l = clash cc
+  given-got v (some m) h k l =
+      let q : min m cap ≡ v = cc in
+      let e : m ≡ v = omega arith in
+      simp (e, le-leb v high k)
+
+  pub given_above : (v : ℕ) (o : Option ℕ) → cut o ≡ prelude.Some v → high < v → given_is high o fs ≡ no WrongFigure
+  unfolding given_is cut
+  given_above v none h k = clash cc
+  given_above v (some m) h k =
+      let q : min m cap ≡ v = cc in
+      let b : high < m = omega arith in
+      simp (lt-leb m high b)
 
 module _ (t : Bool) (fs : List (List ℕ)) where
   pub rule_broken : t ≡ false → rule t fs ≡ no BrokenRule
@@ -91,44 +111,3 @@ next-word l w [] (Ok e) h = clash cc
 next-word l w [] (Err c) h = refl
 next-word l w (f ∷ fs) (Ok e) h = sym (due-same w f fs _ _ (sym h)).0
 next-word l w (f ∷ fs) (Err c) h = sym (due-not w f fs _ (sym h)).0
-
--- a flag is the keyword `0`, or else the keyword `1`
-pub flag-0 : (fs gs : List (List ℕ)) → bytes_due (bytes "0") fs ≡ got tt gs → flag fs ≡ got false gs
-unfolding bytes_due flag
-flag-0 [] gs h = clash cc
-flag-0 (f ∷ fs) gs h = let k = due-same (bytes "0") f fs tt gs h in simp (k.0, k.1)
-
-pub flag-1 : (fs gs : List (List ℕ)) (c : Fault) → bytes_due (bytes "0") fs ≡ no c → bytes_due (bytes "1") fs ≡ got tt gs → flag fs ≡ got true gs
-unfolding bytes_due flag
-flag-1 [] gs c h k = clash cc
-flag-1 (f ∷ fs) gs c h k = let z = due-not (bytes "0") f fs c h in let o = due-same (bytes "1") f fs tt gs k in simp (z.0, o.0, o.1)
-
-pub flag-no : (fs : List (List ℕ)) (c d : Fault) → bytes_due (bytes "0") fs ≡ no c → bytes_due (bytes "1") fs ≡ no d → flag fs ≡ no d
-unfolding bytes_due flag
-flag-no [] c d h k = cc
-flag-no (f ∷ fs) c d h k = let z = due-not (bytes "0") f fs c h in let o = due-not (bytes "1") f fs d k in simp (z.0, o.0, o.1)
-
--- a figure that may be not given is the keyword `-1`, or else a number from 0 on
-abbrev pub signed : FieldsGot ℕ → FieldsGot ℤ
-signed (no c) = no c
-signed (got v fs) = got (pos v) fs
-
-module _ (high : ℕ) where
-  pub given-word : (fs gs : List (List ℕ)) → bytes_due (bytes "-1") fs ≡ got tt gs → or_not_given high fs ≡ got not_given gs
-  unfolding bytes_due or_not_given
-  given-word [] gs h = clash cc
-  given-word (f ∷ fs) gs h = let k = due-same (bytes "-1") f fs tt gs h in simp (k.0, k.1)
-
-  given-within : (o : Option ℕ) (fs : List (List ℕ)) → given_is high o fs ≡ signed (within 0 high o fs)
-  unfolding given_is within
-  given-within none fs = refl
-  given-within (some v) fs = rw (le-leb 0 v (omega arith)) (go (leb v high))
-    where
-      go : (t : Bool) → cond {A = FieldsGot ℤ} t (got (pos v) fs) (no WrongFigure) ≡ signed (cond {A = FieldsGot ℕ} t (got v fs) (no WrongFigure))
-      go true = refl
-      go false = refl
-
-  pub given-figure : (fs : List (List ℕ)) (c : Fault) → bytes_due (bytes "-1") fs ≡ no c → or_not_given high fs ≡ signed (between 0 high fs)
-  unfolding or_not_given between
-  given-figure [] c h = refl
-  given-figure (f ∷ fs) c h = simp (due-not (bytes "-1") f fs c h).0 (given-within (decimal_of f) fs)

@@ -32,11 +32,17 @@ pub fn key_due(l: &[u8], at: usize, w: &[u8], n: u32) -> Result<usize, Fault>
 fn flag_at(l: &[u8], at: usize) -> Result<(bool, usize), Fault>
     ensures { part_is l.now result ≡ flag (fields_of (drop at l.now)) }
 {
-    if let Ok(e) = fields::past_word(l, at, b"0") {
+    let Some((a, e)) = fields::next_field(l, at) else {
+        return Err(Fault::WrongForm);
+    };
+    let field = &l[a..e];
+    if fields::same_bytes(field, b"0") {
         return Ok((false, e));
     }
-    let e = fields::past_word(l, at, b"1")?;
-    Ok((true, e))
+    if fields::same_bytes(field, b"1") {
+        return Ok((true, e));
+    }
+    Err(Fault::WrongForm)
 }
 
 pub(crate) fn key_flag(l: &[u8], at: usize, w: &[u8]) -> Result<(bool, usize), Fault>
@@ -51,11 +57,17 @@ fn given_at(l: &[u8], at: usize, high: u32) -> Result<(i32, usize), Fault>
     requires { high ≤ 16777215 }
     ensures { part_is l.now result ≡ or_not_given high (fields_of (drop at l.now)) }
 {
-    if let Ok(e) = fields::past_word(l, at, b"-1") {
+    let Some((a, e)) = fields::next_field(l, at) else {
+        return Err(Fault::WrongForm);
+    };
+    let field = &l[a..e];
+    if fields::same_bytes(field, b"-1") {
         return Ok((NOT_GIVEN, e));
     }
-    let (v, e) = fields::figure_at(l, at, 0, high)?;
-    Ok((v as i32, e))
+    match fields::number_of(field) {
+        Some(v) if v <= high as u64 => Ok((v as i32, e)),
+        _ => Err(Fault::WrongFigure),
+    }
 }
 
 pub(crate) fn key_given(l: &[u8], at: usize, w: &[u8], high: u32) -> Result<(i32, usize), Fault>

@@ -1,17 +1,18 @@
--- `fields::field::past_gaps` meets its contract: it passes as many bytes as `gaps` counts. Assumes nothing.
-use Prim.Native.Nat.{◌+◌}
-use mathlib.Core.Path.{ap, ◌∙◌}
-use Rattle.std.proofs.Common.{rules, tests}
-use Rattle.std.proofs.lemmas.Iterator.{YieldsList-from_slice}
-use Rattle.std.proofs.lemmas.Iterator.Consumers.{count_from_yields_List}
-use Rattle.std.proofs.lemmas.Iterator.Search.{YieldsList-from_take_while}
-use Rattle.std.proofs.lemmas.List.Folds.{length-prefix_len}
+-- `fields::field::past_gaps` meets its contract: what its invariant (Invariants.antt) leaves to show. Assumes nothing.
+use native.Mathlib.Omega.{arith}
+use mathlib.Core.Path.{◌≡◌, refl, sym, ◌∙◌}
 use Rattle.fields.specs.Fields.{gap, gaps}
-use Rattle.fields.proofs.CountLaws.{gaps-counts, count-is}
+use Rattle.fields.proofs.CountLaws.{gaps-counts, count_on, count_stop, count-end}
 use Rattle.fields.proofs.field.past_gaps.Goals as goal
 
+pub loop-i-init : goal.loop-i-init
+loop-i-init c = (omega arith, refl)
+
+pub returns-then-not-is_gap : goal.returns-then-not-is_gap
+returns-then-not-is_gap c = sym (c.loop-i.invariant.1 ∙ count_stop gaps gap gaps-counts c.args.l.now c.loop-i.i (omega arith) (sym c.is_gap.ensures ∙ c.if-not-is_gap.true))
+
+pub loop-i-preserved : goal.loop-i-preserved
+loop-i-preserved c = (omega arith, c.loop-i.invariant.1 ∙ count_on gaps gap gaps-counts c.args.l.now c.loop-i.i (omega arith) (sym c.is_gap.ensures ∙ c.if-not-is_gap.false))
+
 pub returns : goal.returns
-returns c =
-    let yields = YieldsList-from_slice c.behind.result.now (cc) in
-    let count = count_from_yields_List c.take_while.result _ c.count.ensures.ran (YieldsList-from_take_while _ gap yields c.take_while.ensures.closure c.take_while.ensures.done (λ x b q k. search (rules, tests))) in
-    ap (λ n. c.args.from + n) (count ∙ length-prefix_len gap c.behind.result.now ∙ count-is _ _ gaps-counts c.behind.result.now ∙ ap gaps c.behind.ensures)
+returns c = let end : c.max.result ≡ c.loop-i.i = omega arith in end ∙ sym (c.loop-i.invariant.1 ∙ count-end gaps gap gaps-counts c.args.l.now c.loop-i.i (omega arith))

@@ -1,0 +1,10 @@
+-- `fields::field::past_run` meets its contract. The loop's invariant: `i` and the run behind it end where `from` and
+-- the run behind it do, and `i` is at most the end of what is gone over. Assumes nothing.
+use Prim.Native.Nat.{◌+◌, ◌≤◌, max}
+use mathlib.Core.Path.{◌≡◌}
+use lib.ListN.{length, drop}
+use Rattle.fields.specs.Fields.{run}
+use Rattle.fields.proofs.field.past_run.Given as goal
+
+abbrev pub invariant-loop-i : goal.invariant-loop-i
+invariant-loop-i l = (l.i ≤ max l.from (length l.l)) × (l.from + run (drop l.from l.l) ≡ l.i + run (drop l.i l.l))
