@@ -68,18 +68,22 @@ fn name_at(b: &[u8]) -> [u8; NAME_MAX]
     name
 }
 
-#[tactic(auto, unfolding(crate::specs::SocForm::soc_at))]
+// The modules are read into their places, since an array of them is 15 KiB, and each function that hands it on copies it.
 fn soc_at(b: &[u8]) -> Soc
     requires { soc_length ≤ length b.now }
     ensures { result ≡ soc_at b.now }
 {
+    let mut modules = [soc::no_module(); MODULES_MAX];
+    for i in 0..MODULES_MAX {
+        modules[i] = Module::read(b, MODULES_FROM + MODULE_BYTES * i);
+    }
     Soc {
         name_len: word_at(b, 0, 0) as usize,
         name: name_at(b),
         power: word_at(b, OPTIONS_FROM, 0) == 1,
         xy: word_at(b, OPTIONS_FROM, 1) == 1,
         module_count: word_at(b, OPTIONS_FROM, 2) as usize,
-        modules: read_each(b, MODULES_FROM),
+        modules,
     }
 }
 
@@ -110,9 +114,8 @@ fn are_soc_flags(b: &[u8]) -> bool
 pub fn soc_in(b: &[u8]) -> Soc
     ensures { result ≡ soc_in b.now }
 {
-    if b.len() == SOC_BYTES && are_soc_flags(b) {
-        soc_at(b)
-    } else {
-        soc::no_soc()
+    if b.len() != SOC_BYTES || !are_soc_flags(b) {
+        return soc::no_soc();
     }
+    soc_at(b)
 }

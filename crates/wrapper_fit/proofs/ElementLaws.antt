@@ -1,19 +1,41 @@
 -- Laws of the lengths of wrapper chains with elements in their places: how many chains there are and what they sum to, and that no chain
 -- passes the longest element while an empty one is left. Assumes nothing.
-use Prim.Native.Nat.{ℕ, zero, suc, ◌+◌, ◌≤◌, ◌<◌, max}
-use mathlib.Core.Path.{◌≡◌, refl, ap, ◌∙◌}
+use Prim.Native.Nat.{ℕ, zero, suc, ◌+◌, ◌-◌, ◌≤◌, ◌<◌, max}
+use mathlib.Core.Path.{◌≡◌, refl, sym, ap, ◌∙◌}
 use mathlib.Core.Bool.{Bool, true, false, cond}
 use mathlib.Core.List.{List, [], ◌∷◌}
 use native.Mathlib.Omega.{arith}
 use native.Mathlib.Numerals.{add-one}
-use lib.Dec.{leb, eqb}
+use lib.Dec.{leb, ltb, eqb}
 use lib.ListN.{length, get_or, take, drop, set, replicate, drop_of_length-le}
 use lib.Seq.{drop-cons, get_or-set_same}
-use borrow.Author.Tests.{leb-true, leb-false, eqb-true}
-use Rattle.wrapper_fit.specs.Fit.{longest, total, goes, placed}
-use Rattle.wrapper_fit.specs.Elements.{with_chains}
+use borrow.Author.Tests.{leb-true, leb-false, eqb-true, ltb-true, ltb-false, lt-ltb, le-ltb}
+use Rattle.wrapper_fit.specs.Fit.{longest, total, better, goes, placed}
+use Rattle.wrapper_fit.specs.Elements.{rank, with_chains}
 use Rattle.wrapper_fit.proofs.FitLaws.{longest-at, longest-set, set-longest, zeros-longest, goes-below, goes_shortest, none-fits}
 use Rattle.wrapper_fit.proofs.FitLaws.{placed-length, total-placed}
+
+-- of two places the better is that of the lower rank
+same_test : (a b c d : ℕ) → (a < b → c < d) → (b ≤ a → d ≤ c) → ltb a b ≡ ltb c d
+same_test a b c d f g = go (ltb a b) refl
+  where
+    go : (t : Bool) → ltb a b ≡ t → ltb a b ≡ ltb c d
+    go true e = e ∙ sym (lt-ltb c d (f (ltb-true a b e)))
+    go false e = e ∙ sym (le-ltb c d (g (ltb-false a b e)))
+
+pub better-rank : (n m x y : ℕ) → better n m x y ≡ ltb (rank n m y) (rank n m x)
+unfolding better rank
+better-rank n m x y = go (leb (x + n) m) (leb (y + n) m) refl refl
+  where
+    go : (p q : Bool) → leb (x + n) m ≡ p → leb (y + n) m ≡ q
+        → cond q (cond p (ltb x y) true) (cond p false (ltb y x)) ≡ ltb (cond q (m - (y + n)) (y + n)) (cond p (m - (x + n)) (x + n))
+    go true true e f =
+        let a = leb-true (x + n) m e in
+        let b = leb-true (y + n) m f in
+        same_test x y (m - (y + n)) (m - (x + n)) (λ h. omega arith) (λ h. omega arith)
+    go true false e f = sym (le-ltb (y + n) (m - (x + n)) (omega (arith, leb-false (y + n) m f)))
+    go false true e f = sym (lt-ltb (m - (y + n)) (x + n) (omega (arith, leb-false (x + n) m e)))
+    go false false e f = same_test y x (y + n) (x + n) (λ h. omega arith) (λ h. omega arith)
 
 -- one after another
 pub chains_step : (ns l : List ℕ) (i : ℕ) → i < length ns → with_chains (drop i ns) l ≡ with_chains (drop (i + 1) ns) (placed (get_or ns i 0) l)

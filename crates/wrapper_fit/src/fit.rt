@@ -3,9 +3,9 @@
 // (document 02, item 4). Lengths count flip-flops and cells.
 ghost use Rattle.std.specs.Prelude.{◌≡◌, ◌+◌, ◌≤◌, ◌<◌, length, replicate};
 ghost use Rattle.wrapper_fit.specs.Maxima.{width_max};
-ghost use Rattle.wrapper_fit.specs.Fit.{longest, total, better, goes};
+ghost use Rattle.wrapper_fit.specs.Fit.{longest, total, goes};
 ghost use Rattle.wrapper_fit.specs.Cells.{evened};
-ghost use Rattle.wrapper_fit.specs.Elements.{with_chains};
+ghost use Rattle.wrapper_fit.specs.Elements.{rank, with_chains};
 
 use super::maxima::WIDTH_PLACES;
 
@@ -15,16 +15,15 @@ pub fn longest_of(l: &[u64]) -> u64
     l.iter().copied().max().unwrap_or(0)
 }
 
-#[tactic(auto, unfolding(crate::specs::Fit::better))]
-fn is_better(n: u64, m: u64, x: u64, y: u64) -> bool
-    requires { (x + n < 18446744073709551616) × (y + n < 18446744073709551616) }
-    ensures { result ≡ better n m x y }
+// How bad a place a chain of length x is for an element of length n, where m is the longest: what is left up to m, or, behind all that take
+// it without passing m, how long it becomes. The less, the better.
+#[tactic(auto, unfolding(crate::specs::Elements::rank))]
+fn rank(n: u64, m: u64, x: u64) -> u64
+    requires { x + n < 18446744073709551616 }
+    ensures { result ≡ rank n m x }
 {
-    match (x + n <= m, y + n <= m) {
-        (true, true) => x < y,
-        (false, false) => y < x,
-        (_, y_fits) => y_fits,
-    }
+    let y = x + n;
+    if y <= m { m - y } else { y }
 }
 
 // The number of the chain to which an element of length n goes, where m is the longest.
@@ -32,10 +31,16 @@ pub fn goes_to(l: &[u64], n: u64, m: u64) -> usize
     requires { (m ≡ longest l.now) × (longest l.now + n < 18446744073709551616) }
     ensures { result ≡ goes n l.now }
 {
+    if l.is_empty() {
+        return 0;
+    }
     let mut best: usize = 0;
+    let mut least = rank(n, m, l[0]);
     for j in 1..l.len() {
-        if is_better(n, m, l[best], l[j]) {
+        let r = rank(n, m, l[j]);
+        if r < least {
             best = j;
+            least = r;
         }
     }
     best
