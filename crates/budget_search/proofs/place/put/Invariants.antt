@@ -1,6 +1,5 @@
 -- `place::put` meets its contract. The loop's invariant is `Copied`: the first i numbers stand from place `at` on, and all else is as it
 -- was. Assumes nothing.
-use lib.ListN.{length}
 use Rattle.plan_search.proofs.CopyLaws.{Copied}
 use Rattle.budget_search.proofs.place.put.Given as goal
 
