@@ -29,7 +29,9 @@ fn put(from: &[u32], to: &mut [u32; BEST_PLACES], at: usize)
     ensures { (to.new ≡ take at to.old ++
         (from.now ++ drop (at + length from.now) to.old)) × (length to.new ≡ best_places) }
 {
-    to[at..at + from.len()].copy_from_slice(from);
+    for (i, n) in from.iter().enumerate() {
+        to[at + i] = *n;
+    }
 }
 
 // The plan becomes the best: the count of its buses, their widths, the bus numbers.

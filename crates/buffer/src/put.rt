@@ -9,7 +9,9 @@ pub fn write_bytes(buf: &mut [u8], w: &[u8]) -> usize
     if w.len() > buf.len() {
         return 0;
     }
-    buf[..w.len()].copy_from_slice(w);
+    for (i, b) in w.iter().enumerate() {
+        buf[i] = *b;
+    }
     w.len()
 }
 

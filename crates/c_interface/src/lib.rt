@@ -57,13 +57,6 @@ fn wires_of(t: ModuleTime) -> u64
     u64::from(t.wires.0)
 }
 
-// How many bytes were written.
-fn code_of_length(written: Result<usize, Refusal>) -> u64
-    ensures { result ≡ code itself written }
-{
-    code_of(written.map(as_figure))
-}
-
 // Where k bytes of a result were put, and 0 says that there was no room.
 #[tactic(auto, unfolding(crate::specs::Codes::bytes_code, crate::specs::Codes::code))]
 fn code_of_bytes(k: usize) -> u64
@@ -75,21 +68,24 @@ fn code_of_bytes(k: usize) -> u64
     above_byte(0, k as u64)
 }
 
+#[tactic(auto, unfolding(crate::specs::Codes::given_unless, crate::specs::Codes::held_unless))]
 pub fn tallowwing_read_soc(text: &[u8], into: &mut [u8]) -> u64
     ensures { (result ≡ read_code text.now into.old) × (into.new ≡ read_held text.now into.old) }
 {
-    let read = text::read_soc(text);
-    match read {
+    match text::read_soc(text) {
         Ok(s) => code_of_bytes(c_forms::soc_bytes(s, into)),
-        Err(r) => refusal_code(r),
+        Err(unread) => refusal_code(unread),
     }
 }
 
+#[tactic(auto, unfolding(crate::specs::Codes::code))]
 pub fn tallowwing_write_soc(soc: &[u8], into: &mut [u8]) -> u64
     ensures { (result ≡ write_code soc.now into.old) × (into.new ≡ write_held soc.now into.old) }
 {
-    let written = text::write_soc(c_forms::soc_in(soc), into);
-    code_of_length(written)
+    match text::write_soc(c_forms::soc_in(soc), into) {
+        Ok(written) => above_byte(0, written as u64),
+        Err(unwritten) => refusal_code(unwritten),
+    }
 }
 
 pub fn tallowwing_layout(
@@ -159,35 +155,44 @@ pub fn tallowwing_budget(
     }
 }
 
+#[tactic(auto, unfolding(crate::specs::Codes::code))]
 pub fn tallowwing_write_plan(from: &[u8], into: &mut [u8]) -> u64
     ensures { (result ≡ write_plan_code from.now into.old) × (into.new ≡ write_plan_held from.now into.old) }
 {
-    let filed = plan_file::write_plan(c_forms::plan_in(from), into);
-    code_of_length(filed)
-}
-
-pub fn tallowwing_read_plan(file: &[u8], into: &mut [u8]) -> u64
-    ensures { (result ≡ read_plan_code file.now into.old) × (into.new ≡ read_plan_held file.now into.old) }
-{
-    let held = plan_file::read_plan(file);
-    match held {
-        Ok(p) => code_of_bytes(c_forms::plan_bytes(p, into)),
-        Err(r) => refusal_code(r),
+    match plan_file::write_plan(c_forms::plan_in(from), into) {
+        Ok(filed) => above_byte(0, filed as u64),
+        Err(unfiled) => refusal_code(unfiled),
     }
 }
 
+#[tactic(auto, unfolding(crate::specs::Codes::given_unless, crate::specs::Codes::held_unless))]
+pub fn tallowwing_read_plan(file: &[u8], into: &mut [u8]) -> u64
+    ensures { (result ≡ read_plan_code file.now into.old) × (into.new ≡ read_plan_held file.now into.old) }
+{
+    match plan_file::read_plan(file) {
+        Ok(p) => code_of_bytes(c_forms::plan_bytes(p, into)),
+        Err(unheld) => refusal_code(unheld),
+    }
+}
+
+#[tactic(auto, unfolding(crate::specs::Codes::code))]
 pub fn tallowwing_listing(input: &[u8], into: &mut [u8]) -> u64
     ensures { (result ≡ listing_code input.now into.old) × (into.new ≡ listing_held input.now into.old) }
 {
-    let listed = listing::listing(input, into);
-    code_of_length(listed)
+    match listing::listing(input, into) {
+        Ok(listed) => above_byte(0, listed as u64),
+        Err(unlisted) => refusal_code(unlisted),
+    }
 }
 
+#[tactic(auto, unfolding(crate::specs::Codes::code))]
 pub fn tallowwing_show(from: &[u8], into: &mut [u8]) -> u64
     ensures { (result ≡ show_code from.now into.old) × (into.new ≡ show_held from.now into.old) }
 {
-    let shown = plan_lines::show(c_forms::plan_in(from), into);
-    code_of_length(shown)
+    match plan_lines::show(c_forms::plan_in(from), into) {
+        Ok(shown) => above_byte(0, shown as u64),
+        Err(unshown) => refusal_code(unshown),
+    }
 }
 
 // A crate cannot say how another's type becomes a number of the language's, so this is no `From`.
@@ -274,6 +279,7 @@ pub fn tallowwing_layout_pair(
     }
 }
 
+#[tactic(auto, unfolding(crate::specs::Codes::pair_figure))]
 pub fn tallowwing_module_time_pair(
     base: &[u8],
     overlay: &[u8],
@@ -285,9 +291,13 @@ pub fn tallowwing_module_time_pair(
 {
     let (w, c) = (Wires(width), CaptureCycles(capture));
     let time = pair_entries::module_time_pair(base, overlay, module, w, c);
-    pair_code_of(time.map(cycles_of))
+    match time {
+        Ok(t) => above_byte(0, cycles_of(t)),
+        Err(untimed) => pair_refused(untimed),
+    }
 }
 
+#[tactic(auto, unfolding(crate::specs::Codes::pair_figure))]
 pub fn tallowwing_module_wires_pair(
     base: &[u8],
     overlay: &[u8],
@@ -299,7 +309,10 @@ pub fn tallowwing_module_wires_pair(
 {
     let (w, c) = (Wires(width), CaptureCycles(capture));
     let best = pair_entries::module_time_pair(base, overlay, module, w, c);
-    pair_code_of(best.map(wires_of))
+    match best {
+        Ok(t) => above_byte(0, wires_of(t)),
+        Err(unwired) => pair_refused(unwired),
+    }
 }
 
 pub fn tallowwing_plan_pair(

@@ -26,6 +26,7 @@ fn put_answer(buf: &mut [u8], s: Soc, k: Wanted) -> usize
 }
 
 // What is printed for a SOC text, where the first line is good.
+#[tactic(auto, unfolding(crate::specs::Listing::text_printed))]
 fn put_text(buf: &mut [u8], text: &[u8], k: Wanted) -> usize
     requires { listing_max ≤ length buf.old }
     ensures { Printed (text_printed k (read_soc text.now)) buf.old buf.new result }

@@ -65,6 +65,12 @@ module _ (from to₀ : List ℕ) (at : ℕ) (room : at + length from ≤ length 
         b.is ∙ ap (over_first from to₀ at) e
         ∙ ap (λ x. take at to₀ ++ (x ++ drop (at + length from) to₀)) (take_all (length from) from (omega arith))
 
+-- behind the first place
+pub over-behind : (from to : List ℕ) → 1 ≤ length to → over from to 1 ≡ get_or to 0 0 ∷ from ++ drop (length from + 1) to
+over-behind from to h =
+    let e : 1 + length from ≡ length from + 1 = omega arith in
+    ap (λ l. l ++ (from ++ drop (1 + length from) to)) (take-suc to 0 0 h) ∙ ap (λ j. get_or to 0 0 ∷ from ++ drop j to) e
+
 -- one more of the numbers from place d of l on is stored
 taken_more : (l : List ℕ) (d i k : ℕ) → k ≡ i + d → k < length l → take (i + 1) (drop d l) ≡ take i (drop d l) ++ get_or l k 0 ∷ []
 taken_more l d i k e m =

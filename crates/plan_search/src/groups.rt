@@ -39,7 +39,9 @@ fn keep_widths(widths: &[u32], found: &mut [u32])
         length widths.now ∷ widths.now ++ drop (length widths.now + 1) found.old }
 {
     found[0] = widths.len() as u32;
-    found[1..widths.len() + 1].copy_from_slice(widths);
+    for (i, w) in widths.iter().enumerate() {
+        found[i + 1] = *w;
+    }
 }
 
 // The smaller of best and the least time on buses of these widths; if that is less, they are kept.

@@ -38,7 +38,9 @@ fn keep(top: Cycles, buses: &[u64], best: &mut [u64])
     ensures { best.new ≡ top.0 ∷ buses.now }
 {
     best[0] = top.0;
-    best[1..].copy_from_slice(buses);
+    for (i, bus) in buses.iter().enumerate() {
+        best[i + 1] = *bus;
+    }
 }
 
 // Module i and those behind it on each bus in turn. top is the largest busy figure so far; a try that reaches the best time is dropped.

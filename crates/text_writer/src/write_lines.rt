@@ -32,8 +32,8 @@ fn put_lengths(buf: &mut [u8], at: usize, lengths: &[FlipFlops]) -> usize
     ensures { Put (spaced_lengths lengths.now) at buf.old buf.new result }
 {
     let mut e = at;
-    for f in lengths {
-        e = fields::put_key(&mut *buf, e, b" ", u64::from(f.0));
+    for i in 0..lengths.len() {
+        e = fields::put_key(&mut *buf, e, b" ", u64::from(lengths[i].0));
     }
     e
 }

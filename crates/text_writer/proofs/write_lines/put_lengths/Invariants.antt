@@ -6,6 +6,6 @@ use Rattle.buffer.proofs.PutLaws.{Due}
 use Rattle.text_writer.specs.WrittenSoc.{spaced_lengths}
 use Rattle.text_writer.proofs.write_lines.put_lengths.Given as goal
 
-abbrev pub invariant-loop-f : goal.invariant-loop-f
-invariant-loop-f l = (length l.buf ≡ length l.initial.buf)
-    × Due (spaced_lengths (drop l.f-index l.lengths)) (spaced_lengths l.lengths) l.at l.initial.buf l.e l.buf
+abbrev pub invariant-loop-i : goal.invariant-loop-i
+invariant-loop-i l = (length l.buf ≡ length l.initial.buf)
+    × Due (spaced_lengths (drop l.i l.lengths)) (spaced_lengths l.lengths) l.at l.initial.buf l.e l.buf
