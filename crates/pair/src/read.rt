@@ -96,10 +96,10 @@ fn laid_over(
 }
 
 #[tactic(auto, unfolding(crate::specs::Pair::combined))]
-fn combined_soc(s: Soc, o: &Overlay) -> Soc
-    ensures { result ≡ combined s o.now }
+fn combined_soc(s: &Soc, o: &Overlay) -> Soc
+    ensures { result ≡ combined s.now o.now }
 {
-    let mut soc = s;
+    let mut soc = *s;
     laid_over(&o.has, &o.modules, &mut soc.modules);
     soc
 }
@@ -113,13 +113,13 @@ fn about(meant: Meant, refusal: Refusal) -> PairRefusal
 
 // A base and an overlay that are both read without a refusal.
 #[tactic(auto, unfolding(crate::specs::Pair::joined))]
-fn joined_pair(s: Soc, o: Overlay) -> Result<PairRead, PairRefusal>
-    ensures { result ≡ joined s o }
+fn joined_pair(s: &Soc, o: &Overlay) -> Result<PairRead, PairRefusal>
+    ensures { result ≡ joined s.now o.now }
 {
-    if !fits_base(&s, &o) {
+    if !fits_base(s, o) {
         return Err(about(Meant::Overlay, Refusal::at(Fault::OtherBase, 0)));
     }
-    let soc = combined_soc(s, &o);
+    let soc = combined_soc(s, o);
     let has = o.has;
     Ok(PairRead { soc, has })
 }
@@ -132,15 +132,17 @@ pub(crate) fn read_pair_marked(
 ) -> Result<PairMarked, PairRefusal>
     ensures { PairReadMarked m base.now overlay.now result }
 {
-    let b = match read_soc_marked(base, m) {
+    let of_base = read_soc_marked(base, m);
+    let b = match &of_base {
         Ok(b) => b,
-        Err(refusal) => return Err(about(Meant::Base, refusal)),
+        Err(refusal) => return Err(about(Meant::Base, *refusal)),
     };
-    let o = match read_overlay_marked(overlay, m) {
+    let of_overlay = read_overlay_marked(overlay, m);
+    let o = match &of_overlay {
         Ok(o) => o,
-        Err(refusal) => return Err(about(Meant::Overlay, refusal)),
+        Err(refusal) => return Err(about(Meant::Overlay, *refusal)),
     };
-    let pair = joined_pair(b.soc, o.overlay)?;
+    let pair = joined_pair(&b.soc, &o.overlay)?;
     Ok(PairMarked {
         pair,
         base: b.marks,
