@@ -1,7 +1,7 @@
 -- Laws of the marks of a module's lines in a pair: a pair has them where its texts do, and what is shown between them are the module's
 -- lines. Assumes nothing.
 use Prim.Native.Nat.{ℕ}
-use mathlib.Core.Path.{◌≡◌, refl, sym, ap}
+use mathlib.Core.Path.{◌≡◌, refl, ap}
 use mathlib.Core.Bool.{Bool, true, false, cond}
 use mathlib.Core.List.{List}
 use Rattle.std.specs.Prelude.{Result, Ok, Err}
@@ -10,42 +10,24 @@ use Rattle.units.specs.Refusals.{refused}
 use Rattle.units.specs.declared.Fault.TheVariants.{OtherBase}
 use Rattle.units.specs.declared.Refusal.{Refusal}
 use Rattle.soc.specs.declared.record.Soc.{Soc}
-use Rattle.text_reader.specs.Marks.{soc_read}
 use Rattle.text_reader.specs.declared.marks.Marks.{Marks}
-use Rattle.text_reader.specs.declared.read.SocMarked.{SocMarked}
-use Rattle.overlay.specs.OverlayMarks.{overlay_read}
-use Rattle.overlay.specs.declared.read.OverlayMarked.{OverlayMarked}
 use Rattle.overlay.specs.declared.read.Overlay.{Overlay}
 use Rattle.module_part.proofs.MarkedPart.{marked_part}
-use Rattle.pair.specs.Pair.{fits, combined, refused_pair, meant_of, joined, pair_of}
+use Rattle.pair.specs.Pair.{fits, combined, refused_pair, joined, pair_of}
 use Rattle.pair.specs.PairMarks.{MarkedIn, shown_between}
 use Rattle.pair.specs.Shown.{part_shown, shown_in}
-use Rattle.pair.specs.declared.read.Meant.{Meant}
 use Rattle.pair.specs.declared.read.Meant.TheVariants as meant
-use Rattle.pair.specs.declared.read.PairRefusal.{PairRefusal}
 use Rattle.pair.specs.declared.read.PairRead.{PairRead}
 
--- what is read of the text that is meant
-pub meant_got : {A : Type 0} (m : Meant) (r : Result A Refusal) {a : A} → Ok a ≡ meant_of m r → r ≡ Ok a
-unfolding meant_of
-meant_got m (Err f) h = clash cc
-meant_got m (Ok b) {a} h = let k : a ≡ b = cc in ap Ok (sym k)
-
 -- the texts are read one behind the other
-pub base_no : (e : PairRefusal) (r : Result SocMarked Refusal) (a : Result Soc Refusal) (b : Result Overlay Refusal) → Err e ≡ meant_of meant.Base r
-    → soc_read r ≡ a
-    → Err e ≡ pair_of a b
-unfolding meant_of pair_of
-base_no e (Err f) a b h k = let j : e ≡ record { refusal = f; meant = meant.Base } = cc in rw (← k) (ap Err j)
-base_no e (Ok s) a b h k = clash cc
+pub base_no : (f : Refusal) (a : Result Soc Refusal) (b : Result Overlay Refusal) → Err f ≡ a → refused_pair f meant.Base ≡ pair_of a b
+unfolding pair_of
+base_no f a b e = rw (← e) refl
 
-pub over_no : (e : PairRefusal) (r : Result OverlayMarked Refusal) (s : Soc) (a : Result Soc Refusal) (b : Result Overlay Refusal) → Ok s ≡ a
-    → Err e ≡ meant_of meant.Overlay r
-    → overlay_read r ≡ b
-    → Err e ≡ pair_of a b
-unfolding meant_of pair_of
-over_no e (Err f) s a b i h k = let j : e ≡ record { refusal = f; meant = meant.Overlay } = cc in rw (← i, ← k) (ap Err j)
-over_no e (Ok o) s a b i h k = clash cc
+pub over_no : (f : Refusal) (s : Soc) (a : Result Soc Refusal) (b : Result Overlay Refusal) → Ok s ≡ a → Err f ≡ b
+    → refused_pair f meant.Overlay ≡ pair_of a b
+unfolding pair_of
+over_no f s a b e h = rw (← e, ← h) refl
 
 pub both_got : (s : Soc) (o : Overlay) (a : Result Soc Refusal) (b : Result Overlay Refusal) → Ok s ≡ a → Ok o ≡ b → joined s o ≡ pair_of a b
 unfolding pair_of

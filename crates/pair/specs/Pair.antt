@@ -60,11 +60,6 @@ combined s o =
 abbrev pub refused_pair : {A : Type 0} → Refusal → Meant → Result A PairRefusal
 refused_pair r m = Err (record { refusal = r; meant = m })
 
--- what is read of the text that is meant
-unfoldable pub meant_of : {A : Type 0} → Meant → Result A Refusal → Result A PairRefusal
-meant_of m (Err r) = refused_pair r m
-meant_of m (Ok a) = Ok a
-
 -- "then 15 with line 0", "(overlay for 15)"
 unfoldable pub joined : Soc → Overlay → Result PairRead PairRefusal
 joined s o = cond (fits s o) (Ok (record { soc = combined s o; has = o.has })) (refused_pair (refused OtherBase 0) meant.Overlay)

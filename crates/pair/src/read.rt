@@ -1,6 +1,6 @@
 // The pair of a SOC text, the base, and an overlay: the combined description, or the first refusal and the text that is meant.
 ghost use Rattle.std.specs.Prelude.{◌≡◌};
-ghost use Rattle.pair.specs.Pair.{same_head, place_fits, places_fit, fits, laid, combined, meant_of, joined, read_pair};
+ghost use Rattle.pair.specs.Pair.{same_head, place_fits, places_fit, fits, laid, combined, joined, read_pair};
 ghost use Rattle.pair.specs.PairMarks.{PairReadMarked};
 
 use overlay::{Overlay, read_overlay_marked};
@@ -40,8 +40,8 @@ pub struct PairMarked {
 
 // Whether name and options are those of the base.
 #[tactic(auto, unfolding(crate::specs::Pair::same_head))]
-fn has_same_head(s: Soc, o: Overlay) -> bool
-    ensures { result ≡ same_head s o }
+fn has_same_head(s: &Soc, o: &Overlay) -> bool
+    ensures { result ≡ same_head s.now o.now }
 {
     s.name_len == o.name_len
         && fields::same_bytes(&s.name, &o.name)
@@ -59,11 +59,11 @@ fn place_fits(n: usize, m: usize, has: bool, over: Module, base: Module) -> bool
 
 fn places_fit(
     n: usize,
-    has: [bool; MODULES_MAX],
-    over: [Module; MODULES_MAX],
-    base: [Module; MODULES_MAX],
+    has: &[bool; MODULES_MAX],
+    over: &[Module; MODULES_MAX],
+    base: &[Module; MODULES_MAX],
 ) -> bool
-    ensures { result ≡ places_fit n 0 has over base }
+    ensures { result ≡ places_fit n 0 has.now over.now base.now }
 {
     for m in 0..MODULES_MAX {
         if !place_fits(n, m, has[m], over[m], base[m]) {
@@ -74,64 +74,54 @@ fn places_fit(
 }
 
 #[tactic(auto, unfolding(crate::specs::Pair::fits))]
-fn fits_base(s: Soc, o: Overlay) -> bool
-    ensures { result ≡ fits s o }
+fn fits_base(s: &Soc, o: &Overlay) -> bool
+    ensures { result ≡ fits s.now o.now }
 {
-    has_same_head(s, o) && places_fit(s.module_count, o.has, o.modules, s.modules)
+    has_same_head(s, o) && places_fit(s.module_count, &o.has, &o.modules, &s.modules)
 }
 
 // A module is the overlay's where it has it, otherwise the base's.
 fn laid_over(
-    has: [bool; MODULES_MAX],
-    over: [Module; MODULES_MAX],
-    base: [Module; MODULES_MAX],
-) -> [Module; MODULES_MAX]
-    ensures { result ≡ laid has over base }
+    has: &[bool; MODULES_MAX],
+    over: &[Module; MODULES_MAX],
+    base: &mut [Module; MODULES_MAX],
+)
+    ensures { base.new ≡ laid has.now over.now base.old }
 {
-    let mut list = base;
     for m in 0..MODULES_MAX {
-        list[m] = if has[m] { over[m] } else { base[m] };
+        if has[m] {
+            base[m] = over[m];
+        }
     }
-    list
 }
 
 #[tactic(auto, unfolding(crate::specs::Pair::combined))]
-fn combined_soc(s: Soc, o: Overlay) -> Soc
-    ensures { result ≡ combined s o }
+fn combined_soc(s: &Soc, o: &Overlay) -> Soc
+    ensures { result ≡ combined s.now o.now }
 {
-    Soc {
-        modules: laid_over(o.has, o.modules, s.modules),
-        ..s
-    }
+    let mut soc = *s;
+    laid_over(&o.has, &o.modules, &mut soc.modules);
+    soc
+}
+
+// A refusal of the text that is meant.
+fn about(meant: Meant, refusal: Refusal) -> PairRefusal
+    ensures { result ≡ record { refusal = refusal; meant = meant } }
+{
+    PairRefusal { refusal, meant }
 }
 
 // A base and an overlay that are both read without a refusal.
 #[tactic(auto, unfolding(crate::specs::Pair::joined))]
-fn joined_pair(s: Soc, o: Overlay) -> Result<PairRead, PairRefusal>
-    ensures { result ≡ joined s o }
+fn joined_pair(s: &Soc, o: &Overlay) -> Result<PairRead, PairRefusal>
+    ensures { result ≡ joined s.now o.now }
 {
     if !fits_base(s, o) {
-        return Err(PairRefusal {
-            refusal: Refusal::at(Fault::OtherBase, 0),
-            meant: Meant::Overlay,
-        });
+        return Err(about(Meant::Overlay, Refusal::at(Fault::OtherBase, 0)));
     }
+    let soc = combined_soc(s, o);
     let has = o.has;
-    Ok(PairRead {
-        soc: combined_soc(s, o),
-        has,
-    })
-}
-
-// What is read of one of the texts; its refusal says that this text is meant.
-#[tactic(auto, unfolding(crate::specs::Pair::meant_of))]
-fn meant_of<T>(meant: Meant, read: Result<T, Refusal>) -> Result<T, PairRefusal>
-    ensures { result ≡ meant_of meant read }
-{
-    match read {
-        Ok(value) => Ok(value),
-        Err(refusal) => Err(PairRefusal { refusal, meant }),
-    }
+    Ok(PairRead { soc, has })
 }
 
 // What a pair says, and the marks of module m in the texts that have it. Each text is read once, the overlay where the base is not refused.
@@ -142,9 +132,17 @@ pub(crate) fn read_pair_marked(
 ) -> Result<PairMarked, PairRefusal>
     ensures { PairReadMarked m base.now overlay.now result }
 {
-    let b = meant_of(Meant::Base, read_soc_marked(base, m))?;
-    let o = meant_of(Meant::Overlay, read_overlay_marked(overlay, m))?;
-    let pair = joined_pair(b.soc, o.overlay)?;
+    let of_base = read_soc_marked(base, m);
+    let b = match &of_base {
+        Ok(b) => b,
+        Err(refusal) => return Err(about(Meant::Base, *refusal)),
+    };
+    let of_overlay = read_overlay_marked(overlay, m);
+    let o = match &of_overlay {
+        Ok(o) => o,
+        Err(refusal) => return Err(about(Meant::Overlay, *refusal)),
+    };
+    let pair = joined_pair(&b.soc, &o.overlay)?;
     Ok(PairMarked {
         pair,
         base: b.marks,

@@ -38,7 +38,11 @@ module _ {A : Type 0} (answers : Soc → Result A Refusal) where
   of_either P (Ok a) f g = g a refl
   of_either P (Err r) f g = f r refl
 
-  -- what an entry answers: where it leaves with the pair's refusal, and where it says of its own that it is about neither text
+  -- what an entry answers: the pair's refusal, where it leaves with the pair's refusal, and where it says of its own that it is about neither text
+  pub refuses : {p : Result PairRead PairRefusal} {r : PairRefusal} → Err r ≡ p → Err r ≡ of_pair p answers
+  unfolding of_pair
+  refuses e = rw (← e) refl
+
   pub leaves : {p : Result PairRead PairRefusal} {r : PairRefusal} (x : Result A PairRefusal) → Err r ≡ p → IsErrAnd x (λ e. e ≡ r)
       → x ≡ of_pair p answers
   unfolding of_pair

@@ -16,6 +16,9 @@ pub fn plan_pair(
 ) -> Result<BusPlan, PairRefusal>
     ensures { result ≡ plan_pair base.now overlay.now wires.0 limit capture.0 }
 {
-    let pair = read_pair(base, overlay)?;
+    let pair = match read_pair(base, overlay) {
+        Ok(pair) => pair,
+        Err(r) => return Err(r),
+    };
     plan::plan(pair.soc, wires, limit, capture).map_err(of_neither)
 }

@@ -7,4 +7,4 @@ use Rattle.pair.specs.Pair.{laid}
 use Rattle.pair.proofs.read.laid_over.Given as goal
 
 abbrev pub invariant-loop-m : goal.invariant-loop-m
-invariant-loop-m l = (length l.list ≡ 40) × (laid l.has l.over l.base ≡ take l.m l.list ++ laid (drop l.m l.has) (drop l.m l.over) (drop l.m l.base))
+invariant-loop-m l = (length l.base ≡ 40) × (laid l.has l.over l.initial.base ≡ take l.m l.base ++ laid (drop l.m l.has) (drop l.m l.over) (drop l.m l.base))

@@ -7,24 +7,26 @@ use Rattle.pair.proofs.PairLaws.{fit_stops, fit_goes, fit_end}
 use Rattle.pair.proofs.read.places_fit.Goals as goal
 use Rattle.pair.proofs.read.places_fit.Goals.{Start}
 
-len-has : (c : Start) → length c.args.has ≡ 40
+len-has : (c : Start) → length c.args.has.now ≡ 40
 len-has c = search rules
 
-len-over : (c : Start) → length c.args.over ≡ 40
+len-over : (c : Start) → length c.args.over.now ≡ 40
 len-over c = search rules
 
-len-base : (c : Start) → length c.args.base ≡ 40
+len-base : (c : Start) → length c.args.base.now ≡ 40
 len-base c = search rules
 
 pub returns-then-not-place_fits : goal.returns-then-not-place_fits
 returns-then-not-place_fits c = let l = c.loop-m in
     let s = (goal.at.returns-then-not-place_fits c).Start in
-    sym (l.invariant ∙ fit_stops l.m c.args.has c.args.over c.args.base _ _ _ (omega (arith, len-has s)) (omega (arith, len-over s)) (omega (arith, len-base s)) c.args.n (sym c.place_fits.ensures ∙ c.if-not-place_fits.true))
+    let a = c.args in
+    sym (l.invariant ∙ fit_stops l.m a.has.now a.over.now a.base.now _ _ _ (omega (arith, len-has s)) (omega (arith, len-over s)) (omega (arith, len-base s)) a.n (sym c.place_fits.ensures ∙ c.if-not-place_fits.true))
 
 pub loop-m-preserved : goal.loop-m-preserved
 loop-m-preserved c = let l = c.loop-m in
     let s = (goal.at.loop-m-preserved c).Start in
-    l.invariant ∙ fit_goes l.m c.args.has c.args.over c.args.base _ _ _ (omega (arith, len-has s)) (omega (arith, len-over s)) (omega (arith, len-base s)) c.args.n (sym c.place_fits.ensures ∙ c.if-not-place_fits.false)
+    let a = c.args in
+    l.invariant ∙ fit_goes l.m a.has.now a.over.now a.base.now _ _ _ (omega (arith, len-has s)) (omega (arith, len-over s)) (omega (arith, len-base s)) a.n (sym c.place_fits.ensures ∙ c.if-not-place_fits.false)
 
 pub returns : goal.returns
-returns c = sym (c.loop-m.invariant ∙ fit_end c.args.n c.loop-m.m c.args.has _ _ (omega (arith, len-has (goal.at.returns c).Start)))
+returns c = sym (c.loop-m.invariant ∙ fit_end c.args.n c.loop-m.m c.args.has.now _ _ (omega (arith, len-has (goal.at.returns c).Start)))
